@@ -1,0 +1,341 @@
+//! One voltage level: its switches, internal connections and placed terminals.
+#![tactic(auto)]
+
+ghost use Rattle.std.specs.Prelude.{◌≡◌, ◌<◌, [], length, IfOk, IfErr, OnOk, OnErr, slice_get, Some, Ok, remove, ◌≢◌, position};
+ghost use Rattle.std.proofs.Common.{rules};
+ghost use Rattle.grid_ids.specs.Refusing.{map_fault};
+ghost use Rattle.grid_level.specs.LevelEdits as edits;
+ghost use Rattle.grid_level.specs.LevelEdits.{level_fault_of, refusal_of};
+ghost use Rattle.grid_level.specs.Passing.{edges, nodes, with_node};
+ghost use Rattle.grid_level.specs.Uses.{with_use, without_use, total};
+ghost use Rattle.grid_level.specs.Kept.{lists_of};
+
+mod uses;
+
+use grid_ids::{Duplicate, Id, Memory, Same};
+use grid_kinds::{Injection, SwitchKind};
+use std::alloc::Global;
+use std::marker::Model;
+pub use uses::{Use, Uses};
+
+#[derive(Clone, Debug, Drop)]
+pub struct Terminal {
+    pub equipment: Id,
+    pub side: u8,
+}
+
+impl Duplicate for Terminal {
+    ghost clone_equals = { Prim.search rules };
+}
+
+#[derive(Clone, Debug, Drop)]
+pub enum Stand {
+    Busbar,
+    Feeder(Injection),
+    BranchEnd,
+}
+
+#[derive(Clone, Debug, Drop)]
+pub struct Placed {
+    pub node: u16,
+    pub terminal: Terminal,
+    pub stand: Stand,
+}
+
+#[derive(Clone, Debug, Drop)]
+pub struct Switch {
+    pub id: Id,
+    pub kind: SwitchKind,
+    pub node1: u16,
+    pub node2: u16,
+    pub opened: bool,
+    pub retained: bool,
+    pub fictitious: bool,
+}
+
+#[derive(Clone, Debug, Drop)]
+pub struct Internal {
+    pub node1: u16,
+    pub node2: u16,
+}
+
+/// Why a level refuses an edit.
+#[derive(Debug, Drop)]
+pub enum LevelFault {
+    NodeRange { node: i64 },
+    SameNode { node: i64 },
+    NodeTaken { terminal: Terminal },
+    NoEdge,
+    TooManyEdges,
+    TooManyNodes,
+    Memory,
+}
+
+impl From<Memory> for LevelFault {
+    ghost use Rattle.std.specs.Prelude.{◌≡◌};
+    ghost use Rattle.grid_level.specs.declared.LevelFault.TheVariants as variants;
+
+    ghost from_gives = { λ _ fault. fault ≡ variants.Memory };
+
+    fn from(_memory: Memory) -> LevelFault {
+        LevelFault::Memory
+    }
+}
+
+/// A level, seen as its record of lists.
+#[derive(Drop)]
+pub struct Level {
+    id: Id,
+    nominal_v: i64,
+    low_v: Option<i64>,
+    high_v: Option<i64>,
+    switches: Vec<Switch>,
+    internals: Vec<Internal>,
+    placed: Vec<Placed>,
+    uses: Uses,
+}
+
+impl Model for Level {
+    ghost use Rattle.grid_level.specs.VoltageLevel.{VoltageLevel};
+    ghost use Rattle.grid_level.specs.Kept.{IsKept, lists_of};
+
+    ghost Value = { VoltageLevel };
+
+    ghost view = { λ a. lists_of a.id a.nominal_v a.low_v a.high_v a.switches.items a.internals.items a.placed.items };
+
+    ghost invariant = { λ a. IsKept (lists_of a.id a.nominal_v a.low_v a.high_v a.switches.items a.internals.items a.placed.items) a.uses };
+}
+
+// The node of this number.
+#[tactic(auto, unfolding(crate::specs::LevelEdits::node_of, crate::specs::LevelEdits::level_fault_of))]
+fn node_of(node: i64) -> Result<u16, LevelFault>
+    ensures { result ≡ map_fault level_fault_of (edits.node_of node) }
+{
+    match u16::try_from(node) {
+        Ok(number) => Ok(number),
+        Err(_) => Err(LevelFault::NodeRange { node }),
+    }
+}
+
+impl Level {
+    /// A level of nothing, which takes no memory.
+    pub fn empty(
+        alloc: Global,
+        id: Id,
+        nominal_v: i64,
+        low_v: Option<i64>,
+        high_v: Option<i64>,
+    ) -> Level
+        ensures { result ≡ lists_of id nominal_v low_v high_v [] [] [] }
+    {
+        Level {
+            id,
+            nominal_v,
+            low_v,
+            high_v,
+            switches: Vec::new(alloc),
+            internals: Vec::new(alloc),
+            placed: Vec::new(alloc),
+            uses: Uses::empty(alloc),
+        }
+    }
+
+    pub fn id(&self) -> &Id
+        ensures { result.now ≡ self.now.id }
+    {
+        &self.id
+    }
+
+    pub fn switches(&self) -> &[Switch]
+        ensures { result.now ≡ self.now.switches }
+    {
+        self.switches.as_slice()
+    }
+
+    pub fn switch_count(&self) -> u32
+        ensures { result ≡ length self.now.switches }
+    {
+        self.switches.len() as u32
+    }
+
+    pub fn edge_count(&self) -> u32
+        ensures { result ≡ length (edges self.now) }
+    {
+        (self.switches.len() + self.internals.len()) as u32
+    }
+
+    pub fn node_count(&self) -> u32
+        ensures { result ≡ length (nodes self.now) }
+    {
+        self.uses.len() as u32
+    }
+
+    pub fn node_at(&self, index: u32) -> u16
+        requires { index < length (nodes self.now) }
+        ensures { slice_get (nodes self.now) index ≡ Some result }
+    {
+        self.uses.at(index as usize)
+    }
+
+    // How many nodes there are, with these two.
+    fn nodes_with(&self, a: u16, b: u16) -> u32
+        requires { a ≢ b }
+        ensures { result ≡ length (with_node a (with_node b (nodes self.now))) }
+    {
+        self.uses.len() as u32 + self.uses.missing(a) + self.uses.missing(b)
+    }
+
+    // The two nodes of a new edge.
+    #[tactic(auto, unfolding(crate::specs::LevelEdits::edge_fits, crate::specs::LevelEdits::level_fault_of), using(crate::proofs::Coding::map_ok, crate::proofs::Coding::map_err))]
+    fn edge_fits(&self, node1: i64, node2: i64) -> Result<(u16, u16), LevelFault>
+        ensures { result ≡ map_fault level_fault_of (edits.edge_fits self.now node1 node2) }
+    {
+        let a = node_of(node1)?;
+        let b = node_of(node2)?;
+        if a == b {
+            return Err(LevelFault::SameNode { node: node1 });
+        }
+        if self.edge_count() >= 4096 {
+            return Err(LevelFault::TooManyEdges);
+        }
+        if self.nodes_with(a, b) > 1024 {
+            return Err(LevelFault::TooManyNodes);
+        }
+        Ok((a, b))
+    }
+
+    /// Puts a switch last, and answers its place.
+    pub fn add_switch(
+        &mut self,
+        id: Id,
+        kind: SwitchKind,
+        node1: i64,
+        node2: i64,
+        opened: bool,
+        retained: bool,
+        fictitious: bool,
+    ) -> Result<u32, LevelFault>
+        ensures done { OnOk result (edits.level_with_switch self.old id kind node1 node2 opened retained fictitious ≡ Ok self.new) }
+        ensures place { IfOk result (λ place. place ≡ length self.old.switches) }
+        ensures same { OnErr result (self.new ≡ self.old) }
+        ensures refused { IfErr result (λ fault. fault ≡ refusal_of (edits.level_with_switch self.old id kind node1 node2 opened retained fictitious)) }
+    {
+        let (a, b) = match self.edge_fits(node1, node2) {
+            Ok(pair) => pair,
+            Err(fault) => return Err(fault),
+        };
+        let place = self.switches.len() as u32;
+        match add_two(&mut self.uses, a, b) {
+            Ok(()) => {}
+            Err(_) => return Err(LevelFault::Memory),
+        }
+        let switch = Switch {
+            id,
+            kind,
+            node1: a,
+            node2: b,
+            opened,
+            retained,
+            fictitious,
+        };
+        match self.switches.push(switch) {
+            Ok(()) => {}
+            Err(_) => {
+                take_two(&mut self.uses, a, b);
+                return Err(LevelFault::Memory);
+            }
+        }
+        Ok(place)
+    }
+
+    /// Takes the switch at a place out; later ones move down by one.
+    pub fn remove_switch(&mut self, place: u32) -> Switch
+        requires { place < length self.old.switches }
+        ensures item { slice_get self.old.switches place ≡ Some result }
+        ensures rest { self.new ≡ record self.old { switches = remove self.old.switches place } }
+    {
+        let switch = self.switches.remove(place as usize);
+        take_two(&mut self.uses, switch.node1, switch.node2);
+        switch
+    }
+
+    /// Puts an internal connection last.
+    pub fn add_internal(&mut self, node1: i64, node2: i64) -> Result<(), LevelFault>
+        ensures done { OnOk result (edits.level_with_internal self.old node1 node2 ≡ Ok self.new) }
+        ensures same { OnErr result (self.new ≡ self.old) }
+        ensures refused { IfErr result (λ fault. fault ≡ refusal_of (edits.level_with_internal self.old node1 node2)) }
+    {
+        let (a, b) = match self.edge_fits(node1, node2) {
+            Ok(pair) => pair,
+            Err(fault) => return Err(fault),
+        };
+        match add_two(&mut self.uses, a, b) {
+            Ok(()) => {}
+            Err(_) => return Err(LevelFault::Memory),
+        }
+        match self.internals.push(Internal { node1: a, node2: b }) {
+            Ok(()) => {}
+            Err(_) => {
+                take_two(&mut self.uses, a, b);
+                return Err(LevelFault::Memory);
+            }
+        }
+        Ok(())
+    }
+
+    /// Takes the first internal connection that joins the two nodes out.
+    pub fn remove_internal(&mut self, node1: i64, node2: i64) -> Result<(), LevelFault>
+        ensures done { OnOk result (edits.level_without_internal self.old node1 node2 ≡ Ok self.new) }
+        ensures same { OnErr result (self.new ≡ self.old) }
+        ensures refused { IfErr result (λ fault. fault ≡ refusal_of (edits.level_without_internal self.old node1 node2)) }
+    {
+        let place = match place_of_joining(self.internals.as_slice(), node1, node2) {
+            Some(place) => place,
+            None => return Err(LevelFault::NoEdge),
+        };
+        let internal = self.internals.remove(place);
+        take_two(&mut self.uses, internal.node1, internal.node2);
+        Ok(())
+    }
+}
+
+// Whether the connection joins these two nodes, in either order.
+#[tactic(auto, unfolding(crate::specs::LevelEdits::joins))]
+fn joins(internal: &Internal, node1: i64, node2: i64) -> bool
+    ensures { result ≡ edits.joins node1 node2 internal.now }
+{
+    let a = internal.node1 as i64;
+    let b = internal.node2 as i64;
+    (a == node1 && b == node2) || (a == node2 && b == node1)
+}
+
+// The place of the first that joins them.
+fn place_of_joining(internals: &[Internal], node1: i64, node2: i64) -> Option<usize>
+    ensures { result ≡ position (edits.joins node1 node2) internals.now }
+{
+    internals.iter().position(|i| joins(i, node1, node2))
+}
+
+// One more use of two nodes.
+fn add_two(uses: &mut Uses, a: u16, b: u16) -> Result<(), Memory>
+    requires { total uses.old < 65535 }
+    ensures ok { OnOk result (uses.new ≡ with_use a (with_use b uses.old)) }
+    ensures err { OnErr result (uses.new ≡ uses.old) }
+{
+    uses.add(b)?;
+    match uses.add(a) {
+        Ok(()) => Ok(()),
+        Err(memory) => {
+            uses.take(b);
+            Err(memory)
+        }
+    }
+}
+
+// One use of two nodes less.
+fn take_two(uses: &mut Uses, a: u16, b: u16)
+    ensures { uses.new ≡ without_use b (without_use a uses.old) }
+{
+    uses.take(a);
+    uses.take(b);
+}
