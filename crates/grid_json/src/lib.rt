@@ -2,6 +2,7 @@
 #![tactic(auto)]
 
 mod fault;
+mod kinds;
 mod place;
 mod read;
 mod value;

@@ -1,0 +1,6 @@
+//! The top call.
+#![tactic(auto)]
+
+mod draft;
+
+pub use draft::{Command, JobDraft};
