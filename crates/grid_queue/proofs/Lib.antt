@@ -1,0 +1,7 @@
+pub mod Marks
+pub mod Putting
+pub mod Rows
+pub mod Sweep
+pub mod Walking
+pub mod Ways
+pub mod Writing
