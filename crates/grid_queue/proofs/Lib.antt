@@ -1,4 +1,5 @@
 pub mod Marks
+pub mod PassingWays
 pub mod Putting
 pub mod Rows
 pub mod Sweep
