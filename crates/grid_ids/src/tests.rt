@@ -33,7 +33,7 @@ fn tables_close_up(rt: HostRuntime) -> Result<(), Fail> {
 #[test]
 fn lists_are_copied(rt: HostRuntime) -> Result<(), Fail> {
     let alloc = rt.alloc();
-    let mut nodes = Nodes::empty(alloc);
+    let mut nodes: Seq<u16> = Seq::empty(alloc);
     nodes.push(3)?;
     nodes.push(1)?;
     nodes.insert(1, 2)?;
