@@ -1,1 +1,3 @@
 pub mod Draft
+pub mod Loading
+pub mod Small

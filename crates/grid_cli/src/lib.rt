@@ -2,5 +2,7 @@
 #![tactic(auto)]
 
 mod draft;
+mod small;
 
-pub use draft::{Command, JobDraft};
+pub use draft::Command;
+pub use small::{JobFault, SmallJob, read_job};
