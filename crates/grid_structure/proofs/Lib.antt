@@ -10,4 +10,6 @@ pub mod Substations
 pub mod Branching
 pub mod Soundly
 pub mod ListOfLevels
-pub mod OverOneList
+pub mod Places
+pub mod Cutting
+pub mod Starting

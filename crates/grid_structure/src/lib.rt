@@ -4,11 +4,14 @@
 
 mod laws;
 mod parts;
+mod readers;
+mod structure;
 
 use grid_ids::Id;
 use grid_kinds::{CheckFault, Injection, SwitchKind};
 use grid_level::Terminal;
 pub use laws::{edits_keep_soundness, levels_have_places};
+pub use structure::Structure;
 
 /// An end of a branch: its level and the node there.
 #[derive(Clone, Debug, Drop)]
