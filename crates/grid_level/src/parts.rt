@@ -1,8 +1,10 @@
 // Copies and comparisons of what a level is made of.
+ghost use Rattle.std.specs.Prelude.{◌≡◌};
 ghost use Rattle.std.proofs.Common.{rules};
 
-use crate::{Internal, Placed, Stand, Switch, Terminal};
-use grid_ids::{Duplicate, Same};
+use crate::{Internal, Level, Placed, Stand, Switch, Terminal};
+use grid_ids::{Duplicate, Same, clone_items, same_items};
+use std::alloc::AllocError;
 
 impl Duplicate for Terminal {
     ghost clone_equals = { Prim.search rules };
@@ -64,5 +66,38 @@ impl Same for Switch {
 impl Same for Internal {
     fn same(&self, other: &Internal) -> bool {
         self.node1 == other.node1 && self.node2 == other.node2
+    }
+}
+
+impl Clone for Level {
+    ghost is_clone = { λ x y. y ≡ x };
+
+    fn clone(&self) -> Result<Level, AllocError> {
+        Ok(Level {
+            id: self.id.clone()?,
+            nominal_v: self.nominal_v,
+            low_v: self.low_v,
+            high_v: self.high_v,
+            switches: clone_items(&self.switches)?,
+            internals: clone_items(&self.internals)?,
+            placed: clone_items(&self.placed)?,
+            uses: self.uses.clone()?,
+        })
+    }
+}
+
+impl Duplicate for Level {
+    ghost clone_equals = { Prim.search rules };
+}
+
+impl Same for Level {
+    fn same(&self, other: &Level) -> bool {
+        self.id.same(&other.id)
+            && self.nominal_v == other.nominal_v
+            && self.low_v.same(&other.low_v)
+            && self.high_v.same(&other.high_v)
+            && same_items(self.switches.as_slice(), other.switches.as_slice())
+            && same_items(self.internals.as_slice(), other.internals.as_slice())
+            && same_items(self.placed.as_slice(), other.placed.as_slice())
     }
 }
