@@ -1,5 +1,5 @@
 // The commands of a small job, one after the other.
-ghost use Rattle.std.specs.Prelude.{◌≡◌, length, IfOk, OnOk, position};
+ghost use Rattle.std.specs.Prelude.{◌≡◌, ◌<◌, length, IfOk, IfSome, OnOk, map};
 ghost use Rattle.grid_ids.specs.Name.{same_id};
 ghost use Rattle.grid_busview.specs.Views.{record_watts};
 ghost use Rattle.grid_cli.specs.Machine.{opening, seen, switch_place, set_at, switched, viewed, performed, steps_from, flags_after, same_flag};
@@ -8,7 +8,7 @@ use crate::draft::Command;
 use grid_busview::{BusView, bus_view};
 use grid_ids::{Duplicate, Id, Memory, Same, Seq};
 use grid_level::{Flags, Level, Switch};
-use std::alloc::Global;
+use std::alloc::{AllocError, Global};
 
 /// What a command is answered.
 #[derive(Drop)]
@@ -36,21 +36,24 @@ pub struct Step {
 /// The opening positions.
 #[tactic(auto, unfolding(crate::specs::Machine::opening))]
 pub fn opening_flags(alloc: Global, level: &Level) -> Result<Flags, Memory>
-    ensures { IfOk result (λ flags. flags ≡ opening level.now) }
+    ensures flags { IfOk result (λ flags. flags ≡ opening level.now) }
+    ensures long { IfOk result (λ flags. length flags ≡ length level.now.switches) }
 {
-    Ok(Seq::from_vec(
-        level
-            .switches()
-            .iter()
-            .map(|switch| switch.opened)
-            .collect(alloc)?,
-    ))
+    Ok(Seq::from_vec(positions(alloc, level.switches())?))
+}
+
+// The opening position of each switch.
+fn positions(alloc: Global, switches: &[Switch]) -> Result<Vec<bool>, AllocError>
+    ensures { IfOk result (λ flags. flags.items ≡ map (λ s. s.opened) switches.now) }
+{
+    switches.iter().map(|switch| switch.opened).collect(alloc)
 }
 
 /// The place of the switch with an id.
 #[tactic(auto, unfolding(crate::specs::Machine::switch_place))]
 fn place_of(level: &Level, id: &Id) -> Option<usize>
-    ensures { result ≡ switch_place level.now id.now }
+    ensures place { result ≡ switch_place level.now id.now }
+    ensures bound { IfSome result (λ place. place < length level.now.switches) }
 {
     level.switches().iter().position(|switch| id == &switch.id)
 }
@@ -61,6 +64,7 @@ fn set_flag(flags: &mut Flags, place: usize, opened: bool) -> Answer
     requires { place < length flags.old }
     ensures answer { result ≡ (set_at flags.old place opened).1 }
     ensures flags { flags.new ≡ (set_at flags.old place opened).0 }
+    ensures long { length flags.new ≡ length flags.old }
 {
     if flags[place] == opened {
         return Answer::Unchanged;
@@ -75,6 +79,7 @@ fn set_switch(level: &Level, flags: &mut Flags, id: &Id, opened: bool) -> Answer
     requires { length flags.old ≡ length level.now.switches }
     ensures answer { result ≡ (switched flags.old opened (switch_place level.now id.now)).1 }
     ensures flags { flags.new ≡ (switched flags.old opened (switch_place level.now id.now)).0 }
+    ensures long { length flags.new ≡ length flags.old }
 {
     match place_of(level, id) {
         Some(place) => set_flag(flags, place, opened),
@@ -110,6 +115,7 @@ fn perform(
     requires watts { watts.now ≡ record_watts level.now }
     ensures answer { IfOk result (λ answer. answer ≡ (performed level.now flags.old command.now).1) }
     ensures flags { OnOk result (flags.new ≡ (performed level.now flags.old command.now).0) }
+    ensures long { length flags.new ≡ length flags.old }
 {
     match command {
         Command::Open { switch } => Ok(set_switch(level, flags, switch, true)),
