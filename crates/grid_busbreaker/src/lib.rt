@@ -2,9 +2,11 @@
 #![tactic(auto)]
 
 mod parts;
+mod view;
 
 use grid_ids::{Id, Seq};
 use grid_level::{Nodes, Terminals};
+pub use view::bus_breaker_view;
 
 /// Nodes that closed switches and internal connections join, the retained switches apart, and what stands at them.
 #[derive(Clone, Debug, Drop)]

@@ -2,9 +2,13 @@
 #![tactic(auto)]
 
 mod parts;
+mod view;
+mod watts;
 
 use grid_ids::{Id, Seq};
 use grid_level::{Nodes, Terminals};
+pub use view::{bus_view, bus_view_ignores_retained};
+pub use watts::record_watts;
 
 /// Nodes that closed switches and internal connections join, what stands at them, and its powers.
 #[derive(Clone, Debug, Drop)]

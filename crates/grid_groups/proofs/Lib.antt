@@ -4,3 +4,4 @@ pub mod Bridge
 pub mod Placing
 pub mod Standing
 pub mod Steps
+pub mod Under

@@ -164,3 +164,20 @@ pub items_next : {X Y : Type 0} (f : X → Y) (xs all : List X) (ks : List ℕ) 
 items_next f xs all ks i x now y lt same inside at so_far e =
     ap (λ z. z ++ y ∷ []) so_far ∙ ap (λ z. map f (items_at all (take i ks)) ++ z ∷ []) e
     ∙ sym (ap (map f) (items_more all ks i x lt (read_item xs all (get_or ks i 0) x same inside at)) ∙ map-append f (items_at all (take i ks)) (x ∷ []))
+
+-- ---- what is made of the items that pass
+
+pub passed_next : {A B : Type 0} (f : A → B) (p : A → Bool) (xs : List A) (i : ℕ) (x : A) (now : List B) (y : B) → i < length xs → x ≡ get_or xs i x → p x ≡ true → now ≡ map f (filter p (take i xs)) → y ≡ f x
+    → now ++ y ∷ [] ≡ map f (filter p (take (i + 1) xs))
+passed_next {A} f p xs i x now y lt at pass so_far e =
+    ap (λ z. z ++ y ∷ []) so_far ∙ ap (λ z. map f (filter p (take i xs)) ++ z ∷ []) e ∙ sym (ap (map f) step ∙ map-append f (filter p (take i xs)) (x ∷ []))
+  where
+    step : filter p (take (i + 1) xs) ≡ filter p (take i xs) ++ x ∷ []
+    step = filter_more p xs i x lt ∙ ap (λ (z : A). filter p (take i xs) ++ cond (p z) (z ∷ []) []) (sym at) ∙ ap (λ t. filter p (take i xs) ++ cond t (x ∷ []) []) pass
+
+pub skipped_next : {A B : Type 0} (f : A → B) (p : A → Bool) (xs : List A) (i : ℕ) (x : A) (now : List B) → i < length xs → x ≡ get_or xs i x → p x ≡ false → now ≡ map f (filter p (take i xs))
+    → now ≡ map f (filter p (take (i + 1) xs))
+skipped_next {A} f p xs i x now lt at pass so_far = so_far ∙ sym (ap (map f) step)
+  where
+    step : filter p (take (i + 1) xs) ≡ filter p (take i xs)
+    step = filter_more p xs i x lt ∙ ap (λ (z : A). filter p (take i xs) ++ cond (p z) (z ∷ []) []) (sym at) ∙ ap (λ t. filter p (take i xs) ++ cond t (x ∷ []) []) pass ∙ append-nil (filter p (take i xs))
