@@ -93,6 +93,13 @@ joined_from_least net a b fit lt less e =
     let k : joined_in net a (least_joined net b) ≡ true = subst P e f.reached in
     n_same net a (least_joined net b) b fit lt k ∙ n_symm net b (least_joined net b) fit (least_below net b fit less) g.reached
 
+-- the least node of a node is its own least node
+pub leads_itself : (net : Graph) (x k : ℕ) → AreBelow net.nodes net.pairs → x < net.nodes → least_joined net x ≡ k → least_joined net k ≡ k
+leads_itself net x k fit less e =
+    let P : ℕ → Type 0 = λ z. joined_in net x z ≡ true in
+    let there : joined_in net x k ≡ true = subst P e (least_is_least net x fit less).reached in
+    sym (least_same net x k fit less there) ∙ e
+
 -- ---- how many
 
 pub In_filter : (p : ℕ → Bool) (x : ℕ) (xs : List ℕ) → In x xs → p x ≡ true → In x (filter p xs)

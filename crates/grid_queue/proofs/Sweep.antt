@@ -7,7 +7,7 @@ use Rattle.grid_graph.proofs.Places.{AreBelow}
 use Rattle.grid_graph.specs.Graph.{Graph}
 use Rattle.grid_graph.specs.Graph.{joined_in, least_joined, labels_of, count_joined}
 use Rattle.grid_queue.specs.Walks.{IsRelabelled}
-use Rattle.grid_graph.proofs.Least.{least_below, least_le, least_same, joined_from_least, least_is_least}
+use Rattle.grid_graph.proofs.Least.{least_below, least_le, least_same, joined_from_least, least_is_least, leads_itself}
 use Rattle.grid_graph.proofs.Counts.{counts_le, count_le, by_places, at_place, long_places}
 
 -- whether a node's least one is below k
@@ -22,13 +22,6 @@ pub record IsSwept (net : Graph) (k : ℕ) (numbers : List ℕ) : Type 0 where
 
 pub swept_none : (net : Graph) (numbers : List ℕ) → length numbers ≡ net.nodes → ((x : ℕ) → x < net.nodes → get_or numbers x 0 ≡ x) → IsSwept net 0 numbers
 swept_none net numbers long own = record { long = long; done = λ x lt h. absurd (omega arith); left = λ x lt h. own x lt }
-
--- the least node of a node is its own least node
-pub leads_itself : (net : Graph) (x k : ℕ) → AreBelow net.nodes net.pairs → x < net.nodes → least_joined net x ≡ k → least_joined net k ≡ k
-leads_itself net x k fit less e =
-    let P : ℕ → Type 0 = λ z. joined_in net x z ≡ true in
-    let there : joined_in net x k ≡ true = subst P e (least_is_least net x fit less).reached in
-    sym (least_same net x k fit less there) ∙ e
 
 -- a node with its own number leads
 leads_own : (net : Graph) (k : ℕ) (numbers : List ℕ) → AreBelow net.nodes net.pairs → k < net.nodes → IsSwept net k numbers → get_or numbers k 0 ≡ k → least_joined net k ≡ k
@@ -90,17 +83,3 @@ count_past net k = count_le net.nodes (is_swept net k) (is_swept net (k + 1)) (�
 pub swept_all : (net : Graph) (k : ℕ) (numbers : List ℕ) → AreBelow net.nodes net.pairs → net.nodes ≤ k → IsSwept net k numbers → numbers ≡ labels_of net
 unfolding labels_of
 swept_all net k numbers fit le s = by_places net.nodes (least_joined net) numbers s.long (λ x lt. s.done x lt (omega (arith, least_below net x fit lt)))
-
-pub label_below : (net : Graph) (numbers : List ℕ) (k : ℕ) → AreBelow net.nodes net.pairs → numbers ≡ labels_of net → k < length numbers → get_or numbers k 0 < net.nodes
-unfolding labels_of
-label_below net numbers k fit e lt =
-    let less : k < net.nodes = omega (arith, lt, long_places net.nodes (least_joined net) numbers e) in
-    rw (at_place net.nodes (least_joined net) numbers k e less) (least_below net k fit less)
-
-pub label_at : (net : Graph) (numbers : List ℕ) (k : ℕ) → numbers ≡ labels_of net → k < net.nodes → get_or numbers k 0 ≡ least_joined net k
-unfolding labels_of
-label_at net numbers k e lt = at_place net.nodes (least_joined net) numbers k e lt
-
-pub labels_long : (net : Graph) (numbers : List ℕ) → numbers ≡ labels_of net → length numbers ≡ net.nodes
-unfolding labels_of
-labels_long net numbers e = long_places net.nodes (least_joined net) numbers e
