@@ -113,6 +113,18 @@ In_filter p x (y ∷ ys) i h = elim (or_cases (eqb x y) (list_any (eqb x) ys) i)
     past true k = In_there x y (filter p ys) k
     past false k = k
 
+-- what a filter keeps was there, and passes
+pub filter_In : (p : ℕ → Bool) (x : ℕ) (xs : List ℕ) → In x (filter p xs) → In x xs × (p x ≡ true)
+filter_In p x [] i = absurd (false≢true i)
+filter_In p x (y ∷ ys) i = pick (p y) refl (filter_In p x ys) i
+  where
+    pick : (t : Bool) → p y ≡ t → (In x (filter p ys) → In x ys × (p x ≡ true)) → In x (cond t (y ∷ filter p ys) (filter p ys)) → In x (y ∷ ys) × (p x ≡ true)
+    pick true e rest j = elim (or_cases (eqb x y) (list_any (eqb x) (filter p ys)) j) [
+      | inl h ↦ (or_left (eqb x y) _ h, (let P : ℕ → Type 0 = λ z. p z ≡ true in subst P (sym (eqb-true x y h)) e))
+      | inr h ↦ (let r = rest h in (In_there x y ys r.0, r.1))
+    ]
+    pick false e rest j = let r = rest j in (In_there x y ys r.0, r.1)
+
 -- nodes that differ and are joined to the start are as many as are joined to it at most
 pub few_joined : (net : Graph) (start : ℕ) (nodes : List ℕ) → AreBelow net.nodes net.pairs → start < net.nodes → IsDistinct eqb nodes → ((x : ℕ) → In x nodes → joined_in net start x ≡ true) → length nodes ≤ count_joined net start
 unfolding count_joined

@@ -3,6 +3,7 @@
 
 mod lists;
 mod net;
+mod rows;
 mod steps;
 mod walks;
 mod work;
