@@ -149,3 +149,6 @@ pub fn open_edge<L: Ledger>(
     net.set(edge, false);
     labels.after_open(net, edge, a, b, steps);
 }
+
+#[cfg(test)]
+mod tests;
