@@ -32,3 +32,6 @@ impl<T: Drop> From<AllocFailed<T>> for Memory {
         Memory
     }
 }
+
+#[cfg(test)]
+mod tests;
