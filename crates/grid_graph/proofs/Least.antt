@@ -93,6 +93,13 @@ joined_from_least net a b fit lt less e =
     let k : joined_in net a (least_joined net b) ≡ true = subst P e f.reached in
     n_same net a (least_joined net b) b fit lt k ∙ n_symm net b (least_joined net b) fit (least_below net b fit less) g.reached
 
+-- the least node of a node is its own least node
+pub leads_itself : (net : Graph) (x k : ℕ) → AreBelow net.nodes net.pairs → x < net.nodes → least_joined net x ≡ k → least_joined net k ≡ k
+leads_itself net x k fit less e =
+    let P : ℕ → Type 0 = λ z. joined_in net x z ≡ true in
+    let there : joined_in net x k ≡ true = subst P e (least_is_least net x fit less).reached in
+    sym (least_same net x k fit less there) ∙ e
+
 -- ---- how many
 
 pub In_filter : (p : ℕ → Bool) (x : ℕ) (xs : List ℕ) → In x xs → p x ≡ true → In x (filter p xs)
@@ -105,6 +112,18 @@ In_filter p x (y ∷ ys) i h = elim (or_cases (eqb x y) (list_any (eqb x) ys) i)
     past : (t : Bool) → In x (filter p ys) → In x (cond t (y ∷ filter p ys) (filter p ys))
     past true k = In_there x y (filter p ys) k
     past false k = k
+
+-- what a filter keeps was there, and passes
+pub filter_In : (p : ℕ → Bool) (x : ℕ) (xs : List ℕ) → In x (filter p xs) → In x xs × (p x ≡ true)
+filter_In p x [] i = absurd (false≢true i)
+filter_In p x (y ∷ ys) i = pick (p y) refl (filter_In p x ys) i
+  where
+    pick : (t : Bool) → p y ≡ t → (In x (filter p ys) → In x ys × (p x ≡ true)) → In x (cond t (y ∷ filter p ys) (filter p ys)) → In x (y ∷ ys) × (p x ≡ true)
+    pick true e rest j = elim (or_cases (eqb x y) (list_any (eqb x) (filter p ys)) j) [
+      | inl h ↦ (or_left (eqb x y) _ h, (let P : ℕ → Type 0 = λ z. p z ≡ true in subst P (sym (eqb-true x y h)) e))
+      | inr h ↦ (let r = rest h in (In_there x y ys r.0, r.1))
+    ]
+    pick false e rest j = let r = rest j in (In_there x y ys r.0, r.1)
 
 -- nodes that differ and are joined to the start are as many as are joined to it at most
 pub few_joined : (net : Graph) (start : ℕ) (nodes : List ℕ) → AreBelow net.nodes net.pairs → start < net.nodes → IsDistinct eqb nodes → ((x : ℕ) → In x nodes → joined_in net start x ≡ true) → length nodes ≤ count_joined net start

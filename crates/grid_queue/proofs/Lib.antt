@@ -1,7 +1,7 @@
 pub mod Marks
 pub mod PassingWays
 pub mod Putting
-pub mod Rows
+pub mod PairsAtNodes
 pub mod Sweep
 pub mod Walking
 pub mod Ways

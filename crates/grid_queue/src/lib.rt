@@ -3,6 +3,7 @@
 
 mod lists;
 mod net;
+mod rows;
 mod steps;
 mod walks;
 mod work;
@@ -31,3 +32,6 @@ impl<T: Drop> From<AllocFailed<T>> for Memory {
         Memory
     }
 }
+
+#[cfg(test)]
+mod tests;

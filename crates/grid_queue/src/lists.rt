@@ -6,54 +6,19 @@ ghost use Rattle.grid_queue.specs.Adjacency.{pair_of, AreRows};
 ghost use Rattle.grid_queue.specs.Work.{is_in};
 ghost use Rattle.grid_queue.specs.Walks.{ArePut};
 
+use crate::rows::{Row, empty_rows, push_at};
 use crate::walks::{Adjacency, label_nodes};
 use crate::{Memory, Steps, WorkQueue};
 use std::alloc::Global;
 use std::marker::{Brand, Model};
 use std::sync::ledger::{Blank, Ledger};
 
-/// What pairs join to one node.
-#[derive(Drop)]
-struct Row {
-    nodes: Vec<u32>,
-}
-
-impl Model for Row {
-    ghost use Rattle.std.specs.Prelude.{List, ℕ};
-
-    ghost Value = { List ℕ };
-
-    ghost view = { λ row. row.nodes.items };
-}
-
-impl Row {
-    fn empty(alloc: Global) -> Row
-        ensures { result ≡ [] }
-    {
-        Row {
-            nodes: Vec::new(alloc),
-        }
-    }
-
-    fn push(&mut self, node: u32) -> Result<(), Memory>
-        ensures { OnOk result (self.new ≡ self.old ++ node ∷ []) }
-    {
-        Ok(self.nodes.push(node)?)
-    }
-
-    fn slice(&self) -> &[u32]
-        ensures { result.now ≡ self.now }
-    {
-        self.nodes.as_slice()
-    }
-}
-
 /// Pairs of nodes with the rows that they make.
 #[derive(Drop)]
 struct PairRows<'a> {
     count: u32,
     pairs: &'a [(u32, u32)],
-    rows: Vec<Row>,
+    rows: Vec<Row<u32>>,
 }
 
 impl<'a> Model for PairRows<'a> {
@@ -67,16 +32,8 @@ impl<'a> Model for PairRows<'a> {
     ghost invariant = { λ lists. AreRows lists.count lists.pairs.now lists.rows.items };
 }
 
-/// Puts a node last in the row of another.
-fn push_at(rows: &mut Vec<Row>, at: u32, node: u32) -> Result<(), Memory>
-    requires { at < length rows.old.items }
-    ensures { OnOk result (rows.new.items ≡ slice_set rows.old.items at (slice_index_or rows.old.items at [] ++ node ∷ [])) }
-{
-    rows[at as usize].push(node)
-}
-
 /// Puts a pair into the rows of its ends.
-fn push_pair(rows: &mut Vec<Row>, first: u32, second: u32) -> Result<(), Memory>
+fn push_pair(rows: &mut Vec<Row<u32>>, first: u32, second: u32) -> Result<(), Memory>
     requires first { first < length rows.old.items }
     requires second { second < length rows.old.items }
     ensures long { OnOk result (length rows.new.items ≡ length rows.old.items) }
@@ -86,23 +43,17 @@ fn push_pair(rows: &mut Vec<Row>, first: u32, second: u32) -> Result<(), Memory>
     push_at(rows, second, first)
 }
 
-fn empty_rows(alloc: Global, count: u32) -> Result<Vec<Row>, Memory>
-    ensures long { IfOk result (λ rows. length rows.items ≡ count) }
-    ensures each { IfOk result (λ rows. (a : ℕ) → slice_index_or rows.items a [] ≡ []) }
-{
-    let mut rows = Vec::new(alloc);
-    for _node in 0..count {
-        rows.push(Row::empty(alloc))?;
-    }
-    Ok(rows)
-}
-
 impl<'a> PairRows<'a> {
-    fn build(alloc: Global, count: u32, pairs: &'a [(u32, u32)]) -> Result<PairRows<'a>, Memory>
+    fn build<L: Ledger>(
+        alloc: Global,
+        count: u32,
+        pairs: &'a [(u32, u32)],
+        steps: &mut Steps<L>,
+    ) -> Result<PairRows<'a>, Memory>
         requires { EndsBelow pairs.now count }
         ensures { IfOk result (λ lists. lists ≡ graph count pairs.now) }
     {
-        let mut rows = empty_rows(alloc, count)?;
+        let mut rows = empty_rows(alloc, count, steps)?;
         for pair in pairs {
             push_pair(&mut rows, pair.0, pair.1)?;
         }
@@ -151,7 +102,7 @@ fn leaders_counted<L: Ledger>(
     ensures { IfOk result (λ leaders. leaders.items ≡ labels_of (graph count pairs.now)) }
 {
     let mut steps: Steps<L> = Steps::begin(blank);
-    let lists = PairRows::build(alloc, count, pairs)?;
+    let lists = PairRows::build(alloc, count, pairs, &mut steps)?;
     let mut queue = WorkQueue::with_room(alloc, count)?;
     label_nodes(alloc, &lists, &mut queue, &mut steps)
 }

@@ -6,7 +6,7 @@ use Rattle.grid_graph.proofs.Reach.{In_right, In_here}
 use Rattle.grid_graph.proofs.Places.{AreBelow}
 use Rattle.grid_graph.proofs.Below.{pairs_below}
 use Rattle.grid_graph.proofs.Least.{n_below}
-use Rattle.grid_queue.specs.Work.{Queue, after_put, has, after_take}
+use Rattle.grid_queue.specs.Work.{Queue, after_put, cleared, has, after_take}
 use Rattle.grid_queue.specs.Walks.{ArePut}
 use Rattle.grid_queue.proofs.Walking.{IsWalking, walk_begun, walk_more, walk_ended, walk_least, front}
 use Rattle.grid_queue.proofs.walks.walk.Goals as goal
@@ -14,7 +14,7 @@ use Rattle.grid_queue.proofs.walks.walk.Goals as goal
 pub loop-node-init : goal.loop-node-init
 loop-node-init g c =
     let net : Graph = g.A.Adjacency.graph c.args.around.now in
-    let after = c.put.ensures.after ∙ ap (λ q. after_put q c.args.start) c.clear.ensures in
+    let after : c.put.new.self ≡ after_put (cleared c.args.queue.now) c.args.start = c.put.ensures.after ∙ ap (λ q. after_put q c.args.start) c.clear.ensures in
     rw after (record { walking = walk_begun net c.args.start c.args.queue.now (pairs_below net.nodes net.pairs c.ends_below.ensures) c.requires.room; cost = omega arith })
 
 front_joined : (waiting taken : List ℕ) (node : ℕ) → slice_get waiting 0 ≡ Some node → has (record { room = 0; taken = taken; waiting = waiting }) node ≡ true

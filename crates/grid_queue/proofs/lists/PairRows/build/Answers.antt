@@ -1,15 +1,15 @@
 use Rattle.std.proofs.Common.{◌∙◌, sym, ap, ◌++◌, get_or}
 use Rattle.std.proofs.lemmas.List.{take_all}
 use Rattle.grid_graph.specs.Joined.{neighbours, end_across}
-use Rattle.grid_queue.proofs.Rows.{neighbours_more}
+use Rattle.grid_queue.proofs.PairsAtNodes.{neighbours_more}
 use Rattle.grid_queue.proofs.lists.PairRows.build.Goals as goal
 
 pub loop-pair-init : goal.loop-pair-init
 unfolding neighbours
-loop-pair-init c = record { long = c.in_ok-rows.ensures.long; each = λ a lt. c.in_ok-rows.ensures.each a }
+loop-pair-init g c = record { long = c.in_ok-rows.ensures.long; each = λ a lt. c.in_ok-rows.ensures.each a }
 
 pub loop-pair-preserved : goal.loop-pair-preserved
-loop-pair-preserved c =
+loop-pair-preserved g c =
     let pairs = c.args.pairs.now in
     let k = c.loop-pair.pair-index in
     record {
@@ -20,7 +20,7 @@ loop-pair-preserved c =
     }
 
 pub invariant_of-result : goal.invariant_of-result
-invariant_of-result c =
+invariant_of-result g c =
     record {
       long = c.loop-pair.invariant.long;
       ends = c.requires;

@@ -3,7 +3,7 @@ use Rattle.grid_graph.specs.Joined.{neighbours}
 use Rattle.grid_queue.proofs.lists.PairRows.build.Given as goal
 
 abbrev pub invariant-loop-pair : goal.invariant-loop-pair
-invariant-loop-pair l = record {
+invariant-loop-pair g l = record {
   long : length l.rows.items ≡ l.count;
   each : (a : ℕ) → a < l.count → get_or l.rows.items a [] ≡ neighbours (take l.pair-index l.pairs) a;
 }
