@@ -1,0 +1,8 @@
+//! Events of a network and the filters of its listeners.
+#![tactic(auto)]
+
+mod event;
+mod filter;
+
+pub use event::{Event, Events};
+pub use filter::{Filter, Filters};
