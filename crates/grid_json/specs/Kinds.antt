@@ -4,7 +4,34 @@ use Rattle.serde_json.specs.Data.{Data}
 use Rattle.grid_kinds.specs.declared.SwitchKind.{SwitchKind}
 use Rattle.grid_kinds.specs.declared.SwitchKind.TheVariants.{Breaker, Disconnector, LoadBreakSwitch}
 use Rattle.grid_json.specs.declared.fault.Fault.{Fault}
+use Rattle.grid_json.specs.declared.format.Format.{Format}
+use Rattle.grid_json.specs.declared.kinds.InjectionKind.{InjectionKind}
+use Rattle.grid_json.specs.declared.kinds.InjectionKind.TheVariants as injections
+use Rattle.grid_json.specs.declared.kinds.WindingsKind.{WindingsKind}
+use Rattle.grid_json.specs.declared.kinds.WindingsKind.TheVariants as windings
+use Rattle.grid_json.specs.declared.kinds.BranchKind.{BranchKind}
+use Rattle.grid_json.specs.declared.kinds.BranchKind.TheVariants as branches
+use Rattle.grid_json.specs.declared.kinds.EventKind.{EventKind}
+use Rattle.grid_json.specs.declared.kinds.EventKind.TheVariants as events
 use Rattle.grid_json.specs.Reading.{word_at}
 
-abbrev pub switch_kind_at : Data → Result SwitchKind Fault
-switch_kind_at = word_at ((codes "BREAKER", Breaker) ∷ (codes "DISCONNECTOR", Disconnector) ∷ (codes "LOAD_BREAK_SWITCH", LoadBreakSwitch) ∷ [])
+abbrev pub switch_kind_at : Format → Data → Result SwitchKind Fault
+switch_kind_at format = word_at ((codes "BREAKER", Breaker) ∷ (codes "DISCONNECTOR", Disconnector) ∷ (codes "LOAD_BREAK_SWITCH", LoadBreakSwitch) ∷ [])
+
+abbrev pub injection_kind_at : Format → Data → Result InjectionKind Fault
+injection_kind_at format = word_at
+    ((codes "LOAD", injections.Load) ∷ (codes "GENERATOR", injections.Generator) ∷ (codes "BATTERY", injections.Battery)
+    ∷ (codes "SHUNT_COMPENSATOR", injections.ShuntCompensator) ∷ (codes "STATIC_VAR_COMPENSATOR", injections.StaticVarCompensator) ∷ [])
+
+-- a transformer's kind
+abbrev pub windings_kind_at : Format → Data → Result WindingsKind Fault
+windings_kind_at format = word_at ((codes "TWO_WINDINGS", windings.Two) ∷ (codes "THREE_WINDINGS", windings.Three) ∷ [])
+
+abbrev pub branch_kind_at : Format → Data → Result BranchKind Fault
+branch_kind_at format = word_at ((codes "LINE", branches.Line) ∷ (codes "TWO_WINDINGS", branches.TwoWindings) ∷ (codes "THREE_WINDINGS", branches.ThreeWindings) ∷ [])
+
+-- what a listener may want to hear
+abbrev pub event_kind_at : Format → Data → Result EventKind Fault
+event_kind_at format = word_at
+    ((codes "created", events.Created) ∷ (codes "removed", events.Removed) ∷ (codes "updated", events.Updated)
+    ∷ (codes "variant_created", events.VariantCreated) ∷ (codes "variant_overwritten", events.VariantOverwritten) ∷ (codes "variant_removed", events.VariantRemoved) ∷ [])

@@ -1,3 +1,6 @@
 pub mod Reading
 pub mod Bytes
 pub mod Kinds
+pub mod Network
+pub mod Command
+pub mod Job

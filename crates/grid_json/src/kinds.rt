@@ -1,15 +1,52 @@
 // Kinds by their words.
+use crate::format::Format;
 use crate::{FromJson, ReadError, Reason};
 use grid_kinds::SwitchKind;
 use serde_json::Value;
 use std::alloc::Global;
+
+/// The kinds of injections.
+#[derive(Clone, Copy, Debug, PartialEq, Eq)]
+pub enum InjectionKind {
+    Load,
+    Generator,
+    Battery,
+    ShuntCompensator,
+    StaticVarCompensator,
+}
+
+/// The kinds of transformers.
+#[derive(Clone, Copy, Debug, PartialEq, Eq)]
+pub enum WindingsKind {
+    Two,
+    Three,
+}
+
+/// The kinds of branches.
+#[derive(Clone, Copy, Debug, PartialEq, Eq)]
+pub enum BranchKind {
+    Line,
+    TwoWindings,
+    ThreeWindings,
+}
+
+/// The kinds of events that a listener may want.
+#[derive(Clone, Copy, Debug, PartialEq, Eq)]
+pub enum EventKind {
+    Created,
+    Removed,
+    Updated,
+    VariantCreated,
+    VariantOverwritten,
+    VariantRemoved,
+}
 
 impl FromJson for SwitchKind {
     ghost use Rattle.grid_json.specs.Kinds.{switch_kind_at};
 
     ghost reads = { switch_kind_at };
 
-    fn from_json(alloc: Global, value: &Value) -> Result<SwitchKind, ReadError> {
+    fn from_json(alloc: Global, _format: Format, value: &Value) -> Result<SwitchKind, ReadError> {
         let Some(word) = value.as_str() else {
             return Err(ReadError::here(alloc, Reason::WrongKind));
         };
@@ -17,6 +54,82 @@ impl FromJson for SwitchKind {
             "BREAKER" => Ok(SwitchKind::Breaker),
             "DISCONNECTOR" => Ok(SwitchKind::Disconnector),
             "LOAD_BREAK_SWITCH" => Ok(SwitchKind::LoadBreakSwitch),
+            _ => Err(ReadError::here(alloc, Reason::Unknown)),
+        }
+    }
+}
+
+impl FromJson for InjectionKind {
+    ghost use Rattle.grid_json.specs.Kinds.{injection_kind_at};
+
+    ghost reads = { injection_kind_at };
+
+    fn from_json(alloc: Global, _format: Format, value: &Value) -> Result<InjectionKind, ReadError> {
+        let Some(word) = value.as_str() else {
+            return Err(ReadError::here(alloc, Reason::WrongKind));
+        };
+        match word {
+            "LOAD" => Ok(InjectionKind::Load),
+            "GENERATOR" => Ok(InjectionKind::Generator),
+            "BATTERY" => Ok(InjectionKind::Battery),
+            "SHUNT_COMPENSATOR" => Ok(InjectionKind::ShuntCompensator),
+            "STATIC_VAR_COMPENSATOR" => Ok(InjectionKind::StaticVarCompensator),
+            _ => Err(ReadError::here(alloc, Reason::Unknown)),
+        }
+    }
+}
+
+impl FromJson for WindingsKind {
+    ghost use Rattle.grid_json.specs.Kinds.{windings_kind_at};
+
+    ghost reads = { windings_kind_at };
+
+    fn from_json(alloc: Global, _format: Format, value: &Value) -> Result<WindingsKind, ReadError> {
+        let Some(word) = value.as_str() else {
+            return Err(ReadError::here(alloc, Reason::WrongKind));
+        };
+        match word {
+            "TWO_WINDINGS" => Ok(WindingsKind::Two),
+            "THREE_WINDINGS" => Ok(WindingsKind::Three),
+            _ => Err(ReadError::here(alloc, Reason::Unknown)),
+        }
+    }
+}
+
+impl FromJson for BranchKind {
+    ghost use Rattle.grid_json.specs.Kinds.{branch_kind_at};
+
+    ghost reads = { branch_kind_at };
+
+    fn from_json(alloc: Global, _format: Format, value: &Value) -> Result<BranchKind, ReadError> {
+        let Some(word) = value.as_str() else {
+            return Err(ReadError::here(alloc, Reason::WrongKind));
+        };
+        match word {
+            "LINE" => Ok(BranchKind::Line),
+            "TWO_WINDINGS" => Ok(BranchKind::TwoWindings),
+            "THREE_WINDINGS" => Ok(BranchKind::ThreeWindings),
+            _ => Err(ReadError::here(alloc, Reason::Unknown)),
+        }
+    }
+}
+
+impl FromJson for EventKind {
+    ghost use Rattle.grid_json.specs.Kinds.{event_kind_at};
+
+    ghost reads = { event_kind_at };
+
+    fn from_json(alloc: Global, _format: Format, value: &Value) -> Result<EventKind, ReadError> {
+        let Some(word) = value.as_str() else {
+            return Err(ReadError::here(alloc, Reason::WrongKind));
+        };
+        match word {
+            "created" => Ok(EventKind::Created),
+            "removed" => Ok(EventKind::Removed),
+            "updated" => Ok(EventKind::Updated),
+            "variant_created" => Ok(EventKind::VariantCreated),
+            "variant_overwritten" => Ok(EventKind::VariantOverwritten),
+            "variant_removed" => Ok(EventKind::VariantRemoved),
             _ => Err(ReadError::here(alloc, Reason::Unknown)),
         }
     }

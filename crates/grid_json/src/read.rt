@@ -6,8 +6,10 @@ ghost use Rattle.std.specs.BTreeMap.{keys};
 ghost use Rattle.serde_json.specs.Data.{Data};
 ghost use Rattle.serde_json.specs.View.{view, items_view};
 ghost use Rattle.grid_json.specs.declared.fault.Fault.{Fault as FaultAt};
-ghost use Rattle.grid_json.specs.Reading.{Gives, whole_at, flag_at, id_at, member_at, optional_at, member_or, object_at, only_at, texts, array_at, items_at, items_len, sized_at};
+ghost use Rattle.grid_json.specs.declared.format.Format.{Format as FormatAt};
+ghost use Rattle.grid_json.specs.Reading.{Gives, whole_at, flag_at, id_at, member_at, optional_at, member_or, object_at, only_at, texts, array_at, items_at};
 
+use crate::format::Format;
 use crate::{ReadError, Reason};
 use grid_ids::{Id, IdFault, Seq};
 use serde_json::{Map, Value};
@@ -15,16 +17,17 @@ use std::alloc::Global;
 
 /// What is read from a JSON value.
 pub trait FromJson: Sized + Drop {
-    ghost reads: { Data → Result Self FaultAt };
+    // The value of a JSON value in a format, or its first fault.
+    ghost reads: { FormatAt → Data → Result Self FaultAt };
 
-    fn from_json(alloc: Global, value: &Value) -> Result<Self, ReadError>
-        ensures { Gives result (reads (view value.now)) };
+    fn from_json(alloc: Global, format: Format, value: &Value) -> Result<Self, ReadError>
+        ensures { Gives result (reads format (view value.now)) };
 }
 
 impl FromJson for i64 {
-    ghost reads = { whole_at };
+    ghost reads = { λ _. whole_at };
 
-    fn from_json(alloc: Global, value: &Value) -> Result<i64, ReadError> {
+    fn from_json(alloc: Global, _format: Format, value: &Value) -> Result<i64, ReadError> {
         if !value.is_number() {
             return Err(ReadError::here(alloc, Reason::WrongKind));
         }
@@ -36,9 +39,9 @@ impl FromJson for i64 {
 }
 
 impl FromJson for bool {
-    ghost reads = { flag_at };
+    ghost reads = { λ _. flag_at };
 
-    fn from_json(alloc: Global, value: &Value) -> Result<bool, ReadError> {
+    fn from_json(alloc: Global, _format: Format, value: &Value) -> Result<bool, ReadError> {
         match value.as_bool() {
             Some(flag) => Ok(flag),
             None => Err(ReadError::here(alloc, Reason::WrongKind)),
@@ -47,9 +50,9 @@ impl FromJson for bool {
 }
 
 impl FromJson for Id {
-    ghost reads = { id_at };
+    ghost reads = { λ _. id_at };
 
-    fn from_json(alloc: Global, value: &Value) -> Result<Id, ReadError> {
+    fn from_json(alloc: Global, _format: Format, value: &Value) -> Result<Id, ReadError> {
         let Some(text) = value.as_str() else {
             return Err(ReadError::here(alloc, Reason::WrongKind));
         };
@@ -62,12 +65,12 @@ impl FromJson for Id {
 }
 
 /// A member that must be there.
-pub fn member<T: FromJson>(alloc: Global, value: &Value, name: &str) -> Result<T, ReadError>
-    ensures { Gives result (member_at T.reads name.now (view value.now)) }
+pub fn member<T: FromJson>(alloc: Global, format: Format, value: &Value, name: &str) -> Result<T, ReadError>
+    ensures { Gives result (member_at (T.reads format) name.now (view value.now)) }
 {
     match value.get(name) {
         None => Err(ReadError::here(alloc, Reason::Missing).under(alloc, name)),
-        Some(found) => match T::from_json(alloc, found) {
+        Some(found) => match T::from_json(alloc, format, found) {
             Ok(read) => Ok(read),
             Err(e) => Err(e.under(alloc, name)),
         },
@@ -77,14 +80,15 @@ pub fn member<T: FromJson>(alloc: Global, value: &Value, name: &str) -> Result<T
 /// A member that may be absent.
 pub fn optional<T: FromJson>(
     alloc: Global,
+    format: Format,
     value: &Value,
     name: &str,
 ) -> Result<Option<T>, ReadError>
-    ensures { Gives result (optional_at T.reads name.now (view value.now)) }
+    ensures { Gives result (optional_at (T.reads format) name.now (view value.now)) }
 {
     match value.get(name) {
         None => Ok(None),
-        Some(found) => match T::from_json(alloc, found) {
+        Some(found) => match T::from_json(alloc, format, found) {
             Ok(read) => Ok(Some(read)),
             Err(e) => Err(e.under(alloc, name)),
         },
@@ -94,15 +98,16 @@ pub fn optional<T: FromJson>(
 /// A member that may be absent, and what stands for it then.
 pub fn member_otherwise<T: FromJson>(
     alloc: Global,
+    format: Format,
     value: &Value,
     name: &str,
     otherwise: T,
 ) -> Result<T, ReadError>
-    ensures { Gives result (member_or otherwise T.reads name.now (view value.now)) }
+    ensures { Gives result (member_or otherwise (T.reads format) name.now (view value.now)) }
 {
     match value.get(name) {
         None => Ok(otherwise),
-        Some(found) => match T::from_json(alloc, found) {
+        Some(found) => match T::from_json(alloc, format, found) {
             Ok(read) => Ok(read),
             Err(e) => Err(e.under(alloc, name)),
         },
@@ -150,61 +155,26 @@ pub fn only(alloc: Global, value: &Value, names: &[&str]) -> Result<(), ReadErro
 }
 
 impl<T: FromJson> FromJson for Seq<T> {
-    ghost reads = { array_at T.reads };
+    ghost reads = { λ format. array_at (T.reads format) };
 
-    fn from_json(alloc: Global, value: &Value) -> Result<Seq<T>, ReadError> {
+    fn from_json(alloc: Global, format: Format, value: &Value) -> Result<Seq<T>, ReadError> {
         match value.as_array() {
             None => Err(ReadError::here(alloc, Reason::WrongKind)),
-            Some(items) => read_items(alloc, items.as_slice()),
+            Some(items) => read_items(alloc, format, items.as_slice()),
         }
     }
 }
 
 /// Each item, under its position.
-fn read_items<T: FromJson>(alloc: Global, items: &[Value]) -> Result<Seq<T>, ReadError>
-    ensures { Gives result (items_at T.reads 0 (items_view items.now)) }
+fn read_items<T: FromJson>(alloc: Global, format: Format, items: &[Value]) -> Result<Seq<T>, ReadError>
+    ensures { Gives result (items_at (T.reads format) 0 (items_view items.now)) }
 {
     let mut list = Seq::empty(alloc);
     for (i, item) in items.iter().enumerate() {
-        match T::from_json(alloc, item) {
+        match T::from_json(alloc, format, item) {
             Ok(read) => list.push(read)?,
             Err(e) => return Err(e.under_position(alloc, i)),
         }
     }
     Ok(list)
-}
-
-/// An array of this many items.
-#[tactic(auto, using(crate::proofs::Items::items_len_is))]
-fn sized<T: FromJson>(alloc: Global, value: &Value, count: usize) -> Result<Seq<T>, ReadError>
-    ensures { Gives result (sized_at count T.reads (view value.now)) }
-{
-    match value.as_array() {
-        None => Err(ReadError::here(alloc, Reason::WrongKind)),
-        Some(items) => {
-            if items.len() == count {
-                read_items(alloc, items.as_slice())
-            } else {
-                Err(ReadError::here(alloc, Reason::WrongKind))
-            }
-        }
-    }
-}
-
-/// A member that must be there, an array of this many items.
-pub fn sized_member<T: FromJson>(
-    alloc: Global,
-    value: &Value,
-    name: &str,
-    count: usize,
-) -> Result<Seq<T>, ReadError>
-    ensures { Gives result (member_at (sized_at count T.reads) name.now (view value.now)) }
-{
-    match value.get(name) {
-        None => Err(ReadError::here(alloc, Reason::Missing).under(alloc, name)),
-        Some(found) => match sized(alloc, found, count) {
-            Ok(read) => Ok(read),
-            Err(e) => Err(e.under(alloc, name)),
-        },
-    }
 }

@@ -5,4 +5,4 @@ use Rattle.grid_json.proofs.Items.{with_front}
 use Rattle.grid_json.proofs.read.read_items.Given as goal
 
 abbrev pub invariant-loop-i : goal.invariant-loop-i
-invariant-loop-i g l = with_front l.list (items_at g.T.FromJson.reads l.i (items_view (drop l.i l.items))) ≡ items_at g.T.FromJson.reads 0 (items_view l.items)
+invariant-loop-i g l = with_front l.list (items_at (g.T.FromJson.reads l.format) l.i (items_view (drop l.i l.items))) ≡ items_at (g.T.FromJson.reads l.format) 0 (items_view l.items)

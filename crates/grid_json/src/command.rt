@@ -1,0 +1,491 @@
+// The commands of a script.
+ghost use Rattle.std.specs.Prelude.{◌≡◌, ◌∷◌, codes};
+ghost use Rattle.serde_json.specs.View.{view};
+ghost use Rattle.grid_json.specs.Reading.{Gives, texts, word_at};
+ghost use Rattle.grid_json.specs.Command.{known_verb, command_names, plain_names, branch_names, add_level_at, add_busbar_at, add_switch_at, add_internal_at, remove_internal_at, add_injection_at, shape_at, add_branch_at, clone_at, retain_at, edit_at, request_at, verb_words, line_of, two_windings_of, three_windings_of};
+ghost use Rattle.grid_json.specs.Network.{item_names};
+
+use crate::ends::{Three, Two};
+use crate::format::Format;
+use crate::kinds::{BranchKind, InjectionKind};
+use crate::network::item_of;
+use crate::read::{FromJson, member, member_otherwise, object, only, optional};
+use crate::{ReadError, Reason};
+use grid_core::Request;
+use grid_ids::Id;
+use grid_structure::{Branch, Edit, End};
+use serde_json::Value;
+use std::alloc::Global;
+
+/// The edits that a command may ask for.
+#[derive(Clone, Copy, Debug, PartialEq, Eq)]
+pub enum EditVerb {
+    AddSubstation,
+    AddLevel,
+    AddBusbar,
+    AddSwitch,
+    RemoveSwitch,
+    RemoveEquipment,
+    AddInternal,
+    RemoveInternal,
+    AddInjection,
+    AddBranch,
+}
+
+/// What a command asks for.
+#[derive(Clone, Copy, Debug, PartialEq, Eq)]
+pub enum Verb {
+    Use,
+    Remove,
+    Open,
+    Close,
+    Retain,
+    Connect,
+    Disconnect,
+    BusBreakerView,
+    BusView,
+    Components,
+    Clone,
+    Change(EditVerb),
+}
+
+/// The verb of a word.
+fn verb_of(alloc: Global, value: &Value) -> Result<Verb, ReadError>
+    ensures { Gives result (word_at verb_words (view value.now)) }
+{
+    let Some(word) = value.as_str() else {
+        return Err(ReadError::here(alloc, Reason::WrongKind));
+    };
+    match word {
+        "use" => Ok(Verb::Use),
+        "remove" => Ok(Verb::Remove),
+        "open" => Ok(Verb::Open),
+        "close" => Ok(Verb::Close),
+        "retain" => Ok(Verb::Retain),
+        "connect" => Ok(Verb::Connect),
+        "disconnect" => Ok(Verb::Disconnect),
+        "bus_breaker_view" => Ok(Verb::BusBreakerView),
+        "bus_view" => Ok(Verb::BusView),
+        "components" => Ok(Verb::Components),
+        "clone" => Ok(Verb::Clone),
+        "add_substation" => Ok(Verb::Change(EditVerb::AddSubstation)),
+        "add_level" => Ok(Verb::Change(EditVerb::AddLevel)),
+        "add_busbar" => Ok(Verb::Change(EditVerb::AddBusbar)),
+        "add_switch" => Ok(Verb::Change(EditVerb::AddSwitch)),
+        "remove_switch" => Ok(Verb::Change(EditVerb::RemoveSwitch)),
+        "remove_equipment" => Ok(Verb::Change(EditVerb::RemoveEquipment)),
+        "add_internal" => Ok(Verb::Change(EditVerb::AddInternal)),
+        "remove_internal" => Ok(Verb::Change(EditVerb::RemoveInternal)),
+        "add_injection" => Ok(Verb::Change(EditVerb::AddInjection)),
+        "add_branch" => Ok(Verb::Change(EditVerb::AddBranch)),
+        _ => Err(ReadError::here(alloc, Reason::Unknown)),
+    }
+}
+
+/// The verb, where the format has it.
+fn known(alloc: Global, format: Format, verb: Verb) -> Result<Verb, ReadError>
+    ensures { Gives result (known_verb format verb) }
+{
+    match (format, verb) {
+        (Format::One, Verb::Retain) => Err(ReadError::here(alloc, Reason::Unknown)),
+        (_, verb) => Ok(verb),
+    }
+}
+
+impl FromJson for Verb {
+    ghost use Rattle.grid_json.specs.Command.{verb_at};
+
+    ghost reads = { verb_at };
+
+    fn from_json(alloc: Global, format: Format, value: &Value) -> Result<Verb, ReadError> {
+        let verb = verb_of(alloc, value)?;
+        known(alloc, format, verb)
+    }
+}
+
+/// The members of an edit without a kind.
+fn names_of_edit(verb: EditVerb) -> &'static [&'static str]
+    ensures { texts result.now ≡ command_names (Verb.Change verb) }
+{
+    match verb {
+        EditVerb::AddSubstation | EditVerb::RemoveSwitch | EditVerb::RemoveEquipment => {
+            &["do", "id"]
+        }
+        EditVerb::AddLevel => &["do", "id", "substation", "nominal_v", "low_v", "high_v"],
+        EditVerb::AddBusbar => &["do", "id", "level", "node"],
+        EditVerb::AddSwitch => &[
+            "do",
+            "id",
+            "level",
+            "kind",
+            "node1",
+            "node2",
+            "open",
+            "retained",
+            "fictitious",
+        ],
+        EditVerb::AddInternal | EditVerb::RemoveInternal => &["do", "level", "node1", "node2"],
+        EditVerb::AddInjection | EditVerb::AddBranch => &["do"],
+    }
+}
+
+/// The members of a command without a kind.
+fn names_of_command(verb: Verb) -> &'static [&'static str]
+    ensures { texts result.now ≡ command_names verb }
+{
+    match verb {
+        Verb::Use | Verb::Remove => &["do", "variant"],
+        Verb::Open | Verb::Close => &["do", "switch"],
+        Verb::Retain => &["do", "switch", "retained"],
+        Verb::Connect | Verb::Disconnect => &["do", "equipment", "side"],
+        Verb::BusBreakerView | Verb::BusView | Verb::Components => &["do", "level"],
+        Verb::Clone => &["do", "from", "to", "overwrite"],
+        Verb::Change(edit) => names_of_edit(edit),
+    }
+}
+
+/// Looks for members that are none of a command's, where no kind chooses them.
+fn only_plain(alloc: Global, verb: Verb, value: &Value) -> Result<(), ReadError>
+    ensures { Gives result (plain_names verb (view value.now)) }
+{
+    match verb {
+        Verb::Change(EditVerb::AddInjection | EditVerb::AddBranch) => Ok(()),
+        verb => only(alloc, value, names_of_command(verb)),
+    }
+}
+
+#[tactic(auto, unfolding(crate::specs::Command::add_level_at))]
+fn add_level_of(alloc: Global, format: Format, value: &Value) -> Result<Edit, ReadError>
+    ensures { Gives result (add_level_at (view value.now)) }
+{
+    let id = member(alloc, format, value, "id")?;
+    let substation = member(alloc, format, value, "substation")?;
+    let nominal_v = member(alloc, format, value, "nominal_v")?;
+    let low_v = optional(alloc, format, value, "low_v")?;
+    let high_v = optional(alloc, format, value, "high_v")?;
+    Ok(Edit::AddLevel {
+        id,
+        substation,
+        nominal_v,
+        low_v,
+        high_v,
+    })
+}
+
+#[tactic(auto, unfolding(crate::specs::Command::add_busbar_at))]
+fn add_busbar_of(alloc: Global, format: Format, value: &Value) -> Result<Edit, ReadError>
+    ensures { Gives result (add_busbar_at (view value.now)) }
+{
+    let id = member(alloc, format, value, "id")?;
+    let level = member(alloc, format, value, "level")?;
+    let node = member(alloc, format, value, "node")?;
+    Ok(Edit::AddBusbar { id, level, node })
+}
+
+#[tactic(auto, unfolding(crate::specs::Command::add_switch_at))]
+fn add_switch_of(alloc: Global, format: Format, value: &Value) -> Result<Edit, ReadError>
+    ensures { Gives result (add_switch_at format (view value.now)) }
+{
+    let id = member(alloc, format, value, "id")?;
+    let level = member(alloc, format, value, "level")?;
+    let kind = member(alloc, format, value, "kind")?;
+    let node1 = member(alloc, format, value, "node1")?;
+    let node2 = member(alloc, format, value, "node2")?;
+    let opened = member_otherwise(alloc, format, value, "open", false)?;
+    let retained = member_otherwise(alloc, format, value, "retained", false)?;
+    let fictitious = member_otherwise(alloc, format, value, "fictitious", false)?;
+    Ok(Edit::AddSwitch {
+        id,
+        level,
+        kind,
+        node1,
+        node2,
+        opened,
+        retained,
+        fictitious,
+    })
+}
+
+#[tactic(auto, unfolding(crate::specs::Command::add_internal_at))]
+fn add_internal_of(alloc: Global, format: Format, value: &Value) -> Result<Edit, ReadError>
+    ensures { Gives result (add_internal_at (view value.now)) }
+{
+    let level = member(alloc, format, value, "level")?;
+    let node1 = member(alloc, format, value, "node1")?;
+    let node2 = member(alloc, format, value, "node2")?;
+    Ok(Edit::AddInternal {
+        level,
+        node1,
+        node2,
+    })
+}
+
+#[tactic(auto, unfolding(crate::specs::Command::remove_internal_at))]
+fn remove_internal_of(alloc: Global, format: Format, value: &Value) -> Result<Edit, ReadError>
+    ensures { Gives result (remove_internal_at (view value.now)) }
+{
+    let level = member(alloc, format, value, "level")?;
+    let node1 = member(alloc, format, value, "node1")?;
+    let node2 = member(alloc, format, value, "node2")?;
+    Ok(Edit::RemoveInternal {
+        level,
+        node1,
+        node2,
+    })
+}
+
+/// The members of an added injection of a kind.
+fn names_of_injection(kind: InjectionKind) -> &'static [&'static str]
+    ensures { texts result.now ≡ codes "do" ∷ codes "kind" ∷ codes "id" ∷ codes "level" ∷ codes "node" ∷ item_names kind }
+{
+    match kind {
+        InjectionKind::Load => &["do", "kind", "id", "level", "node", "p0", "q0"],
+        InjectionKind::Generator => &[
+            "do", "kind", "id", "level", "node", "target_p", "target_v", "min_p", "max_p",
+        ],
+        InjectionKind::Battery => &[
+            "do", "kind", "id", "level", "node", "target_p", "target_q", "min_p", "max_p",
+        ],
+        InjectionKind::ShuntCompensator => &[
+            "do",
+            "kind",
+            "id",
+            "level",
+            "node",
+            "section_count",
+            "max_sections",
+        ],
+        InjectionKind::StaticVarCompensator => {
+            &["do", "kind", "id", "level", "node", "target_q"]
+        }
+    }
+}
+
+#[tactic(auto, unfolding(crate::specs::Command::add_injection_at))]
+fn add_injection_of(alloc: Global, format: Format, value: &Value) -> Result<Edit, ReadError>
+    ensures { Gives result (add_injection_at format (view value.now)) }
+{
+    let kind = member(alloc, format, value, "kind")?;
+    only(alloc, value, names_of_injection(kind))?;
+    let id = member(alloc, format, value, "id")?;
+    let level = member(alloc, format, value, "level")?;
+    let node = member(alloc, format, value, "node")?;
+    let item = item_of(alloc, format, kind, value)?;
+    Ok(Edit::AddInjection {
+        id,
+        level,
+        node,
+        item,
+    })
+}
+
+/// The members of an added branch of a kind.
+fn names_of_branch(kind: BranchKind) -> &'static [&'static str]
+    ensures { texts result.now ≡ branch_names kind }
+{
+    match kind {
+        BranchKind::Line => &["do", "kind", "id", "ends"],
+        BranchKind::TwoWindings | BranchKind::ThreeWindings => {
+            &["do", "kind", "id", "ends", "substation", "rated_u"]
+        }
+    }
+}
+
+/// The line between two ends.
+pub fn line(ends: Two<End>) -> Branch
+    ensures { result ≡ line_of ends }
+{
+    let Two { first, second } = ends;
+    Branch::Line {
+        end1: first,
+        end2: second,
+    }
+}
+
+/// The transformer of two windings.
+pub fn two_windings(substation: Id, ends: Two<End>, rated: &Two<i64>) -> Branch
+    ensures { result ≡ two_windings_of substation ends rated.now }
+{
+    let Two { first, second } = ends;
+    Branch::TwoWindings {
+        substation,
+        end1: first,
+        end2: second,
+        rated_u1: rated.first,
+        rated_u2: rated.second,
+    }
+}
+
+/// The transformer of three windings.
+pub fn three_windings(substation: Id, ends: Three<End>, rated: &Three<i64>) -> Branch
+    ensures { result ≡ three_windings_of substation ends rated.now }
+{
+    let Three {
+        first,
+        second,
+        third,
+    } = ends;
+    Branch::ThreeWindings {
+        substation,
+        end1: first,
+        end2: second,
+        end3: third,
+        rated_u1: rated.first,
+        rated_u2: rated.second,
+        rated_u3: rated.third,
+    }
+}
+
+/// The branch of a kind.
+#[tactic(auto, unfolding(crate::specs::Command::shape_at))]
+fn shape_of(alloc: Global, format: Format, kind: BranchKind, value: &Value) -> Result<Branch, ReadError>
+    ensures { Gives result (shape_at kind (view value.now)) }
+{
+    match kind {
+        BranchKind::Line => {
+            let ends = member(alloc, format, value, "ends")?;
+            Ok(line(ends))
+        }
+        BranchKind::TwoWindings => {
+            let ends = member(alloc, format, value, "ends")?;
+            let substation = member(alloc, format, value, "substation")?;
+            let rated = member(alloc, format, value, "rated_u")?;
+            Ok(two_windings(substation, ends, &rated))
+        }
+        BranchKind::ThreeWindings => {
+            let ends = member(alloc, format, value, "ends")?;
+            let substation = member(alloc, format, value, "substation")?;
+            let rated = member(alloc, format, value, "rated_u")?;
+            Ok(three_windings(substation, ends, &rated))
+        }
+    }
+}
+
+#[tactic(auto, unfolding(crate::specs::Command::add_branch_at))]
+fn add_branch_of(alloc: Global, format: Format, value: &Value) -> Result<Edit, ReadError>
+    ensures { Gives result (add_branch_at format (view value.now)) }
+{
+    let kind = member(alloc, format, value, "kind")?;
+    only(alloc, value, names_of_branch(kind))?;
+    let id = member(alloc, format, value, "id")?;
+    let shape = shape_of(alloc, format, kind, value)?;
+    Ok(Edit::AddBranch { id, shape })
+}
+
+#[tactic(auto, unfolding(crate::specs::Command::clone_at))]
+fn clone_of(alloc: Global, format: Format, value: &Value) -> Result<Request, ReadError>
+    ensures { Gives result (clone_at (view value.now)) }
+{
+    let from = member(alloc, format, value, "from")?;
+    let to = member(alloc, format, value, "to")?;
+    let overwrite = member_otherwise(alloc, format, value, "overwrite", false)?;
+    Ok(Request::CloneVariant {
+        from,
+        to,
+        overwrite,
+    })
+}
+
+#[tactic(auto, unfolding(crate::specs::Command::retain_at))]
+fn retain_of(alloc: Global, format: Format, value: &Value) -> Result<Request, ReadError>
+    ensures { Gives result (retain_at (view value.now)) }
+{
+    let id = member(alloc, format, value, "switch")?;
+    let retained = member(alloc, format, value, "retained")?;
+    Ok(Request::RetainSwitch { id, retained })
+}
+
+/// The edit of a verb.
+#[tactic(auto, unfolding(crate::specs::Command::edit_at, crate::specs::Command::named_at))]
+fn edit_of(alloc: Global, format: Format, verb: EditVerb, value: &Value) -> Result<Edit, ReadError>
+    ensures { Gives result (edit_at format verb (view value.now)) }
+{
+    match verb {
+        EditVerb::AddSubstation => {
+            let id = member(alloc, format, value, "id")?;
+            Ok(Edit::AddSubstation { id })
+        }
+        EditVerb::AddLevel => add_level_of(alloc, format, value),
+        EditVerb::AddBusbar => add_busbar_of(alloc, format, value),
+        EditVerb::AddSwitch => add_switch_of(alloc, format, value),
+        EditVerb::RemoveSwitch => {
+            let id = member(alloc, format, value, "id")?;
+            Ok(Edit::RemoveSwitch { id })
+        }
+        EditVerb::RemoveEquipment => {
+            let id = member(alloc, format, value, "id")?;
+            Ok(Edit::RemoveEquipment { id })
+        }
+        EditVerb::AddInternal => add_internal_of(alloc, format, value),
+        EditVerb::RemoveInternal => remove_internal_of(alloc, format, value),
+        EditVerb::AddInjection => add_injection_of(alloc, format, value),
+        EditVerb::AddBranch => add_branch_of(alloc, format, value),
+    }
+}
+
+/// The request of a verb.
+#[tactic(auto, unfolding(crate::specs::Command::request_at, crate::specs::Command::named_at, crate::specs::Command::sided_at))]
+fn request_of(alloc: Global, format: Format, verb: Verb, value: &Value) -> Result<Request, ReadError>
+    ensures { Gives result (request_at format verb (view value.now)) }
+{
+    match verb {
+        Verb::Use => {
+            let name = member(alloc, format, value, "variant")?;
+            Ok(Request::UseVariant { name })
+        }
+        Verb::Remove => {
+            let name = member(alloc, format, value, "variant")?;
+            Ok(Request::RemoveVariant { name })
+        }
+        Verb::Open => {
+            let id = member(alloc, format, value, "switch")?;
+            Ok(Request::OpenSwitch { id })
+        }
+        Verb::Close => {
+            let id = member(alloc, format, value, "switch")?;
+            Ok(Request::CloseSwitch { id })
+        }
+        Verb::Retain => retain_of(alloc, format, value),
+        Verb::Connect => {
+            let id = member(alloc, format, value, "equipment")?;
+            let side = member_otherwise(alloc, format, value, "side", 1)?;
+            Ok(Request::Connect { id, side })
+        }
+        Verb::Disconnect => {
+            let id = member(alloc, format, value, "equipment")?;
+            let side = member_otherwise(alloc, format, value, "side", 1)?;
+            Ok(Request::Disconnect { id, side })
+        }
+        Verb::BusBreakerView => {
+            let level = member(alloc, format, value, "level")?;
+            Ok(Request::BusBreakerView { level })
+        }
+        Verb::BusView => {
+            let level = member(alloc, format, value, "level")?;
+            Ok(Request::BusView { level })
+        }
+        Verb::Components => {
+            let level = member(alloc, format, value, "level")?;
+            Ok(Request::Components { level })
+        }
+        Verb::Clone => clone_of(alloc, format, value),
+        Verb::Change(edit) => {
+            let edit = edit_of(alloc, format, edit, value)?;
+            Ok(Request::Change { edit })
+        }
+    }
+}
+
+impl FromJson for Request {
+    ghost use Rattle.grid_json.specs.Command.{command_at};
+
+    ghost reads = { command_at };
+
+    #[tactic(auto, unfolding(crate::specs::Command::command_at))]
+    fn from_json(alloc: Global, format: Format, value: &Value) -> Result<Request, ReadError> {
+        object(alloc, value)?;
+        let verb = member(alloc, format, value, "do")?;
+        only_plain(alloc, verb, value)?;
+        request_of(alloc, format, verb, value)
+    }
+}

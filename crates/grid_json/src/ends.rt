@@ -1,0 +1,88 @@
+// Arrays of just two and of just three items.
+ghost use Rattle.std.specs.Prelude.{◌≡◌, decimal};
+ghost use Rattle.serde_json.specs.View.{view};
+ghost use Rattle.grid_json.specs.Reading.{Gives, under};
+ghost use Rattle.grid_json.specs.Network.{two_at, three_at};
+
+use crate::format::Format;
+use crate::read::{FromJson, member, only};
+use crate::{ReadError, Reason};
+use grid_structure::End;
+use serde_json::Value;
+use std::alloc::Global;
+
+/// Two values of one kind.
+#[derive(Clone, Debug, Drop)]
+pub struct Two<T> {
+    pub first: T,
+    pub second: T,
+}
+
+/// Three values of one kind.
+#[derive(Clone, Debug, Drop)]
+pub struct Three<T> {
+    pub first: T,
+    pub second: T,
+    pub third: T,
+}
+
+/// An item of an array, under its position.
+fn item<T: FromJson>(alloc: Global, format: Format, value: &Value, position: usize) -> Result<T, ReadError>
+    ensures { Gives result (under (decimal position) (T.reads format (view value.now))) }
+{
+    match T::from_json(alloc, format, value) {
+        Ok(read) => Ok(read),
+        Err(e) => Err(e.under_position(alloc, position)),
+    }
+}
+
+impl<T: FromJson> FromJson for Two<T> {
+    ghost reads = { λ format. two_at (T.reads format) };
+
+    #[tactic(auto, unfolding(crate::specs::Network::two_of))]
+    fn from_json(alloc: Global, format: Format, value: &Value) -> Result<Two<T>, ReadError> {
+        let Some(items) = value.as_array() else {
+            return Err(ReadError::here(alloc, Reason::WrongKind));
+        };
+        match items.as_slice() {
+            [first, second] => Ok(Two {
+                first: item(alloc, format, first, 0)?,
+                second: item(alloc, format, second, 1)?,
+            }),
+            _ => Err(ReadError::here(alloc, Reason::WrongKind)),
+        }
+    }
+}
+
+impl<T: FromJson> FromJson for Three<T> {
+    ghost reads = { λ format. three_at (T.reads format) };
+
+    #[tactic(auto, unfolding(crate::specs::Network::three_of))]
+    fn from_json(alloc: Global, format: Format, value: &Value) -> Result<Three<T>, ReadError> {
+        let Some(items) = value.as_array() else {
+            return Err(ReadError::here(alloc, Reason::WrongKind));
+        };
+        match items.as_slice() {
+            [first, second, third] => Ok(Three {
+                first: item(alloc, format, first, 0)?,
+                second: item(alloc, format, second, 1)?,
+                third: item(alloc, format, third, 2)?,
+            }),
+            _ => Err(ReadError::here(alloc, Reason::WrongKind)),
+        }
+    }
+}
+
+impl FromJson for End {
+    ghost use Rattle.grid_json.specs.Network.{end_at};
+
+    ghost reads = { λ _. end_at };
+
+    #[tactic(auto, unfolding(crate::specs::Network::end_at))]
+    fn from_json(alloc: Global, format: Format, value: &Value) -> Result<End, ReadError> {
+        only(alloc, value, &["level", "node"])?;
+        let level = member(alloc, format, value, "level")?;
+        let node = member(alloc, format, value, "node")?;
+        Ok(End { level, node })
+    }
+}

@@ -1,0 +1,27 @@
+// The formats of jobs.
+use crate::{FromJson, ReadError, Reason};
+use serde_json::Value;
+use std::alloc::Global;
+
+/// The format of a job. Each has the words of the formats before it.
+#[derive(Clone, Copy, Debug, PartialEq, Eq)]
+pub enum Format {
+    /// The first.
+    One,
+    /// Has also the command `retain`.
+    Two,
+}
+
+impl FromJson for Format {
+    ghost use Rattle.grid_json.specs.Job.{format_at};
+
+    ghost reads = { format_at };
+
+    fn from_json(alloc: Global, format: Format, value: &Value) -> Result<Format, ReadError> {
+        match i64::from_json(alloc, format, value)? {
+            1 => Ok(Format::One),
+            2 => Ok(Format::Two),
+            _ => Err(ReadError::here(alloc, Reason::Unknown)),
+        }
+    }
+}

@@ -1,0 +1,379 @@
+// The network of a job as it is written.
+ghost use Rattle.std.specs.Prelude.{◌≡◌};
+ghost use Rattle.serde_json.specs.View.{view};
+ghost use Rattle.grid_json.specs.Reading.{Gives, texts};
+ghost use Rattle.grid_json.specs.Network.{injection_names, item_at, windings_at};
+
+use crate::ends::{Three, Two};
+use crate::format::Format;
+use crate::kinds::{InjectionKind, WindingsKind};
+use crate::read::{FromJson, member, member_otherwise, object, only, optional};
+use crate::ReadError;
+use grid_ids::{Id, Seq};
+use grid_kinds::{Injection, SwitchKind};
+use grid_structure::End;
+use serde_json::Value;
+use std::alloc::Global;
+
+/// A busbar section at a node.
+#[derive(Drop)]
+pub struct BusbarDraft {
+    pub id: Id,
+    pub node: i64,
+}
+
+/// A switch between two nodes.
+#[derive(Drop)]
+pub struct SwitchDraft {
+    pub id: Id,
+    pub kind: SwitchKind,
+    pub node1: i64,
+    pub node2: i64,
+    pub opened: bool,
+    pub retained: bool,
+    pub fictitious: bool,
+}
+
+/// An internal connection between two nodes.
+#[derive(Drop)]
+pub struct InternalDraft {
+    pub node1: i64,
+    pub node2: i64,
+}
+
+/// An injection at a node.
+#[derive(Drop)]
+pub struct InjectionDraft {
+    pub id: Id,
+    pub node: i64,
+    pub item: Injection,
+}
+
+/// A level with its parts.
+#[derive(Drop)]
+pub struct LevelDraft {
+    pub id: Id,
+    pub nominal_v: i64,
+    pub low_v: Option<i64>,
+    pub high_v: Option<i64>,
+    pub busbars: Seq<BusbarDraft>,
+    pub switches: Seq<SwitchDraft>,
+    pub internals: Seq<InternalDraft>,
+    pub injections: Seq<InjectionDraft>,
+}
+
+/// The windings of a transformer: where each stands, and its rated voltage in volts.
+#[derive(Drop)]
+pub enum Windings {
+    Two { ends: Two<End>, rated_u: Two<i64> },
+    Three { ends: Three<End>, rated_u: Three<i64> },
+}
+
+/// A transformer of a substation.
+#[derive(Drop)]
+pub struct TransformerDraft {
+    pub id: Id,
+    pub windings: Windings,
+}
+
+/// A line.
+#[derive(Drop)]
+pub struct LineDraft {
+    pub id: Id,
+    pub ends: Two<End>,
+}
+
+/// A substation with its levels and transformers.
+#[derive(Drop)]
+pub struct SubstationDraft {
+    pub id: Id,
+    pub levels: Seq<LevelDraft>,
+    pub transformers: Seq<TransformerDraft>,
+}
+
+/// A network with its substations and lines.
+#[derive(Drop)]
+pub struct NetworkDraft {
+    pub id: Id,
+    pub substations: Seq<SubstationDraft>,
+    pub lines: Seq<LineDraft>,
+}
+
+impl FromJson for BusbarDraft {
+    ghost use Rattle.grid_json.specs.Network.{busbar_at};
+
+    ghost reads = { λ _. busbar_at };
+
+    #[tactic(auto, unfolding(crate::specs::Network::busbar_at))]
+    fn from_json(alloc: Global, format: Format, value: &Value) -> Result<BusbarDraft, ReadError> {
+        only(alloc, value, &["id", "node"])?;
+        let id = member(alloc, format, value, "id")?;
+        let node = member(alloc, format, value, "node")?;
+        Ok(BusbarDraft { id, node })
+    }
+}
+
+impl FromJson for SwitchDraft {
+    ghost use Rattle.grid_json.specs.Network.{switch_at};
+
+    ghost reads = { switch_at };
+
+    #[tactic(auto, unfolding(crate::specs::Network::switch_at))]
+    fn from_json(alloc: Global, format: Format, value: &Value) -> Result<SwitchDraft, ReadError> {
+        only(
+            alloc,
+            value,
+            &["id", "kind", "node1", "node2", "open", "retained", "fictitious"],
+        )?;
+        let id = member(alloc, format, value, "id")?;
+        let kind = member(alloc, format, value, "kind")?;
+        let node1 = member(alloc, format, value, "node1")?;
+        let node2 = member(alloc, format, value, "node2")?;
+        let opened = member_otherwise(alloc, format, value, "open", false)?;
+        let retained = member_otherwise(alloc, format, value, "retained", false)?;
+        let fictitious = member_otherwise(alloc, format, value, "fictitious", false)?;
+        Ok(SwitchDraft {
+            id,
+            kind,
+            node1,
+            node2,
+            opened,
+            retained,
+            fictitious,
+        })
+    }
+}
+
+impl FromJson for InternalDraft {
+    ghost use Rattle.grid_json.specs.Network.{internal_at};
+
+    ghost reads = { λ _. internal_at };
+
+    #[tactic(auto, unfolding(crate::specs::Network::internal_at))]
+    fn from_json(alloc: Global, format: Format, value: &Value) -> Result<InternalDraft, ReadError> {
+        only(alloc, value, &["node1", "node2"])?;
+        let node1 = member(alloc, format, value, "node1")?;
+        let node2 = member(alloc, format, value, "node2")?;
+        Ok(InternalDraft { node1, node2 })
+    }
+}
+
+/// The members of an injection of a kind.
+fn names_of_injection(kind: InjectionKind) -> &'static [&'static str]
+    ensures { texts result.now ≡ injection_names kind }
+{
+    match kind {
+        InjectionKind::Load => &["kind", "id", "node", "p0", "q0"],
+        InjectionKind::Generator => &[
+            "kind", "id", "node", "target_p", "target_v", "min_p", "max_p",
+        ],
+        InjectionKind::Battery => &[
+            "kind", "id", "node", "target_p", "target_q", "min_p", "max_p",
+        ],
+        InjectionKind::ShuntCompensator => {
+            &["kind", "id", "node", "section_count", "max_sections"]
+        }
+        InjectionKind::StaticVarCompensator => &["kind", "id", "node", "target_q"],
+    }
+}
+
+/// The record of an injection of a kind.
+#[tactic(auto, unfolding(crate::specs::Network::item_at))]
+pub fn item_of(
+    alloc: Global,
+    format: Format,
+    kind: InjectionKind,
+    value: &Value,
+) -> Result<Injection, ReadError>
+    ensures { Gives result (item_at kind (view value.now)) }
+{
+    match kind {
+        InjectionKind::Load => {
+            let p0 = member(alloc, format, value, "p0")?;
+            let q0 = member(alloc, format, value, "q0")?;
+            Ok(Injection::Load { p0, q0 })
+        }
+        InjectionKind::Generator => {
+            let target_p = member(alloc, format, value, "target_p")?;
+            let target_v = member(alloc, format, value, "target_v")?;
+            let min_p = member(alloc, format, value, "min_p")?;
+            let max_p = member(alloc, format, value, "max_p")?;
+            Ok(Injection::Generator {
+                target_p,
+                target_v,
+                min_p,
+                max_p,
+            })
+        }
+        InjectionKind::Battery => {
+            let target_p = member(alloc, format, value, "target_p")?;
+            let target_q = member(alloc, format, value, "target_q")?;
+            let min_p = member(alloc, format, value, "min_p")?;
+            let max_p = member(alloc, format, value, "max_p")?;
+            Ok(Injection::Battery {
+                target_p,
+                target_q,
+                min_p,
+                max_p,
+            })
+        }
+        InjectionKind::ShuntCompensator => {
+            let section_count = member(alloc, format, value, "section_count")?;
+            let max_sections = member(alloc, format, value, "max_sections")?;
+            Ok(Injection::ShuntCompensator {
+                section_count,
+                max_sections,
+            })
+        }
+        InjectionKind::StaticVarCompensator => {
+            let target_q = member(alloc, format, value, "target_q")?;
+            Ok(Injection::StaticVarCompensator { target_q })
+        }
+    }
+}
+
+impl FromJson for InjectionDraft {
+    ghost use Rattle.grid_json.specs.Network.{injection_at};
+
+    ghost reads = { injection_at };
+
+    #[tactic(auto, unfolding(crate::specs::Network::injection_at))]
+    fn from_json(alloc: Global, format: Format, value: &Value) -> Result<InjectionDraft, ReadError> {
+        object(alloc, value)?;
+        let kind = member(alloc, format, value, "kind")?;
+        only(alloc, value, names_of_injection(kind))?;
+        let id = member(alloc, format, value, "id")?;
+        let node = member(alloc, format, value, "node")?;
+        let item = item_of(alloc, format, kind, value)?;
+        Ok(InjectionDraft { id, node, item })
+    }
+}
+
+impl FromJson for LevelDraft {
+    ghost use Rattle.grid_json.specs.Network.{level_at};
+
+    ghost reads = { level_at };
+
+    #[tactic(auto, unfolding(crate::specs::Network::level_at))]
+    fn from_json(alloc: Global, format: Format, value: &Value) -> Result<LevelDraft, ReadError> {
+        only(
+            alloc,
+            value,
+            &[
+                "id", "nominal_v", "low_v", "high_v", "busbars", "switches", "internal",
+                "injections",
+            ],
+        )?;
+        let id = member(alloc, format, value, "id")?;
+        let nominal_v = member(alloc, format, value, "nominal_v")?;
+        let low_v = optional(alloc, format, value, "low_v")?;
+        let high_v = optional(alloc, format, value, "high_v")?;
+        let busbars = member_otherwise(alloc, format, value, "busbars", Seq::empty(alloc))?;
+        let switches = member_otherwise(alloc, format, value, "switches", Seq::empty(alloc))?;
+        let internals = member_otherwise(alloc, format, value, "internal", Seq::empty(alloc))?;
+        let injections = member_otherwise(alloc, format, value, "injections", Seq::empty(alloc))?;
+        Ok(LevelDraft {
+            id,
+            nominal_v,
+            low_v,
+            high_v,
+            busbars,
+            switches,
+            internals,
+            injections,
+        })
+    }
+}
+
+/// The windings of a kind.
+#[tactic(auto, unfolding(crate::specs::Network::windings_at))]
+pub fn windings_of(
+    alloc: Global,
+    format: Format,
+    kind: WindingsKind,
+    value: &Value,
+) -> Result<Windings, ReadError>
+    ensures { Gives result (windings_at kind (view value.now)) }
+{
+    match kind {
+        WindingsKind::Two => {
+            let ends = member(alloc, format, value, "ends")?;
+            let rated_u = member(alloc, format, value, "rated_u")?;
+            Ok(Windings::Two { ends, rated_u })
+        }
+        WindingsKind::Three => {
+            let ends = member(alloc, format, value, "ends")?;
+            let rated_u = member(alloc, format, value, "rated_u")?;
+            Ok(Windings::Three { ends, rated_u })
+        }
+    }
+}
+
+impl FromJson for TransformerDraft {
+    ghost use Rattle.grid_json.specs.Network.{transformer_at};
+
+    ghost reads = { transformer_at };
+
+    #[tactic(auto, unfolding(crate::specs::Network::transformer_at))]
+    fn from_json(alloc: Global, format: Format, value: &Value) -> Result<TransformerDraft, ReadError> {
+        object(alloc, value)?;
+        let kind = member(alloc, format, value, "kind")?;
+        only(alloc, value, &["kind", "id", "ends", "rated_u"])?;
+        let id = member(alloc, format, value, "id")?;
+        let windings = windings_of(alloc, format, kind, value)?;
+        Ok(TransformerDraft { id, windings })
+    }
+}
+
+impl FromJson for LineDraft {
+    ghost use Rattle.grid_json.specs.Network.{line_at};
+
+    ghost reads = { λ _. line_at };
+
+    #[tactic(auto, unfolding(crate::specs::Network::line_at))]
+    fn from_json(alloc: Global, format: Format, value: &Value) -> Result<LineDraft, ReadError> {
+        only(alloc, value, &["id", "ends"])?;
+        let id = member(alloc, format, value, "id")?;
+        let ends = member(alloc, format, value, "ends")?;
+        Ok(LineDraft { id, ends })
+    }
+}
+
+impl FromJson for SubstationDraft {
+    ghost use Rattle.grid_json.specs.Network.{substation_at};
+
+    ghost reads = { substation_at };
+
+    #[tactic(auto, unfolding(crate::specs::Network::substation_at))]
+    fn from_json(alloc: Global, format: Format, value: &Value) -> Result<SubstationDraft, ReadError> {
+        only(alloc, value, &["id", "levels", "transformers"])?;
+        let id = member(alloc, format, value, "id")?;
+        let levels = member_otherwise(alloc, format, value, "levels", Seq::empty(alloc))?;
+        let transformers =
+            member_otherwise(alloc, format, value, "transformers", Seq::empty(alloc))?;
+        Ok(SubstationDraft {
+            id,
+            levels,
+            transformers,
+        })
+    }
+}
+
+impl FromJson for NetworkDraft {
+    ghost use Rattle.grid_json.specs.Network.{network_at};
+
+    ghost reads = { network_at };
+
+    #[tactic(auto, unfolding(crate::specs::Network::network_at))]
+    fn from_json(alloc: Global, format: Format, value: &Value) -> Result<NetworkDraft, ReadError> {
+        only(alloc, value, &["id", "substations", "lines"])?;
+        let id = member(alloc, format, value, "id")?;
+        let substations = member_otherwise(alloc, format, value, "substations", Seq::empty(alloc))?;
+        let lines = member_otherwise(alloc, format, value, "lines", Seq::empty(alloc))?;
+        Ok(NetworkDraft {
+            id,
+            substations,
+            lines,
+        })
+    }
+}
