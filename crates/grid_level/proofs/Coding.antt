@@ -1,11 +1,10 @@
 -- From what a level keeps to what its code promises.
-use Rattle.std.proofs.Common.{◌≡◌, refl, sym, ap, ◌∙◌, subst, ℕ, ℤ, zero, suc, ◌+◌, ◌-◌, ◌*◌, ◌<◌, ◌≤◌, Bool, true, false, cond, not, List, [], ◌∷◌, ◌++◌, length, arith, Option, Some, None, append_assoc, get_or, take, drop}
-use Rattle.std.specs.Prelude.{map, flat_map, nat_lt, ◌==◌, if◌then◌else◌, Result, Ok, Err, slice_get, remove, filter, position}
+use Rattle.std.proofs.Common.{◌≡◌, refl, sym, ap, ◌∙◌, ℕ, ℤ, zero, suc, ◌+◌, ◌*◌, ◌<◌, ◌≤◌, Bool, true, false, cond, not, List, [], ◌∷◌, ◌++◌, length, arith, Option, Some, None, get_or, take, drop}
+use Rattle.std.specs.Prelude.{nat_lt, Result, Ok, Err, slice_get, remove, position}
 use Rattle.std.specs.List.{list_all, position_or_len}
 use Rattle.std.specs.Option.{option_map}
 use Rattle.std.proofs.lemmas.Bool.{and_parts, ltb-true, ltb-false, lt-ltb, le-ltb, ne_eqb}
 use Rattle.std.proofs.lemmas.List.{length-append}
-use Rattle.std.proofs.lemmas.Grind.{common_steps}
 use Rattle.grid_ids.specs.Refusing.{◌>>=◌, map_fault, found_or}
 use Rattle.grid_level.specs.declared.uses.Use.{Use}
 use Rattle.grid_level.specs.declared.Placed.{Placed}
@@ -13,15 +12,15 @@ use Rattle.grid_level.specs.declared.Switch.{Switch}
 use Rattle.grid_level.specs.declared.Internal.{Internal}
 use Rattle.grid_level.specs.declared.LevelFault.{LevelFault}
 use Rattle.grid_level.specs.VoltageLevel.{VoltageLevel}
-use Rattle.grid_level.specs.Uses.{place_among, key_here, with_use, without_use, tally, used_nodes, total}
+use Rattle.grid_level.specs.Uses.{key_here, with_use, without_use, tally, used_nodes, total}
 use Rattle.grid_level.specs.Passing.{edges, named, nodes, with_node, rising, is_rising}
 use Rattle.grid_level.specs.Kept.{IsKept, lists_of}
-use Rattle.grid_level.specs.LevelEdits.{Unfit, max_edges, max_nodes, level_fault_of, refusal_of, edge_fits, level_with_switch, level_with_internal, level_without_internal, without_first, joins, no_edge}
+use Rattle.grid_level.specs.LevelEdits.{Unfit, level_fault_of, refusal_of, edge_fits, level_with_switch, level_with_internal, level_without_internal, without_first, joins, no_edge}
 use Rattle.grid_level.specs.declared.LevelFault.TheVariants as faults
 use Rattle.grid_kinds.specs.declared.SwitchKind.{SwitchKind}
 use Rattle.grid_level.proofs.Counting.{length-with_node, total-tally, tally_nodes, walk-used, walk-with_node, without-with}
-use Rattle.grid_level.proofs.Keeping.{named_is, length-edges, switch_nodes, internal_nodes, placed_nodes, switch_nodes-append, shrunk, shrunk_nodes, grown, grown_nodes, kept_switch, with_switch}
-use Rattle.grid_level.proofs.Editing.{drop_some, named_is_left, fitting, with_internal, named_internal, named_cut, named_left}
+use Rattle.grid_level.proofs.Keeping.{named_is, length-edges, switch_nodes, internal_nodes, placed_nodes, shrunk, grown}
+use Rattle.grid_level.proofs.Editing.{drop_some, named_is_left, fitting, node_of-le, with_switch, named_switch, switch_within, named_switch_cut, named_switch_left, switch_cut_within, with_internal, named_internal, internal_within, named_cut, named_left, cut_within}
 
 pub map_ok : {A : Type 0} (r : Result A Unfit) (x : A) → Ok x ≡ map_fault level_fault_of r → r ≡ Ok x
 map_ok (Ok y) x h = cc
@@ -83,48 +82,45 @@ pub few_placed : (level : VoltageLevel) (uses : List Use) → IsKept level uses 
 unfolding nodes
 few_placed level uses k =
     let front = switch_nodes level.switches ++ internal_nodes level.internals in
-    let self : length (rising (placed_nodes level.placed)) ≡ length level.placed = ap length (rising_self (placed_nodes level.placed) k.placed_rise) ∙ length_nodes_placed level.placed in
+    let self : length (rising (placed_nodes level.placed)) ≡ length level.placed = ap length (rising_self (placed_nodes level.placed) k.within.rise) ∙ length_nodes_placed level.placed in
     let all : length (rising (named level)) ≡ length (rising (front ++ placed_nodes level.placed)) = ap (λ z. length (rising z)) (named_is_left level) in
-    omega (arith, self, all, drop_some [] front (placed_nodes level.placed), k.few_nodes)
+    omega (arith, self, all, drop_some [] front (placed_nodes level.placed), k.within.few_nodes)
+
+pub room_is : (level : VoltageLevel) (uses : List Use) (n : ℕ) → IsKept level uses → length (with_node n (nodes level)) ≡ length uses + cond (key_here (λ u. u.node) n uses) 0 1
+room_is level uses n k =
+    let has : key_here (λ u. u.node) n uses ≡ key_here (λ m. m) n (nodes level) = walk-used n uses ∙ ap (key_here (λ m. m) n) (used_is level uses k) in
+    length-with_node n (nodes level) ∙ ap (λ t. length (nodes level) + cond t 0 1) (sym has) ∙ ap (λ z. z + cond (key_here (λ u. u.node) n uses) 0 1) (sym (nodes_counted level uses k))
 
 pub few_uses : (level : VoltageLevel) (uses : List Use) → IsKept level uses → total uses < 65535
 few_uses level uses k =
     let count : total uses ≡ length (named level) = ap total k.counted ∙ total-tally (named level) in
     let long : length (named level) ≡ length (switch_nodes level.switches) + (length (internal_nodes level.internals) + length (placed_nodes level.placed)) =
     ap length (named_is level) ∙ length-append (switch_nodes level.switches) (internal_nodes level.internals ++ placed_nodes level.placed) ∙ ap (λ z. length (switch_nodes level.switches) + z) (length-append (internal_nodes level.internals) (placed_nodes level.placed)) in
-    omega (arith, count, long, length_switch_nodes level.switches, length_internal_nodes level.internals, length_nodes_placed level.placed, few_placed level uses k, k.few_edges, length-edges level)
+    omega (arith, count, long, length_switch_nodes level.switches, length_internal_nodes level.internals, length_nodes_placed level.placed, few_placed level uses k, k.within.few_edges, length-edges level)
 
 pub edges_bound : (level : VoltageLevel) (uses : List Use) → IsKept level uses → length level.switches + length level.internals ≤ 4096
-edges_bound level uses k = omega (arith, k.few_edges, length-edges level)
+edges_bound level uses k = omega (arith, k.within.few_edges, length-edges level)
 
 -- ---- a switch less
 
 abbrev pub without_place : VoltageLevel → ℕ → VoltageLevel
 without_place level place = record level { switches = remove level.switches place }
 
-cut_at : {X : Type 0} (xs : List X) (i : ℕ) (x : X) → i < length xs → x ≡ get_or xs i x → xs ≡ take i xs ++ x ∷ drop (suc i) xs
+pub cut_at : {X : Type 0} (xs : List X) (i : ℕ) (x : X) → i < length xs → x ≡ get_or xs i x → xs ≡ take i xs ++ x ∷ drop (suc i) xs
 cut_at [] i x l e = absurd (omega arith)
 cut_at (y ∷ xs) zero x l e = ap (λ z. z ∷ xs) (sym e)
 cut_at (y ∷ xs) (suc i) x l e = ap (λ z. y ∷ z) (cut_at xs i x (omega arith) e)
 
 pub kept_without : (level : VoltageLevel) (uses : List Use) (place : ℕ) (s : Switch) → IsKept level uses → place < length level.switches → s ≡ get_or level.switches place s
     → IsKept (without_place level place) (without_use s.node2 (without_use s.node1 uses))
-unfolding nodes
 kept_without level uses place s k l e =
     let rest = internal_nodes level.internals ++ placed_nodes level.placed in
     let front = take place level.switches in
     let back = drop (suc place) level.switches in
     let cut : level.switches ≡ front ++ s ∷ back = cut_at level.switches place s l e in
-    let was : named level ≡ switch_nodes front ++ s.node1 ∷ s.node2 ∷ (switch_nodes back ++ rest) = named_is level ∙ ap (λ z. switch_nodes z ++ rest) cut ∙ ap (λ z. z ++ rest) (switch_nodes-append front (s ∷ back)) ∙ append_assoc (switch_nodes front) (switch_nodes (s ∷ back)) rest in
-    let is : named (without_place level place) ≡ switch_nodes front ++ (switch_nodes back ++ rest) = named_is (without_place level place) ∙ ap (λ z. z ++ rest) (switch_nodes-append front back) ∙ append_assoc (switch_nodes front) (switch_nodes back) rest in
-    let had : length level.switches ≡ length front + suc (length back) = ap length cut ∙ length-append front (s ∷ back) in
-    let has : length (remove level.switches place) ≡ length front + length back = length-append front back in
-    let few : length (rising (switch_nodes front ++ s.node1 ∷ s.node2 ∷ (switch_nodes back ++ rest))) ≤ max_nodes = rw was at k.few_nodes in
     record {
-      counted = ap (λ z. without_use s.node2 (without_use s.node1 z)) (k.counted ∙ ap tally was) ∙ sym (shrunk (switch_nodes front) s.node1 s.node2 (switch_nodes back ++ rest)) ∙ ap tally (sym is);
-      placed_rise = k.placed_rise;
-      few_edges = omega (arith, k.few_edges, had, has, length-edges level, length-edges (without_place level place));
-      few_nodes = rw is (omega (arith, few, shrunk_nodes (switch_nodes front) s.node1 s.node2 (switch_nodes back ++ rest)));
+      counted = ap (λ z. without_use s.node2 (without_use s.node1 z)) (k.counted ∙ ap tally (named_switch_cut level front back s cut)) ∙ sym (shrunk (switch_nodes front) s.node1 s.node2 (switch_nodes back ++ rest)) ∙ ap tally (sym (named_switch_left level front back));
+      within = switch_cut_within level front back s cut k.within;
     }
 
 -- undone: the uses are as they were
@@ -159,16 +155,24 @@ pub switch_done : (level : VoltageLevel) (id : List ℕ) (kind : SwitchKind) (no
 unfolding level_with_switch
 switch_done level id kind node1 node2 opened retained fictitious a b h = rw (map_ok (edge_fits level node1 node2) (a, b) h) refl
 
+abbrev pub switch_of : List ℕ → SwitchKind → ℕ → ℕ → Bool → Bool → Bool → Switch
+switch_of id kind a b opened retained fictitious = record { id = id; kind = kind; node1 = a; node2 = b; opened = opened; retained = retained; fictitious = fictitious }
+
 pub switch_kept : (level : VoltageLevel) (uses : List Use) (id : List ℕ) (kind : SwitchKind) (node1 node2 : ℤ) (opened retained fictitious : Bool) (a b : ℕ) → IsKept level uses
     → Ok (a, b) ≡ map_fault level_fault_of (edge_fits level node1 node2)
-    → IsKept (with_switch level (record { id = id; kind = kind; node1 = a; node2 = b; opened = opened; retained = retained; fictitious = fictitious })) (with_use a (with_use b uses))
+    → IsKept (with_switch level (switch_of id kind a b opened retained fictitious)) (with_use a (with_use b uses))
 switch_kept level uses id kind node1 node2 opened retained fictitious a b k h =
     let f = fitting level node1 node2 (a, b) (map_ok (edge_fits level node1 node2) (a, b) h) in
-    kept_switch level uses (record { id = id; kind = kind; node1 = a; node2 = b; opened = opened; retained = retained; fictitious = fictitious }) k f.room f.few
+    let s = switch_of id kind a b opened retained fictitious in
+    let rest = internal_nodes level.internals ++ placed_nodes level.placed in
+    record {
+      counted = ap (λ z. with_use a (with_use b z)) (k.counted ∙ ap tally (named_is level)) ∙ sym (grown (switch_nodes level.switches) a b rest) ∙ ap tally (sym (named_switch level s));
+      within = switch_within level s k.within (node_of-le node1 a f.first) (node_of-le node2 b f.second) f.apart f.room f.few;
+    }
 
 pub empty_kept : (id : List ℕ) (nominal_v : ℤ) (low_v high_v : Option ℤ) → IsKept (lists_of id nominal_v low_v high_v [] [] []) []
 unfolding tally named nodes edges rising is_rising
-empty_kept id nominal_v low_v high_v = record { counted = refl; placed_rise = refl; few_edges = omega arith; few_nodes = omega arith }
+empty_kept id nominal_v low_v high_v = record { counted = refl; within = record { in_range = refl; few_nodes = omega arith; few_edges = omega arith; differ = refl; rise = refl } }
 
 pub get_some : {X : Type 0} (xs : List X) (i : ℕ) (x : X) → i < length xs → x ≡ get_or xs i x → slice_get xs i ≡ Some x
 get_some [] i x l e = absurd (omega arith)
@@ -194,20 +198,13 @@ internal_done level node1 node2 a b h = rw (map_ok (edge_fits level node1 node2)
 
 pub internal_kept : (level : VoltageLevel) (uses : List Use) (node1 node2 : ℤ) (a b : ℕ) → IsKept level uses → Ok (a, b) ≡ map_fault level_fault_of (edge_fits level node1 node2)
     → IsKept (with_internal level (internal_of a b)) (with_use a (with_use b uses))
-unfolding nodes
 internal_kept level uses node1 node2 a b k h =
     let f = fitting level node1 node2 (a, b) (map_ok (edge_fits level node1 node2) (a, b) h) in
     let i = internal_of a b in
     let front = switch_nodes level.switches ++ internal_nodes level.internals in
-    let is : named (with_internal level i) ≡ front ++ a ∷ b ∷ placed_nodes level.placed = named_internal level i in
-    let was : named level ≡ front ++ placed_nodes level.placed = named_is_left level in
-    let few : length (with_node a (with_node b (rising (front ++ placed_nodes level.placed)))) ≤ max_nodes = rw was at f.few in
-    let long : length (level.internals ++ i ∷ []) ≡ length level.internals + 1 = length-append level.internals (i ∷ []) in
     record {
-      counted = ap (λ z. with_use a (with_use b z)) (k.counted ∙ ap tally was) ∙ sym (grown front a b (placed_nodes level.placed)) ∙ ap tally (sym is);
-      placed_rise = k.placed_rise;
-      few_edges = omega (arith, f.room, long, length-edges level, length-edges (with_internal level i));
-      few_nodes = rw (is, grown_nodes front a b (placed_nodes level.placed)) few;
+      counted = ap (λ z. with_use a (with_use b z)) (k.counted ∙ ap tally (named_is_left level)) ∙ sym (grown front a b (placed_nodes level.placed)) ∙ ap tally (sym (named_internal level i));
+      within = internal_within level i k.within (node_of-le node1 a f.first) (node_of-le node2 b f.second) f.apart f.room f.few;
     }
 
 abbrev pub internal_cut : VoltageLevel → ℕ → VoltageLevel
@@ -215,23 +212,15 @@ internal_cut level place = record level { internals = remove level.internals pla
 
 pub kept_cut : (level : VoltageLevel) (uses : List Use) (place : ℕ) (i : Internal) → IsKept level uses → place < length level.internals → i ≡ get_or level.internals place i
     → IsKept (internal_cut level place) (without_use i.node2 (without_use i.node1 uses))
-unfolding nodes
 kept_cut level uses place i k l e =
     let front = take place level.internals in
     let back = drop (suc place) level.internals in
     let cut : level.internals ≡ front ++ i ∷ back = cut_at level.internals place i l e in
     let first = switch_nodes level.switches ++ internal_nodes front in
     let rest = internal_nodes back ++ placed_nodes level.placed in
-    let was : named level ≡ first ++ i.node1 ∷ i.node2 ∷ rest = named_cut level front back i cut in
-    let is : named (internal_cut level place) ≡ first ++ rest = named_left level front back in
-    let had : length level.internals ≡ length front + suc (length back) = ap length cut ∙ length-append front (i ∷ back) in
-    let has : length (remove level.internals place) ≡ length front + length back = length-append front back in
-    let few : length (rising (first ++ i.node1 ∷ i.node2 ∷ rest)) ≤ max_nodes = rw was at k.few_nodes in
     record {
-      counted = ap (λ z. without_use i.node2 (without_use i.node1 z)) (k.counted ∙ ap tally was) ∙ sym (shrunk first i.node1 i.node2 rest) ∙ ap tally (sym is);
-      placed_rise = k.placed_rise;
-      few_edges = omega (arith, k.few_edges, had, has, length-edges level, length-edges (internal_cut level place));
-      few_nodes = rw is (omega (arith, few, shrunk_nodes first i.node1 i.node2 rest));
+      counted = ap (λ z. without_use i.node2 (without_use i.node1 z)) (k.counted ∙ ap tally (named_cut level front back i cut)) ∙ sym (shrunk first i.node1 i.node2 rest) ∙ ap tally (sym (named_left level front back));
+      within = cut_within level front back i cut k.within;
     }
 
 -- ---- the first that passes, by its place

@@ -1,37 +1,30 @@
 -- What the definitions of a level's edits make of its rules.
-use Rattle.std.proofs.Common.{◌≡◌, refl, sym, ap, ◌∙◌, subst, ℕ, ℤ, pos, negsuc, zero, suc, ◌+◌, ◌-◌, ◌*◌, ◌<◌, ◌≤◌, Bool, true, false, cond, not, ◌&&◌, ◌||◌, List, [], ◌∷◌, ◌++◌, length, arith, inl, inr, ◌⊎◌, Option, Some, None, append_assoc}
-use Rattle.std.specs.Prelude.{map, flat_map, nat_lt, nat_le, ◌==◌, if◌then◌else◌, filter, find, Result, Ok, Err, is_none}
+use Rattle.std.proofs.Common.{◌≡◌, refl, sym, ap, ◌∙◌, subst, ℕ, ℤ, pos, negsuc, suc, ◌+◌, ◌<◌, ◌≤◌, Bool, true, false, cond, ◌&&◌, List, [], ◌∷◌, ◌++◌, length, arith, Option, Some, None, append_assoc}
+use Rattle.std.specs.Prelude.{map, flat_map, nat_lt, nat_le, ◌==◌, filter, Result, Ok, Err, is_none}
 use Rattle.std.specs.Option.{option_map}
 use Rattle.std.specs.List.{list_all}
-use Rattle.std.proofs.lemmas.Bool.{cases_Bool, and_parts, and_from, false≢true, true≢false, leb-true, le-leb, ltb-true, ltb-false, leb-false, eqb-true, eqb-false, not-true, not_from_false}
-use Rattle.std.proofs.lemmas.Bool.Decides.{nat_tests}
+use Rattle.std.proofs.lemmas.Bool.{and_parts, and_from, leb-true, le-leb, ltb-false, leb-false, not_from_false}
 use Rattle.std.proofs.lemmas.Grind.{common_steps}
 use Rattle.std.proofs.lemmas.List.{append-nil, map-append}
 use Rattle.std.proofs.lemmas.List.Folds.{list_all-append}
-use Rattle.grid_ids.specs.Name.{same_id}
-use Rattle.grid_ids.specs.Refusing.{◌>>=◌, refuse_if, found_or}
+use Rattle.grid_ids.specs.Refusing.{◌>>=◌, refuse_if}
 use Rattle.grid_kinds.specs.Records.{level_fault}
 use Rattle.grid_level.specs.declared.Placed.{Placed}
-use Rattle.grid_level.specs.declared.Terminal.{Terminal}
-use Rattle.grid_level.specs.declared.Stand.{Stand}
 use Rattle.grid_level.specs.declared.Switch.{Switch}
 use Rattle.grid_level.specs.declared.Internal.{Internal}
 use Rattle.grid_level.specs.VoltageLevel.{VoltageLevel}
-use Rattle.grid_level.specs.Passing.{Edge, switch_edge, internal_edge, edges, ends, both, named, nodes, with_node, rising, is_rising, placed_at, stands_at, is_branch_end}
-use Rattle.grid_level.specs.LevelEdits.{Unfit, node_range, node_taken, same_node, no_edge, too_many_nodes, too_many_edges, max_node, max_edges, max_nodes, node_of, edge_fits, level_with_switch, level_with_internal, level_without_internal, level_with_terminal, with_placed, refuse_taken, without_first, joins}
+use Rattle.grid_level.specs.Passing.{switch_edge, internal_edge, edges, ends, named, nodes, with_node, rising, is_rising}
+use Rattle.grid_level.specs.LevelEdits.{Unfit, node_range, same_node, too_many_nodes, too_many_edges, max_node, max_edges, max_nodes, node_of, edge_fits, without_first}
 use Rattle.grid_level.specs.Sound.{stand_passes, ends_differ, level_passes}
+use Rattle.grid_level.specs.Kept.{IsWithin}
 use Rattle.grid_level.proofs.Counting.{length-with_node, rising_insert}
-use Rattle.grid_level.proofs.Places.{list_all-with_node, rising-with_node}
+use Rattle.grid_level.proofs.Places.{list_all-with_node}
 use Rattle.grid_level.proofs.Keeping.{switch_nodes, internal_nodes, placed_nodes, named_is, length-edges, switch_nodes-append, internal_nodes-append, grown_nodes, shrunk_nodes}
 
 -- ---- the rules by name
 
 pub record Passes (level : VoltageLevel) : Type 0 where
-  pub in_range : list_all (λ n. nat_le n max_node) (named level) ≡ true
-  pub few_nodes : length (nodes level) ≤ max_nodes
-  pub few_edges : length (edges level) ≤ max_edges
-  pub differ : list_all ends_differ (edges level) ≡ true
-  pub rise : is_rising (map (λ (p : Placed). p.node) level.placed) ≡ true
+  pub within : IsWithin level
   pub stands : list_all stand_passes level.placed ≡ true
   pub volts : is_none (level_fault level.nominal_v level.low_v level.high_v) ≡ true
 
@@ -45,11 +38,13 @@ unfolding level_passes nodes
 passes_of level h =
     let a = and_parts _ _ h in let b = and_parts _ _ a.1 in let d = and_parts _ _ b.1 in let e = and_parts _ _ d.1 in let f = and_parts _ _ e.1 in let g = and_parts _ _ f.1 in
     record {
-      in_range = sym (list_all-rising (λ n. nat_le n max_node) (named level)) ∙ a.0;
-      few_nodes = leb-true _ _ b.0;
-      few_edges = leb-true _ _ d.0;
-      differ = e.0;
-      rise = f.0;
+      within = record {
+        in_range = sym (list_all-rising (λ n. nat_le n max_node) (named level)) ∙ a.0;
+        few_nodes = leb-true _ _ b.0;
+        few_edges = leb-true _ _ d.0;
+        differ = e.0;
+        rise = f.0;
+      };
       stands = g.0;
       volts = g.1;
     }
@@ -57,8 +52,9 @@ passes_of level h =
 pub passes_from : (level : VoltageLevel) → Passes level → level_passes level ≡ true
 unfolding level_passes nodes
 passes_from level k =
-    and_from _ _ (list_all-rising (λ n. nat_le n max_node) (named level) ∙ k.in_range) (and_from _ _ (le-leb _ _ k.few_nodes) (and_from _ _ (le-leb _ _ k.few_edges)
-    (and_from _ _ k.differ (and_from _ _ k.rise (and_from _ _ k.stands k.volts)))))
+    let w = k.within in
+    and_from _ _ (list_all-rising (λ n. nat_le n max_node) (named level) ∙ w.in_range) (and_from _ _ (le-leb _ _ w.few_nodes) (and_from _ _ (le-leb _ _ w.few_edges)
+    (and_from _ _ w.differ (and_from _ _ w.rise (and_from _ _ k.stands k.volts)))))
 
 pub all_parts : {X : Type 0} (p : X → Bool) (xs ys : List X) → list_all p (xs ++ ys) ≡ true → (list_all p xs ≡ true) × (list_all p ys ≡ true)
 all_parts p xs ys h = and_parts _ _ (sym (list_all-append p xs ys) ∙ h)
@@ -143,7 +139,7 @@ with_internal level i = record level { internals = level.internals ++ i ∷ [] }
 rest_of : VoltageLevel → List ℕ
 rest_of level = internal_nodes level.internals ++ placed_nodes level.placed
 
-named_switch : (level : VoltageLevel) (s : Switch) → named (with_switch level s) ≡ switch_nodes level.switches ++ s.node1 ∷ s.node2 ∷ (internal_nodes level.internals ++ placed_nodes level.placed)
+pub named_switch : (level : VoltageLevel) (s : Switch) → named (with_switch level s) ≡ switch_nodes level.switches ++ s.node1 ∷ s.node2 ∷ (internal_nodes level.internals ++ placed_nodes level.placed)
 named_switch level s = named_is (with_switch level s) ∙ rw (switch_nodes-append level.switches (s ∷ []), append_assoc) refl
 
 pub named_internal : (level : VoltageLevel) (i : Internal) → named (with_internal level i) ≡ (switch_nodes level.switches ++ internal_nodes level.internals) ++ i.node1 ∷ i.node2 ∷ placed_nodes level.placed
@@ -155,10 +151,10 @@ named_is_left level = named_is level ∙ sym (append_assoc (switch_nodes level.s
 two_more : (p : ℕ → Bool) (P : List ℕ) (a b : ℕ) (Q : List ℕ) → p a ≡ true → p b ≡ true → list_all p (P ++ Q) ≡ true → list_all p (P ++ a ∷ b ∷ Q) ≡ true
 two_more p P a b Q ha hb h = let parts = all_parts p P Q h in all_join p P (a ∷ b ∷ Q) parts.0 (and_from _ _ ha (and_from _ _ hb parts.1))
 
-pub switch_passes_on : (level : VoltageLevel) (s : Switch) → Passes level → s.node1 ≤ max_node → s.node2 ≤ max_node → (s.node1 == s.node2) ≡ false
-    → length (edges level) < max_edges → length (with_node s.node1 (with_node s.node2 (nodes level))) ≤ max_nodes → Passes (with_switch level s)
+pub switch_within : (level : VoltageLevel) (s : Switch) → IsWithin level → s.node1 ≤ max_node → s.node2 ≤ max_node → (s.node1 == s.node2) ≡ false
+    → length (edges level) < max_edges → length (with_node s.node1 (with_node s.node2 (nodes level))) ≤ max_nodes → IsWithin (with_switch level s)
 unfolding nodes edges ends_differ ends
-switch_passes_on level s k a b apart room few = record {
+switch_within level s k a b apart room few = record {
   in_range = rw (named_switch level s) (two_more (λ n. nat_le n max_node) (switch_nodes level.switches) s.node1 s.node2 (internal_nodes level.internals ++ placed_nodes level.placed) (le-leb s.node1 max_node a) (le-leb s.node2 max_node b) (rw (named_is level) at k.in_range));
   few_nodes = rw (named_switch level s, grown_nodes (switch_nodes level.switches) s.node1 s.node2 (internal_nodes level.internals ++ placed_nodes level.placed)) (rw (named_is level) at few);
   few_edges = (let more : length (level.switches ++ s ∷ []) ≡ length level.switches + 1 = grind (arith, common_steps) in omega (arith, length-edges (with_switch level s), length-edges level));
@@ -166,14 +162,16 @@ switch_passes_on level s k a b apart room few = record {
       all_join ends_differ (map switch_edge (level.switches ++ s ∷ [])) (map internal_edge level.internals)
       (rw (map-append switch_edge level.switches (s ∷ [])) (all_join ends_differ (map switch_edge level.switches) (switch_edge s ∷ []) parts.0 (and_from _ _ (not_from_false _ apart) refl))) parts.1);
   rise = k.rise;
-  stands = k.stands;
-  volts = k.volts;
 }
 
-pub internal_passes_on : (level : VoltageLevel) (i : Internal) → Passes level → i.node1 ≤ max_node → i.node2 ≤ max_node → (i.node1 == i.node2) ≡ false
-    → length (edges level) < max_edges → length (with_node i.node1 (with_node i.node2 (nodes level))) ≤ max_nodes → Passes (with_internal level i)
+pub switch_passes_on : (level : VoltageLevel) (s : Switch) → Passes level → s.node1 ≤ max_node → s.node2 ≤ max_node → (s.node1 == s.node2) ≡ false
+    → length (edges level) < max_edges → length (with_node s.node1 (with_node s.node2 (nodes level))) ≤ max_nodes → Passes (with_switch level s)
+switch_passes_on level s k a b apart room few = record { within = switch_within level s k.within a b apart room few; stands = k.stands; volts = k.volts }
+
+pub internal_within : (level : VoltageLevel) (i : Internal) → IsWithin level → i.node1 ≤ max_node → i.node2 ≤ max_node → (i.node1 == i.node2) ≡ false
+    → length (edges level) < max_edges → length (with_node i.node1 (with_node i.node2 (nodes level))) ≤ max_nodes → IsWithin (with_internal level i)
 unfolding nodes edges ends_differ ends
-internal_passes_on level i k a b apart room few = record {
+internal_within level i k a b apart room few = record {
   in_range = rw (named_internal level i) (two_more (λ n. nat_le n max_node) (switch_nodes level.switches ++ internal_nodes level.internals) i.node1 i.node2 (placed_nodes level.placed) (le-leb i.node1 max_node a) (le-leb i.node2 max_node b) (rw (named_is_left level) at k.in_range));
   few_nodes = rw (named_internal level i, grown_nodes (switch_nodes level.switches ++ internal_nodes level.internals) i.node1 i.node2 (placed_nodes level.placed)) (rw (named_is_left level) at few);
   few_edges = (let more : length (level.internals ++ i ∷ []) ≡ length level.internals + 1 = grind (arith, common_steps) in omega (arith, length-edges (with_internal level i), length-edges level));
@@ -181,9 +179,11 @@ internal_passes_on level i k a b apart room few = record {
       all_join ends_differ (map switch_edge level.switches) (map internal_edge (level.internals ++ i ∷ [])) parts.0
       (rw (map-append internal_edge level.internals (i ∷ [])) (all_join ends_differ (map internal_edge level.internals) (internal_edge i ∷ []) parts.1 (and_from _ _ (not_from_false _ apart) refl))));
   rise = k.rise;
-  stands = k.stands;
-  volts = k.volts;
 }
+
+pub internal_passes_on : (level : VoltageLevel) (i : Internal) → Passes level → i.node1 ≤ max_node → i.node2 ≤ max_node → (i.node1 == i.node2) ≡ false
+    → length (edges level) < max_edges → length (with_node i.node1 (with_node i.node2 (nodes level))) ≤ max_nodes → Passes (with_internal level i)
+internal_passes_on level i k a b apart room few = record { within = internal_within level i k.within a b apart room few; stands = k.stands; volts = k.volts }
 
 -- ---- an internal connection less
 
@@ -220,9 +220,9 @@ named_cut level xs ys i e = named_is level ∙ rw (e, internal_nodes-append xs (
 pub named_left : (level : VoltageLevel) (xs ys : List Internal) → named (with_internals level (xs ++ ys)) ≡ (switch_nodes level.switches ++ internal_nodes xs) ++ (internal_nodes ys ++ placed_nodes level.placed)
 named_left level xs ys = named_is (with_internals level (xs ++ ys)) ∙ rw (internal_nodes-append xs ys) (simp append_assoc)
 
-pub cut_passes_on : (level : VoltageLevel) (xs ys : List Internal) (i : Internal) → level.internals ≡ xs ++ i ∷ ys → Passes level → Passes (with_internals level (xs ++ ys))
+pub cut_within : (level : VoltageLevel) (xs ys : List Internal) (i : Internal) → level.internals ≡ xs ++ i ∷ ys → IsWithin level → IsWithin (with_internals level (xs ++ ys))
 unfolding nodes edges
-cut_passes_on level xs ys i e k = record {
+cut_within level xs ys i e k = record {
   in_range = rw (named_left level xs ys) (two_less (λ n. nat_le n max_node) (switch_nodes level.switches ++ internal_nodes xs) i.node1 i.node2 (internal_nodes ys ++ placed_nodes level.placed) (rw (named_cut level xs ys i e) at k.in_range));
   few_nodes = (let few : length (rising ((switch_nodes level.switches ++ internal_nodes xs) ++ i.node1 ∷ i.node2 ∷ (internal_nodes ys ++ placed_nodes level.placed))) ≤ max_nodes = rw (named_cut level xs ys i e) at k.few_nodes in
       rw (named_left level xs ys) (omega (arith, few, shrunk_nodes (switch_nodes level.switches ++ internal_nodes xs) i.node1 i.node2 (internal_nodes ys ++ placed_nodes level.placed))));
@@ -233,9 +233,39 @@ cut_passes_on level xs ys i e k = record {
       all_join ends_differ (map switch_edge level.switches) (map internal_edge (xs ++ ys)) parts.0
       (rw (map-append internal_edge xs ys) (all_join ends_differ (map internal_edge xs) (map internal_edge ys) inner.0 (and_parts _ _ inner.1).1)));
   rise = k.rise;
-  stands = k.stands;
-  volts = k.volts;
 }
+
+pub cut_passes_on : (level : VoltageLevel) (xs ys : List Internal) (i : Internal) → level.internals ≡ xs ++ i ∷ ys → Passes level → Passes (with_internals level (xs ++ ys))
+cut_passes_on level xs ys i e k = record { within = cut_within level xs ys i e k.within; stands = k.stands; volts = k.volts }
+
+-- ---- a switch less
+
+abbrev pub with_switches : VoltageLevel → List Switch → VoltageLevel
+with_switches level ss = record level { switches = ss }
+
+pub named_switch_cut : (level : VoltageLevel) (xs ys : List Switch) (s : Switch) → level.switches ≡ xs ++ s ∷ ys
+    → named level ≡ switch_nodes xs ++ s.node1 ∷ s.node2 ∷ (switch_nodes ys ++ (internal_nodes level.internals ++ placed_nodes level.placed))
+named_switch_cut level xs ys s e = named_is level ∙ rw (e, switch_nodes-append xs (s ∷ ys)) (simp append_assoc)
+
+pub named_switch_left : (level : VoltageLevel) (xs ys : List Switch) → named (with_switches level (xs ++ ys)) ≡ switch_nodes xs ++ (switch_nodes ys ++ (internal_nodes level.internals ++ placed_nodes level.placed))
+named_switch_left level xs ys = named_is (with_switches level (xs ++ ys)) ∙ rw (switch_nodes-append xs ys) (simp append_assoc)
+
+pub switch_cut_within : (level : VoltageLevel) (xs ys : List Switch) (s : Switch) → level.switches ≡ xs ++ s ∷ ys → IsWithin level → IsWithin (with_switches level (xs ++ ys))
+unfolding nodes edges
+switch_cut_within level xs ys s e k =
+    let rest = switch_nodes ys ++ (internal_nodes level.internals ++ placed_nodes level.placed) in
+    record {
+      in_range = rw (named_switch_left level xs ys) (two_less (λ n. nat_le n max_node) (switch_nodes xs) s.node1 s.node2 rest (rw (named_switch_cut level xs ys s e) at k.in_range));
+      few_nodes = (let few : length (rising (switch_nodes xs ++ s.node1 ∷ s.node2 ∷ rest)) ≤ max_nodes = rw (named_switch_cut level xs ys s e) at k.few_nodes in
+          rw (named_switch_left level xs ys) (omega (arith, few, shrunk_nodes (switch_nodes xs) s.node1 s.node2 rest)));
+      few_edges = (let had : length level.switches ≡ length (xs ++ s ∷ ys) = ap length e in let long : length (xs ++ s ∷ ys) ≡ length (xs ++ ys) + 1 = grind (arith, common_steps) in omega (arith, k.few_edges, length-edges (with_switches level (xs ++ ys)), length-edges level));
+      differ = (let parts = all_parts ends_differ (map switch_edge level.switches) (map internal_edge level.internals) k.differ in
+          let those : list_all ends_differ (map switch_edge (xs ++ s ∷ ys)) ≡ true = rw e at parts.0 in
+          let inner = all_parts ends_differ (map switch_edge xs) (map switch_edge (s ∷ ys)) (rw (map-append switch_edge xs (s ∷ ys)) at those) in
+          all_join ends_differ (map switch_edge (xs ++ ys)) (map internal_edge level.internals)
+          (rw (map-append switch_edge xs ys) (all_join ends_differ (map switch_edge xs) (map switch_edge ys) inner.0 (and_parts _ _ inner.1).1)) parts.1);
+      rise = k.rise;
+    }
 
 -- ---- fewer switches, fewer terminals
 
@@ -291,9 +321,9 @@ length_filter q (x ∷ xs) = by (q x) (length_filter q xs)
     by true l = omega arith
     by false l = omega arith
 
-pub fewer_switches_pass : (q : Switch → Bool) (level : VoltageLevel) → Passes level → Passes (record level { switches = filter q level.switches })
+pub fewer_switches_within : (q : Switch → Bool) (level : VoltageLevel) → IsWithin level → IsWithin (record level { switches = filter q level.switches })
 unfolding nodes edges
-fewer_switches_pass q level k =
+fewer_switches_within q level k =
     let rest = internal_nodes level.internals ++ placed_nodes level.placed in
     let g = λ (s : Switch). s.node1 ∷ s.node2 ∷ [] in
     let old : named level ≡ flat_map g level.switches ++ rest = named_is level ∙ ap (λ z. z ++ rest) (switch_nodes_is level.switches) in
@@ -307,13 +337,14 @@ fewer_switches_pass q level k =
       few_edges = omega (arith, k.few_edges, length_filter q level.switches, length-edges (record level { switches = filter q level.switches }), length-edges level);
       differ = all_join ends_differ (map switch_edge (filter q level.switches)) (map internal_edge level.internals) (all_filter_map switch_edge ends_differ q level.switches edges_parts.0) edges_parts.1;
       rise = k.rise;
-      stands = k.stands;
-      volts = k.volts;
     }
 
-pub fewer_placed_pass : (q : Placed → Bool) (level : VoltageLevel) → Passes level → Passes (record level { placed = filter q level.placed })
+pub fewer_switches_pass : (q : Switch → Bool) (level : VoltageLevel) → Passes level → Passes (record level { switches = filter q level.switches })
+fewer_switches_pass q level k = record { within = fewer_switches_within q level k.within; stands = k.stands; volts = k.volts }
+
+pub fewer_placed_within : (q : Placed → Bool) (level : VoltageLevel) → IsWithin level → IsWithin (record level { placed = filter q level.placed })
 unfolding nodes edges
-fewer_placed_pass q level k =
+fewer_placed_within q level k =
     let first = switch_nodes level.switches ++ internal_nodes level.internals in
     let g = λ (p : Placed). p.node ∷ [] in
     let old : named level ≡ first ++ (flat_map g level.placed ++ []) = named_is_left level ∙ ap (λ z. first ++ z) (placed_nodes_is level.placed ∙ sym (append-nil (flat_map g level.placed))) in
@@ -327,6 +358,7 @@ fewer_placed_pass q level k =
       few_edges = k.few_edges;
       differ = k.differ;
       rise = rising_filter (λ (p : Placed). p.node) q level.placed k.rise;
-      stands = all_filter stand_passes q level.placed k.stands;
-      volts = k.volts;
     }
+
+pub fewer_placed_pass : (q : Placed → Bool) (level : VoltageLevel) → Passes level → Passes (record level { placed = filter q level.placed })
+fewer_placed_pass q level k = record { within = fewer_placed_within q level k.within; stands = all_filter stand_passes q level.placed k.stands; volts = k.volts }

@@ -1,21 +1,14 @@
 -- What the edits of a level keep.
-use Rattle.std.proofs.Common.{◌≡◌, refl, sym, ap, ◌∙◌, subst, ℕ, zero, suc, ◌+◌, ◌-◌, ◌*◌, ◌<◌, ◌≤◌, Bool, true, false, cond, not, ◌&&◌, ◌||◌, List, [], ◌∷◌, ◌++◌, length, arith, inl, inr, ◌⊎◌, get_or, take, drop, Option, Some, None, append_assoc}
-use Rattle.std.specs.Prelude.{map, flat_map, nat_lt, ◌==◌, if◌then◌else◌, slice_get, slice_set, insert, remove, filter, find, Result, Ok, Err}
-use Rattle.std.specs.List.{list_all}
-use Rattle.std.proofs.lemmas.Bool.{cases_Bool, and_parts, and_from, false≢true, true≢false}
-use Rattle.std.proofs.lemmas.Bool.Decides.{nat_tests}
-use Rattle.std.proofs.lemmas.Grind.{common_steps, flat_map-append}
-use Rattle.std.proofs.lemmas.List.{append-nil, map-append}
-use Rattle.grid_level.specs.declared.uses.Use.{Use}
+use Rattle.std.proofs.Common.{◌≡◌, refl, ap, ◌∙◌, ℕ, ◌+◌, ◌≤◌, List, [], ◌∷◌, ◌++◌, length, arith, append_assoc}
+use Rattle.std.specs.Prelude.{map, flat_map}
+use Rattle.std.proofs.lemmas.Grind.{common_steps}
 use Rattle.grid_level.specs.declared.Placed.{Placed}
 use Rattle.grid_level.specs.declared.Switch.{Switch}
 use Rattle.grid_level.specs.declared.Internal.{Internal}
 use Rattle.grid_level.specs.VoltageLevel.{VoltageLevel}
-use Rattle.grid_level.specs.Uses.{place_among, key_here, once, with_use, without_use, tally, used_nodes, total}
-use Rattle.grid_level.specs.Passing.{Edge, switch_edge, internal_edge, edges, ends, both, named, nodes, with_node, rising, is_rising}
-use Rattle.grid_level.specs.Kept.{IsKept, lists_of}
-use Rattle.grid_level.specs.LevelEdits.{max_edges, max_nodes}
-use Rattle.grid_level.proofs.Counting.{tally_insert, tally_remove, rising_insert, length-with_node, total-tally, tally_nodes, walk-used, walk-with_node, without-with}
+use Rattle.grid_level.specs.Uses.{with_use, without_use, tally}
+use Rattle.grid_level.specs.Passing.{Edge, switch_edge, internal_edge, edges, ends, both, named, with_node, rising}
+use Rattle.grid_level.proofs.Counting.{tally_insert, tally_remove, rising_insert, length-with_node}
 
 abbrev pub switch_nodes : List Switch → List ℕ
 switch_nodes [] = []
@@ -71,21 +64,3 @@ shrunk P a b Q = tally_remove P b Q ∙ ap (without_use b) (tally_remove P a (b 
 
 pub shrunk_nodes : (P : List ℕ) (a b : ℕ) (Q : List ℕ) → length (rising (P ++ Q)) ≤ length (rising (P ++ a ∷ b ∷ Q))
 shrunk_nodes P a b Q = rw (grown_nodes P a b Q) (omega (arith, length-with_node a (with_node b (rising (P ++ Q))), length-with_node b (rising (P ++ Q))))
-
--- ---- a level with a switch more
-
-abbrev pub with_switch : VoltageLevel → Switch → VoltageLevel
-with_switch level s = record level { switches = level.switches ++ s ∷ [] }
-
-named_with_switch : (level : VoltageLevel) (s : Switch) → named (with_switch level s) ≡ switch_nodes level.switches ++ s.node1 ∷ s.node2 ∷ (internal_nodes level.internals ++ placed_nodes level.placed)
-named_with_switch level s = named_is (with_switch level s) ∙ rw (switch_nodes-append level.switches (s ∷ []), append_assoc) refl
-
-pub kept_switch : (level : VoltageLevel) (uses : List Use) (s : Switch) → IsKept level uses → length (edges level) < max_edges
-    → length (with_node s.node1 (with_node s.node2 (nodes level))) ≤ max_nodes → IsKept (with_switch level s) (with_use s.node1 (with_use s.node2 uses))
-unfolding nodes
-kept_switch level uses s k room few = record {
-  counted = rw (named_with_switch level s, grown (switch_nodes level.switches) s.node1 s.node2 (internal_nodes level.internals ++ placed_nodes level.placed), k.counted, named_is level) refl;
-  placed_rise = k.placed_rise;
-  few_edges = (let more : length (level.switches ++ s ∷ []) ≡ length level.switches + 1 = grind (arith, common_steps) in omega (arith, length-edges (with_switch level s), length-edges level));
-  few_nodes = rw (named_with_switch level s, grown_nodes (switch_nodes level.switches) s.node1 s.node2 (internal_nodes level.internals ++ placed_nodes level.placed)) (rw (named_is level) at few);
-}

@@ -1,16 +1,13 @@
 -- The place of a key in a rising list, and what stands there.
-use Rattle.std.proofs.Common.{◌≡◌, refl, sym, ap, ◌∙◌, subst, ℕ, zero, suc, ◌+◌, ◌-◌, ◌<◌, ◌≤◌, Bool, true, false, cond, not, ◌&&◌, ◌||◌, List, [], ◌∷◌, ◌++◌, length, arith, inl, inr, ◌⊎◌, get_or, Option, Some, None}
-use Rattle.std.specs.Prelude.{map, nat_lt, ◌==◌, if◌then◌else◌, slice_get, slice_set, insert, remove, filter, find}
+use Rattle.std.proofs.Common.{◌≡◌, refl, sym, ap, ◌∙◌, ℕ, zero, suc, ◌+◌, ◌-◌, ◌<◌, ◌≤◌, Bool, true, false, cond, ◌&&◌, List, [], ◌∷◌, length, arith, get_or, Some, None}
+use Rattle.std.specs.Prelude.{map, nat_lt, ◌==◌, slice_get, slice_set, insert, remove}
 use Rattle.std.specs.List.{list_all, AllWithin}
 use Rattle.std.specs.List.Sorted.{IsNonDecreasingBy}
-use Rattle.std.proofs.lemmas.Bool.{cases_order, lt-ltb, le-ltb, eq-eqb, ne_eqb, ltb-true, ltb-false, eqb-true, eqb-false, cases_Bool, and_parts, and_from, false≢true, true≢false}
+use Rattle.std.proofs.lemmas.Bool.{lt-ltb, eq-eqb, ltb-true, eqb-true, and_parts, and_from, false≢true}
 use Rattle.std.proofs.lemmas.Bool.Decides.{nat_tests}
-use Rattle.std.proofs.lemmas.Grind.{common_steps}
 use Rattle.grid_level.specs.declared.uses.Use.{Use}
-use Rattle.grid_level.specs.declared.Placed.{Placed}
-use Rattle.grid_level.specs.Uses.{place_among, key_here, once, with_use, without_use, less_use, tally, used_nodes, total}
-use Rattle.grid_level.specs.Passing.{with_node, rising, is_rising, stands_at}
-use Rattle.grid_level.specs.LevelEdits.{with_placed}
+use Rattle.grid_level.specs.Uses.{place_among, key_here, once, with_use, without_use, less_use, used_nodes, total}
+use Rattle.grid_level.specs.Passing.{with_node, rising, is_rising}
 use Rattle.grid_level.proofs.Counting.{Order, below, equal, above, order, with_use_nodes}
 
 pub place_from_point : {X : Type 0} (key : X → ℕ) (n : ℕ) (xs : List X) (i : ℕ) → i ≤ length xs

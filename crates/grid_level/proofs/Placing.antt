@@ -1,22 +1,21 @@
 -- What a placed terminal makes of a level's rules.
-use Rattle.std.proofs.Common.{◌≡◌, refl, sym, ap, ◌∙◌, subst, ℕ, ℤ, zero, suc, ◌+◌, ◌<◌, ◌≤◌, Bool, true, false, cond, not, ◌&&◌, ◌||◌, List, [], ◌∷◌, ◌++◌, length, arith, Option, Some, None, append_assoc}
-use Rattle.std.specs.Prelude.{map, flat_map, nat_lt, nat_le, ◌==◌, if◌then◌else◌, filter, find, Result, Ok, Err}
+use Rattle.std.proofs.Common.{◌≡◌, refl, ap, ◌∙◌, subst, ℕ, ℤ, ◌≤◌, Bool, true, false, cond, ◌&&◌, List, [], ◌∷◌, ◌++◌, length, Option, Some, None, append_assoc}
+use Rattle.std.specs.Prelude.{map, nat_lt, nat_le, ◌==◌, find, Ok}
 use Rattle.std.specs.List.{list_all}
-use Rattle.std.proofs.lemmas.Bool.{and_parts, and_from, le-leb, ltb-true, ltb-false, lt-ltb, eqb-true, eqb-false, ne_eqb, false≢true, true≢false}
-use Rattle.std.proofs.lemmas.Bool.Decides.{nat_tests}
-use Rattle.std.proofs.lemmas.Grind.{common_steps}
-use Rattle.grid_ids.specs.Refusing.{◌>>=◌, refuse_if, found_or}
+use Rattle.std.proofs.lemmas.Bool.{and_from, le-leb, ltb-false}
+use Rattle.grid_ids.specs.Refusing.{refuse_if}
 use Rattle.grid_level.specs.declared.Placed.{Placed}
 use Rattle.grid_level.specs.declared.Terminal.{Terminal}
 use Rattle.grid_level.specs.declared.Stand.{Stand}
 use Rattle.grid_level.specs.VoltageLevel.{VoltageLevel}
-use Rattle.grid_level.specs.Passing.{edges, named, nodes, with_node, rising, is_rising, placed_at, stands_at}
-use Rattle.grid_level.specs.LevelEdits.{Unfit, too_many_nodes, max_node, max_edges, max_nodes, node_of, level_with_terminal, with_placed, refuse_taken}
-use Rattle.grid_level.specs.Sound.{stand_passes, ends_differ}
-use Rattle.grid_level.proofs.Counting.{Order, below, equal, above, order, rising_insert}
+use Rattle.grid_level.specs.Passing.{edges, named, nodes, with_node, rising, placed_at, stands_at}
+use Rattle.grid_level.specs.LevelEdits.{too_many_nodes, max_node, max_nodes, node_of, terminal_fits, level_with_terminal, with_placed, refuse_taken}
+use Rattle.grid_level.specs.Sound.{stand_passes}
+use Rattle.grid_level.specs.Kept.{IsWithin}
+use Rattle.grid_level.proofs.Counting.{rising_insert}
 use Rattle.grid_level.proofs.Places.{list_all-with_node, rising-with_node}
-use Rattle.grid_level.proofs.Keeping.{switch_nodes, internal_nodes, placed_nodes, named_is}
-use Rattle.grid_level.proofs.Editing.{Passes, Went, went, not_refused, all_parts, all_join, named_is_left, node_of-le}
+use Rattle.grid_level.proofs.Keeping.{switch_nodes, internal_nodes, placed_nodes}
+use Rattle.grid_level.proofs.Editing.{Passes, went, not_refused, all_parts, all_join, named_is_left}
 
 abbrev pub placed_in : VoltageLevel → Placed → VoltageLevel
 placed_in level p = record level { placed = with_placed p level.placed }
@@ -33,14 +32,29 @@ unfolding refuse_taken
 none_taken (Some p) u h = cc
 none_taken None u h = refl
 
+-- a new terminal's node has room
+pub record FitsTerminal (level : VoltageLevel) (node : ℤ) (number : ℕ) : Type 0 where
+  pub at : node_of node ≡ Ok number
+  pub free : placed_at level number ≡ None
+  pub few : length (with_node number (nodes level)) ≤ max_nodes
+
+pub fitting_terminal : (level : VoltageLevel) (node : ℤ) (number : ℕ) → terminal_fits level node ≡ Ok number → FitsTerminal level node number
+unfolding terminal_fits
+fitting_terminal level node number h =
+    let a = went (node_of node) _ number h in
+    let t = went (refuse_taken (placed_at level a.value)) _ number a.next in
+    let n = went (refuse_if (nat_lt max_nodes (length (with_node a.value (nodes level)))) too_many_nodes) _ number t.next in
+    let same : a.value ≡ number = cc (n.next) in
+    let fits : FitsTerminal level node a.value = record { at = a.is; free = none_taken _ _ t.is; few = ltb-false _ _ (not_refused _ _ _ n.is) } in
+    subst (λ (z : ℕ). FitsTerminal level node z) same fits
+
 pub placing : (level : VoltageLevel) (node : ℤ) (terminal : Terminal) (stand : Stand) (new : VoltageLevel) → level_with_terminal level node terminal stand ≡ Ok new → Places level new node terminal stand
 unfolding level_with_terminal
 placing level node terminal stand new h =
-    let a = went (node_of node) _ new h in
-    let t = went (refuse_taken (placed_at level a.value)) _ new a.next in
-    let n = went (refuse_if (nat_lt max_nodes (length (with_node a.value (nodes level)))) too_many_nodes) _ new t.next in
-    let same : placed_in level (record { node = a.value; terminal = terminal; stand = stand }) ≡ new = cc (n.next) in
-    record { number = a.value; at = a.is; free = none_taken _ _ t.is; few = ltb-false _ _ (not_refused _ _ _ n.is); is = same }
+    let f = went (terminal_fits level node) _ new h in
+    let k = fitting_terminal level node f.value f.is in
+    let same : placed_in level (record { node = f.value; terminal = terminal; stand = stand }) ≡ new = cc (f.next) in
+    record { number = f.value; at = k.at; free = k.free; few = k.few; is = same }
 
 pub rising_placed : (p : Placed) (pre : List ℕ) (ps : List Placed) → rising (pre ++ map (λ (x : Placed). x.node) (with_placed p ps)) ≡ with_node p.node (rising (pre ++ map (λ (x : Placed). x.node) ps))
 unfolding with_placed
@@ -79,10 +93,9 @@ nodes_placed p (x ∷ xs) h = by (nat_lt x.node p.node) (x.node == p.node) refl 
     by true false e h again = ap (λ z. x.node ∷ z) (again h)
     by false false e h again = refl
 
-pub placed_passes_on : (level : VoltageLevel) (p : Placed) → Passes level → p.node ≤ max_node → placed_at level p.node ≡ None → length (with_node p.node (nodes level)) ≤ max_nodes
-    → stand_passes p ≡ true → Passes (placed_in level p)
+pub placed_within : (level : VoltageLevel) (p : Placed) → IsWithin level → p.node ≤ max_node → placed_at level p.node ≡ None → length (with_node p.node (nodes level)) ≤ max_nodes → IsWithin (placed_in level p)
 unfolding nodes edges placed_at
-placed_passes_on level p k le free few good =
+placed_within level p k le free few =
     let first = switch_nodes level.switches ++ internal_nodes level.internals in
     let old = named_is_left level in
     let new : named (placed_in level p) ≡ first ++ placed_nodes (with_placed p level.placed) = named_is_left (placed_in level p) in
@@ -94,9 +107,11 @@ placed_passes_on level p k le free few good =
       few_edges = k.few_edges;
       differ = k.differ;
       rise = rw (nodes_placed p level.placed free) (rising-with_node p.node (placed_nodes level.placed) k.rise);
-      stands = rw (all_placed stand_passes p level.placed) (and_from _ _ good k.stands);
-      volts = k.volts;
     }
+
+pub placed_passes_on : (level : VoltageLevel) (p : Placed) → Passes level → p.node ≤ max_node → placed_at level p.node ≡ None → length (with_node p.node (nodes level)) ≤ max_nodes
+    → stand_passes p ≡ true → Passes (placed_in level p)
+placed_passes_on level p k le free few good = record { within = placed_within level p k.within le free few; stands = rw (all_placed stand_passes p level.placed) (and_from _ _ good k.stands); volts = k.volts }
 
 -- ---- what stands at the terminals of one kind
 

@@ -1,20 +1,19 @@
 -- A placed terminal: the list by its place, the uses, and how it is undone.
-use Rattle.std.proofs.Common.{◌≡◌, refl, sym, ap, ◌∙◌, subst, ℕ, ℤ, zero, suc, ◌+◌, ◌<◌, ◌≤◌, Bool, true, false, cond, not, List, [], ◌∷◌, ◌++◌, length, arith, Option, Some, None, append_assoc, get_or}
-use Rattle.std.specs.Prelude.{map, nat_lt, ◌==◌, if◌then◌else◌, insert, filter, find}
+use Rattle.std.proofs.Common.{◌≡◌, refl, sym, ap, ◌∙◌, ℕ, suc, ◌<◌, ◌≤◌, Bool, true, false, cond, not, List, [], ◌∷◌, ◌++◌, length, arith, Option, Some, None, append_assoc, get_or}
+use Rattle.std.specs.Prelude.{map, nat_lt, ◌==◌, insert, filter, find}
 use Rattle.std.specs.List.{list_all}
 use Rattle.std.proofs.lemmas.Bool.{and_parts, ltb-true, ltb-false, eqb-true, eq-eqb, ne_eqb, false≢true}
 use Rattle.grid_level.specs.declared.uses.Use.{Use}
 use Rattle.grid_level.specs.declared.Placed.{Placed}
 use Rattle.grid_level.specs.VoltageLevel.{VoltageLevel}
-use Rattle.grid_level.specs.Uses.{place_among, key_here, with_use, without_use, tally}
-use Rattle.grid_level.specs.Passing.{edges, named, nodes, with_node, rising, is_rising, placed_at, stands_at}
+use Rattle.grid_level.specs.Uses.{place_among, key_here, with_use, tally}
+use Rattle.grid_level.specs.Passing.{nodes, with_node, is_rising, placed_at, stands_at}
 use Rattle.grid_level.specs.Kept.{IsKept}
-use Rattle.grid_level.specs.LevelEdits.{with_placed, max_nodes}
+use Rattle.grid_level.specs.LevelEdits.{with_placed, max_node, max_nodes}
 use Rattle.grid_level.proofs.Counting.{tally_insert}
-use Rattle.grid_level.proofs.Places.{rising-with_node}
-use Rattle.grid_level.proofs.Keeping.{switch_nodes, internal_nodes, placed_nodes}
+use Rattle.grid_level.proofs.Keeping.{switch_nodes, internal_nodes}
 use Rattle.grid_level.proofs.Editing.{named_is_left}
-use Rattle.grid_level.proofs.Placing.{placed_in, nodes_placed, rising_placed}
+use Rattle.grid_level.proofs.Placing.{placed_in, placed_within}
 
 abbrev pub by_node : Placed → ℕ
 by_node p = p.node
@@ -42,7 +41,7 @@ found_here n (y ∷ ps) x h e = by (nat_lt y.node n) refl h e (found_here n ps x
     by true q h e again = let l : y.node < n = ltb-true y.node n q in rw (ne_eqb y.node n (λ f. omega arith)) (again h e)
     by false q h e again = rw h (ap (λ z. Some z) (sym e))
 
-none_above : (n : ℕ) (ps : List Placed) → list_all (nat_lt n) (map (λ (p : Placed). p.node) ps) ≡ true → find (stands_at n) ps ≡ None
+pub none_above : (n : ℕ) (ps : List Placed) → list_all (nat_lt n) (map (λ (p : Placed). p.node) ps) ≡ true → find (stands_at n) ps ≡ None
 unfolding stands_at
 none_above n [] h = refl
 none_above n (y ∷ ps) h =
@@ -50,7 +49,7 @@ none_above n (y ∷ ps) h =
     let l : n < y.node = ltb-true n y.node parts.0 in
     rw (ne_eqb y.node n (λ f. omega arith)) (none_above n ps parts.1)
 
-all_above : (n m : ℕ) (ps : List Placed) → n < m → list_all (nat_lt m) (map (λ (p : Placed). p.node) ps) ≡ true → find (stands_at n) ps ≡ None
+pub all_above : (n m : ℕ) (ps : List Placed) → n < m → list_all (nat_lt m) (map (λ (p : Placed). p.node) ps) ≡ true → find (stands_at n) ps ≡ None
 unfolding stands_at
 all_above n m [] l h = refl
 all_above n m (y ∷ ps) l h =
@@ -90,17 +89,12 @@ tally_placed p pre (x ∷ xs) = by (nat_lt x.node p.node) (tally_placed p (pre +
     by false again = tally_insert pre p.node (x.node ∷ map (λ (x : Placed). x.node) xs)
 
 -- what a level keeps, with a terminal more
-pub kept_placed : (level : VoltageLevel) (uses : List Use) (p : Placed) → IsKept level uses → placed_at level p.node ≡ None → length (with_node p.node (nodes level)) ≤ max_nodes → IsKept (placed_in level p) (with_use p.node uses)
-unfolding nodes placed_at edges
-kept_placed level uses p k free few =
+pub kept_placed : (level : VoltageLevel) (uses : List Use) (p : Placed) → IsKept level uses → p.node ≤ max_node → placed_at level p.node ≡ None → length (with_node p.node (nodes level)) ≤ max_nodes → IsKept (placed_in level p) (with_use p.node uses)
+kept_placed level uses p k le free few =
     let front = switch_nodes level.switches ++ internal_nodes level.internals in
-    let was : named level ≡ front ++ placed_nodes level.placed = named_is_left level in
-    let is : named (placed_in level p) ≡ front ++ placed_nodes (with_placed p level.placed) = named_is_left (placed_in level p) in
     record {
-      counted = ap (with_use p.node) (k.counted ∙ ap tally was) ∙ sym (tally_placed p front level.placed) ∙ ap tally (sym is);
-      placed_rise = rw (nodes_placed p level.placed free) (rising-with_node p.node (placed_nodes level.placed) k.placed_rise);
-      few_edges = k.few_edges;
-      few_nodes = rw (is, rising_placed p front level.placed) (rw was at few);
+      counted = ap (with_use p.node) (k.counted ∙ ap tally (named_is_left level)) ∙ sym (tally_placed p front level.placed) ∙ ap tally (sym (named_is_left (placed_in level p)));
+      within = placed_within level p k.within le free few;
     }
 
 -- a terminal placed and taken away again leaves the list as it was

@@ -1,33 +1,46 @@
 //! One voltage level: its switches, internal connections and placed terminals.
 #![tactic(auto)]
 
-ghost use Rattle.std.specs.Prelude.{◌≡◌, ◌<◌, [], length, IfOk, IfErr, OnOk, OnErr, slice_get, Some, Ok, remove, ◌≢◌, position};
+ghost use Rattle.std.specs.Prelude.{◌≡◌, ◌≢◌, ◌<◌, ◌≤◌, [], length, true, IfOk, IfErr, OnOk, OnErr, IsSome, IsTrue, ◌↔◌, slice_get, Some, Ok, remove, map, position};
 ghost use Rattle.std.proofs.Common.{rules};
 ghost use Rattle.grid_ids.specs.Refusing.{map_fault};
 ghost use Rattle.grid_level.specs.LevelEdits as edits;
 ghost use Rattle.grid_level.specs.LevelEdits.{level_fault_of, refusal_of};
-ghost use Rattle.grid_level.specs.Passing.{edges, nodes, with_node};
-ghost use Rattle.grid_level.specs.Uses.{with_use, without_use, total};
+ghost use Rattle.grid_level.specs.Passing as passing;
+ghost use Rattle.grid_level.specs.Passing.{edges, nodes, with_node, is_rising};
+ghost use Rattle.grid_level.specs.Uses.{with_use, without_use, total, place_among, key_here};
 ghost use Rattle.grid_level.specs.Kept.{lists_of};
 
+mod parts;
+mod readers;
 mod uses;
 
-use grid_ids::{Duplicate, Id, Memory, Same};
+use grid_ids::{Duplicate, Id, Memory, Seq};
 use grid_kinds::{Injection, SwitchKind};
 use std::alloc::Global;
 use std::marker::Model;
-pub use uses::{Use, Uses};
+use uses::Uses;
 
+/// A list of node numbers.
+pub type Nodes = Seq<u16>;
+
+/// A list of terminals.
+pub type Terminals = Seq<Terminal>;
+
+/// A list of truth values, such as one position per switch.
+pub type Flags = Seq<bool>;
+
+/// A list of numbers.
+pub type Values = Seq<i64>;
+
+/// A side of an equipment: 1 for busbar sections and injections, 1 to 3 for branches.
 #[derive(Clone, Debug, Drop)]
 pub struct Terminal {
     pub equipment: Id,
     pub side: u8,
 }
 
-impl Duplicate for Terminal {
-    ghost clone_equals = { Prim.search rules };
-}
-
+/// What stands at a node.
 #[derive(Clone, Debug, Drop)]
 pub enum Stand {
     Busbar,
@@ -35,6 +48,7 @@ pub enum Stand {
     BranchEnd,
 }
 
+/// A terminal at its node.
 #[derive(Clone, Debug, Drop)]
 pub struct Placed {
     pub node: u16,
@@ -42,6 +56,7 @@ pub struct Placed {
     pub stand: Stand,
 }
 
+/// A switch between two nodes, with its flags as they were recorded: `opened` is its opening position.
 #[derive(Clone, Debug, Drop)]
 pub struct Switch {
     pub id: Id,
@@ -53,21 +68,30 @@ pub struct Switch {
     pub fictitious: bool,
 }
 
+/// An internal connection, which always joins its two nodes.
 #[derive(Clone, Debug, Drop)]
 pub struct Internal {
     pub node1: u16,
     pub node2: u16,
 }
 
-/// Why a level refuses an edit.
+/// Why a level refuses an edit: the first that holds, in this order. The rules are the IIDM documentation's,
+/// the two limits this project's own.
 #[derive(Debug, Drop)]
 pub enum LevelFault {
+    /// 20: the node is below 0 or above 65,535; the first such one.
     NodeRange { node: i64 },
+    /// 22: an edge's two nodes are equal.
     SameNode { node: i64 },
+    /// 21: the node of a new terminal carries one.
     NodeTaken { terminal: Terminal },
+    /// 23: there is no such internal connection.
     NoEdge,
+    /// 25: an edge is to be added to 4,096 edges.
     TooManyEdges,
+    /// 24: there would be more than 1,024 different nodes.
     TooManyNodes,
+    /// Want of memory; comes only where none of the others does.
     Memory,
 }
 
@@ -82,7 +106,8 @@ impl From<Memory> for LevelFault {
     }
 }
 
-/// A level, seen as its record of lists.
+/// A voltage level, seen as its record of lists: id, voltages in V, switches and internal connections in order
+/// of creation, and terminals by rising node.
 #[derive(Drop)]
 pub struct Level {
     id: Id,
@@ -140,43 +165,6 @@ impl Level {
         }
     }
 
-    pub fn id(&self) -> &Id
-        ensures { result.now ≡ self.now.id }
-    {
-        &self.id
-    }
-
-    pub fn switches(&self) -> &[Switch]
-        ensures { result.now ≡ self.now.switches }
-    {
-        self.switches.as_slice()
-    }
-
-    pub fn switch_count(&self) -> u32
-        ensures { result ≡ length self.now.switches }
-    {
-        self.switches.len() as u32
-    }
-
-    pub fn edge_count(&self) -> u32
-        ensures { result ≡ length (edges self.now) }
-    {
-        (self.switches.len() + self.internals.len()) as u32
-    }
-
-    pub fn node_count(&self) -> u32
-        ensures { result ≡ length (nodes self.now) }
-    {
-        self.uses.len() as u32
-    }
-
-    pub fn node_at(&self, index: u32) -> u16
-        requires { index < length (nodes self.now) }
-        ensures { slice_get (nodes self.now) index ≡ Some result }
-    {
-        self.uses.at(index as usize)
-    }
-
     // How many nodes there are, with these two.
     fn nodes_with(&self, a: u16, b: u16) -> u32
         requires { a ≢ b }
@@ -204,7 +192,8 @@ impl Level {
         Ok((a, b))
     }
 
-    /// Puts a switch last, and answers its place.
+    /// Puts a switch last among the switches, and answers its place. Refuses with NodeRange, SameNode,
+    /// TooManyEdges or TooManyNodes.
     pub fn add_switch(
         &mut self,
         id: Id,
@@ -248,7 +237,7 @@ impl Level {
         Ok(place)
     }
 
-    /// Takes the switch at a place out; later ones move down by one.
+    /// Takes the switch at a place out; later ones move down by one. It takes no memory.
     pub fn remove_switch(&mut self, place: u32) -> Switch
         requires { place < length self.old.switches }
         ensures item { slice_get self.old.switches place ≡ Some result }
@@ -259,7 +248,7 @@ impl Level {
         switch
     }
 
-    /// Puts an internal connection last.
+    /// Puts an internal connection last. Refuses with NodeRange, SameNode, TooManyEdges or TooManyNodes.
     pub fn add_internal(&mut self, node1: i64, node2: i64) -> Result<(), LevelFault>
         ensures done { OnOk result (edits.level_with_internal self.old node1 node2 ≡ Ok self.new) }
         ensures same { OnErr result (self.new ≡ self.old) }
@@ -283,7 +272,8 @@ impl Level {
         Ok(())
     }
 
-    /// Takes the first internal connection that joins the two nodes out.
+    /// Takes the first internal connection that joins the two nodes, in either order, out. Refuses with NoEdge
+    /// alone, and takes no memory.
     pub fn remove_internal(&mut self, node1: i64, node2: i64) -> Result<(), LevelFault>
         ensures done { OnOk result (edits.level_without_internal self.old node1 node2 ≡ Ok self.new) }
         ensures same { OnErr result (self.new ≡ self.old) }
@@ -296,6 +286,103 @@ impl Level {
         let internal = self.internals.remove(place);
         take_two(&mut self.uses, internal.node1, internal.node2);
         Ok(())
+    }
+
+    // Whether a new terminal's node may be one of the level's, which carries none yet.
+    fn has_room(&self, node: u16) -> bool
+        ensures { IsTrue result ↔ (length (with_node node (nodes self.now)) ≤ 1024) }
+    {
+        self.uses.len() as u32 + self.uses.missing(node) <= 1024
+    }
+
+    // The node of a new terminal, with its place among those that are placed.
+    fn terminal_fits(&self, node: i64) -> Result<(u16, usize), LevelFault>
+        ensures fits { IfOk result (λ pair. edits.terminal_fits self.now node ≡ Ok pair.0) }
+        ensures place { IfOk result (λ pair. pair.1 ≡ place_among (λ p. p.node) pair.0 self.now.placed) }
+        ensures refused { IfErr result (λ fault. fault ≢ LevelFault.Memory → fault ≡ refusal_of (edits.terminal_fits self.now node)) }
+    {
+        let number = match node_of(node) {
+            Ok(number) => number,
+            Err(fault) => return Err(fault),
+        };
+        let place = place_of(self.placed.as_slice(), number);
+        if stands_at(self.placed.as_slice(), place, number) {
+            return match self.placed[place].terminal.copy() {
+                Ok(terminal) => Err(LevelFault::NodeTaken { terminal }),
+                Err(_) => Err(LevelFault::Memory),
+            };
+        }
+        if !self.has_room(number) {
+            return Err(LevelFault::TooManyNodes);
+        }
+        Ok((number, place))
+    }
+
+    /// Places a terminal by its node. Refuses with NodeRange, NodeTaken or TooManyNodes.
+    pub fn place_terminal(
+        &mut self,
+        node: i64,
+        terminal: Terminal,
+        stand: Stand,
+    ) -> Result<(), LevelFault>
+        ensures done { OnOk result (edits.level_with_terminal self.old node terminal stand ≡ Ok self.new) }
+        ensures same { OnErr result (self.new ≡ self.old) }
+        ensures refused { IfErr result (λ fault. fault ≢ LevelFault.Memory → fault ≡ refusal_of (edits.level_with_terminal self.old node terminal stand)) }
+    {
+        let (number, place) = match self.terminal_fits(node) {
+            Ok(pair) => pair,
+            Err(fault) => return Err(fault),
+        };
+        match self.uses.add(number) {
+            Ok(()) => {}
+            Err(_) => return Err(LevelFault::Memory),
+        }
+        let placed = Placed {
+            node: number,
+            terminal,
+            stand,
+        };
+        match self.placed.insert(place, placed) {
+            Ok(()) => {}
+            Err(_) => {
+                self.uses.take(number);
+                return Err(LevelFault::Memory);
+            }
+        }
+        Ok(())
+    }
+
+    /// Takes the terminal at a node out, and takes no memory.
+    pub fn take_terminal(&mut self, node: u16) -> Placed
+        requires { IsSome (passing.placed_at self.old node) }
+        ensures item { passing.placed_at self.old node ≡ Some result }
+        ensures rest { self.new ≡ edits.level_without_terminal node self.old }
+    {
+        let place = place_of(self.placed.as_slice(), node);
+        let placed = self.placed.remove(place);
+        self.uses.take(node);
+        placed
+    }
+}
+
+// How many stand before the first whose node is no less.
+fn place_of(placed: &[Placed], node: u16) -> usize
+    requires { IsTrue (is_rising (map (λ p. p.node) placed.now)) }
+    ensures value { result ≡ place_among (λ p. p.node) node placed.now }
+    ensures bound { result ≤ length placed.now }
+{
+    placed.partition_point(|p| p.node < node)
+}
+
+// Whether a terminal stands at the node, whose place this is.
+fn stands_at(placed: &[Placed], place: usize, node: u16) -> bool
+    requires { place ≡ place_among (λ p. p.node) node placed.now }
+    ensures value { result ≡ key_here (λ p. p.node) node placed.now }
+    ensures bound { result ≡ true → place < length placed.now }
+{
+    match placed.get(place) {
+        Some(found) => found.node == node,
+        None => false,
     }
 }
 

@@ -1,15 +1,7 @@
-use Rattle.std.proofs.Common.{◌≡◌, ◌<◌, ◌≤◌, ◌-◌, ◌+◌, refl, sym, ap, ◌∙◌, true, false, rules, arith, ℕ, suc, zero, get_or, List, [], length, Bool}
-use Rattle.std.specs.Prelude.{slice_get, Some, None, Ok, Err, OnOk, OnErr, IfOk, IfErr}
-use Rattle.std.proofs.lemmas.Grind.{common_steps}
-use Rattle.grid_level.specs.declared.uses.Use.{Use}
-use Rattle.grid_level.specs.VoltageLevel.{VoltageLevel}
-use Rattle.grid_level.specs.Kept.{IsKept, lists_of}
-use Rattle.grid_level.specs.Uses.{place_among, key_here, with_use, without_use, used_nodes, total, tally}
-use Rattle.grid_level.specs.Passing.{is_rising, edges, nodes}
-use Rattle.grid_level.proofs.Counting.{total-with_use, without-with}
-use Rattle.grid_level.proofs.Keeping.{length-edges}
-use Rattle.grid_level.proofs.Coding.{used_is, nodes_counted, nodes_with_two, few_uses, edges_bound, kept_without, undone, internal_refused, internal_memory, internal_done, internal_kept, empty_kept}
-use Rattle.grid_level.specs.LevelEdits.{edge_fits, level_with_internal, level_fault_of}
+use Rattle.std.proofs.Common.{◌≡◌, rules}
+use Rattle.std.specs.Prelude.{Ok}
+use Rattle.grid_level.proofs.Coding.{few_uses, undone, internal_refused, internal_memory, internal_done, internal_kept}
+use Rattle.grid_level.specs.LevelEdits.{edge_fits, level_fault_of}
 use Rattle.grid_ids.specs.Refusing.{map_fault}
 use Rattle.grid_level.proofs.Level.add_internal.Goals as goal
 

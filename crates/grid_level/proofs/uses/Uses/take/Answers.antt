@@ -1,10 +1,5 @@
-use Rattle.std.proofs.Common.{◌≡◌, ◌<◌, ◌≤◌, ◌-◌, ◌+◌, refl, sym, ap, ◌∙◌, true, false, rules, arith, ℕ, suc, zero, OnOk, get_or, List, []}
-use Rattle.std.specs.Prelude.{slice_get, Some, None, ◌==◌}
-use Rattle.std.proofs.lemmas.Bool.{ltb-true, ltb-false}
-use Rattle.grid_level.specs.declared.uses.Use.{Use}
-use Rattle.grid_level.specs.Uses.{place_among, key_here, with_use, without_use, used_nodes, total}
-use Rattle.grid_level.specs.Passing.{is_rising}
-use Rattle.grid_level.proofs.Places.{counted_here, fits_here, counted_new, rising-with_use, rising-without, taken_last, taken_one, without_use-none, key_here_get, key_here_past, node_at_is, taken_more}
+use Rattle.std.proofs.Common.{sym}
+use Rattle.grid_level.proofs.Places.{rising-without, taken_last, without_use-none, taken_more}
 use Rattle.grid_level.proofs.uses.Uses.take.Goals as goal
 
 pub invariant_of-self : goal.invariant_of-self

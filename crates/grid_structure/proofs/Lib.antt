@@ -1,0 +1,15 @@
+pub mod Sound
+pub mod Counts
+pub mod Adding
+pub mod Levels
+pub mod Framing
+pub mod Sides
+pub mod OneLevel
+pub mod Removing
+pub mod Substations
+pub mod Branching
+pub mod Soundly
+pub mod ListOfLevels
+pub mod Places
+pub mod Cutting
+pub mod Starting

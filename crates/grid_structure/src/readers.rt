@@ -1,0 +1,78 @@
+// What a structure tells of itself. None of these takes memory.
+ghost use Rattle.std.specs.Prelude.{◌≡◌, ◌<◌, length, Some, slice_get};
+ghost use Rattle.std.specs.Option.{option_map};
+ghost use Rattle.grid_structure.specs.Sites as sites;
+
+use crate::{Branch, Structure};
+use grid_ids::Id;
+use grid_level::Level;
+
+impl Structure {
+    pub fn id(&self) -> &Id
+        ensures { result.now ≡ self.now.id }
+    {
+        &self.id
+    }
+
+    pub fn substation_count(&self) -> u32
+        ensures { result ≡ length self.now.substations }
+    {
+        self.heads.len() as u32
+    }
+
+    pub fn substation_id(&self, place: u32) -> &Id
+        requires { place < length self.now.substations }
+        ensures { option_map (λ s. s.id) (slice_get self.now.substations place) ≡ Some result.now }
+    {
+        &self.heads[place as usize].id
+    }
+
+    pub fn level_count(&self) -> u32
+        ensures { result ≡ length (sites.levels self.now) }
+    {
+        self.levels.len() as u32
+    }
+
+    /// The level at a place: its position when the substations' levels are put one after the other.
+    pub fn level(&self, place: u32) -> &Level
+        requires { place < length (sites.levels self.now) }
+        ensures { slice_get (sites.levels self.now) place ≡ Some result.now }
+    {
+        &self.levels[place as usize]
+    }
+
+    pub fn switch_total(&self) -> u32
+        ensures { result ≡ length (sites.switches self.now) }
+    {
+        self.switches
+    }
+
+    pub fn branch_count(&self) -> u32
+        ensures { result ≡ length (sites.branches self.now) }
+    {
+        (self.transformers.len() + self.lines.len()) as u32
+    }
+
+    /// The id of the branch at a place: the substations' transformers stand one after the other, then the lines.
+    pub fn branch_id(&self, place: u32) -> &Id
+        requires { place < length (sites.branches self.now) }
+        ensures { option_map (λ b. b.id) (slice_get (sites.branches self.now) place) ≡ Some result.now }
+    {
+        let place = place as usize;
+        if place < self.transformers.len() {
+            return &self.transformers[place].id;
+        }
+        &self.lines[place - self.transformers.len()].id
+    }
+
+    pub fn branch(&self, place: u32) -> &Branch
+        requires { place < length (sites.branches self.now) }
+        ensures { option_map (λ b. b.shape) (slice_get (sites.branches self.now) place) ≡ Some result.now }
+    {
+        let place = place as usize;
+        if place < self.transformers.len() {
+            return &self.transformers[place].shape;
+        }
+        &self.lines[place - self.transformers.len()].shape
+    }
+}
