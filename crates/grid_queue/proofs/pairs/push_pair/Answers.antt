@@ -1,7 +1,7 @@
 use Rattle.std.proofs.Common.{◌≡◌, ◌∙◌, ap, ℕ, List, [], ◌∷◌, ◌++◌, get_or, set}
 use Rattle.std.proofs.lemmas.Result.{on_ok_weaker}
 use Rattle.grid_queue.proofs.PairsAtNodes.{pair_put}
-use Rattle.grid_queue.proofs.lists.push_pair.Goals as goal
+use Rattle.grid_queue.proofs.pairs.push_pair.Goals as goal
 
 pub returns-clause-each : goal.returns-clause-each
 returns-clause-each c =

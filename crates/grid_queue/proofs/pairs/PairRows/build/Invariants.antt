@@ -1,6 +1,6 @@
 use Rattle.std.proofs.Common.{◌≡◌, ℕ, ◌<◌, length, get_or, [], take}
 use Rattle.grid_graph.specs.Joined.{neighbours}
-use Rattle.grid_queue.proofs.lists.PairRows.build.Given as goal
+use Rattle.grid_queue.proofs.pairs.PairRows.build.Given as goal
 
 abbrev pub invariant-loop-pair : goal.invariant-loop-pair
 invariant-loop-pair g l = record {

@@ -2,7 +2,7 @@ use Rattle.std.proofs.Common.{◌∙◌, sym, ap, ◌++◌, get_or}
 use Rattle.std.proofs.lemmas.List.{take_all}
 use Rattle.grid_graph.specs.Joined.{neighbours, end_across}
 use Rattle.grid_queue.proofs.PairsAtNodes.{neighbours_more}
-use Rattle.grid_queue.proofs.lists.PairRows.build.Goals as goal
+use Rattle.grid_queue.proofs.pairs.PairRows.build.Goals as goal
 
 pub loop-pair-init : goal.loop-pair-init
 unfolding neighbours

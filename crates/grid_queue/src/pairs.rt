@@ -1,4 +1,4 @@
-// Lists of what pairs join to each node, and the least node of each group.
+// Pairs of nodes, with rows of what they join to each node.
 ghost use Rattle.std.specs.Prelude.{◌≡◌, ℕ, ◌+◌, ◌<◌, [], ◌∷◌, ◌++◌, length, IfOk, OnOk, slice_set, slice_index_or, IsTrue};
 ghost use Rattle.grid_graph.specs.Joined.{neighbours, end_across};
 ghost use Rattle.grid_graph.specs.Graph.{graph, labels_of, EndsBelow};
@@ -13,7 +13,7 @@ use std::alloc::Global;
 use std::marker::{Brand, Model};
 use std::sync::ledger::{Blank, Ledger};
 
-/// Pairs of nodes with the rows that they make.
+/// Pairs of nodes below a count, with a row for each node of what they join to it.
 #[derive(Drop)]
 struct PairRows<'a> {
     count: u32,
@@ -27,9 +27,9 @@ impl<'a> Model for PairRows<'a> {
 
     ghost Value = { Graph };
 
-    ghost view = { λ lists. graph lists.count lists.pairs.now };
+    ghost view = { λ p. graph p.count p.pairs.now };
 
-    ghost invariant = { λ lists. AreRows lists.count lists.pairs.now lists.rows.items };
+    ghost invariant = { λ p. AreRows p.count p.pairs.now p.rows.items };
 }
 
 /// Puts a pair into the rows of its ends.
@@ -51,7 +51,7 @@ impl<'a> PairRows<'a> {
         steps: &mut Steps<L>,
     ) -> Result<PairRows<'a>, Memory>
         requires { EndsBelow pairs.now count }
-        ensures { IfOk result (λ lists. lists ≡ graph count pairs.now) }
+        ensures { IfOk result (λ net. net ≡ graph count pairs.now) }
     {
         let mut rows = empty_rows(alloc, count, steps)?;
         for pair in pairs {
@@ -72,7 +72,7 @@ fn put_all(queue: &mut WorkQueue, row: &[u32])
 }
 
 impl<'a> Adjacency for PairRows<'a> {
-    ghost graph = { λ lists. lists };
+    ghost graph = { λ net. net };
 
     fn ends_below(&self) {
         let _ = &self.rows;
@@ -102,12 +102,13 @@ fn leaders_counted<L: Ledger>(
     ensures { IfOk result (λ leaders. leaders.items ≡ labels_of (graph count pairs.now)) }
 {
     let mut steps: Steps<L> = Steps::begin(blank);
-    let lists = PairRows::build(alloc, count, pairs, &mut steps)?;
+    let rows = PairRows::build(alloc, count, pairs, &mut steps)?;
     let mut queue = WorkQueue::with_room(alloc, count)?;
-    label_nodes(alloc, &lists, &mut queue, &mut steps)
+    label_nodes(alloc, &rows, &mut queue, &mut steps)
 }
 
-/// For each node below a count the least node that pairs join to it, in time of the nodes and the pairs.
+/// For each node below a count the least node that is joined to it by pairs, itself where there is no lesser one.
+/// The time is that of the nodes and the pairs. Both ends of each pair are below the count.
 pub fn leaders(alloc: Global, count: u32, pairs: &[(u32, u32)]) -> Result<Vec<u32>, Memory>
     requires { EndsBelow pairs.now count }
     ensures { IfOk result (λ leaders. leaders.items ≡ labels_of (graph count pairs.now)) }
