@@ -13,3 +13,7 @@ pub mod ListOfLevels
 pub mod Places
 pub mod Cutting
 pub mod Starting
+pub mod Found
+pub mod Flat
+pub mod Changing
+pub mod Internals

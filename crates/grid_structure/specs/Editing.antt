@@ -1,5 +1,5 @@
 -- What each edit makes of a network, or the first refusal that holds.
-use Rattle.std.specs.Prelude.{ℕ, ◌+◌, Bool, true, not, ◌&&◌, nat_le, if◌then◌else◌, Option, Some, None, Result, Ok, List, [], ◌∷◌, ◌++◌, length, map, filter}
+use Rattle.std.specs.Prelude.{◌≡◌, ℕ, ◌+◌, Bool, true, not, ◌&&◌, nat_le, if◌then◌else◌, Option, Some, None, Result, Ok, Err, List, [], ◌∷◌, ◌++◌, length, map, filter}
 use Rattle.std.specs.List.{list_any}
 use Rattle.grid_ids.specs.Name.{same_id, has_id}
 use Rattle.grid_ids.specs.Refusing.{◌>>=◌, refuse_if, refuse_by, found_or, map_fault}
@@ -15,6 +15,10 @@ use Rattle.grid_structure.specs.declared.Edit.{Edit}
 use Rattle.grid_structure.specs.declared.Edit.TheVariants as edits
 use Rattle.grid_structure.specs.declared.EditFault.{EditFault}
 use Rattle.grid_structure.specs.declared.EditFault.TheVariants as faults
+use Rattle.grid_structure.specs.declared.ApplyFault.{ApplyFault}
+use Rattle.grid_structure.specs.declared.ApplyFault.TheVariants.{Refused, Memory}
+use Rattle.grid_level.specs.declared.LevelFault.{LevelFault}
+use Rattle.grid_level.specs.declared.LevelFault.TheVariants as level_faults
 use Rattle.grid_structure.specs.Network.{Network, Substation}
 use Rattle.grid_structure.specs.Sites.{levels, switches, level_named, substation_named, switch_ids, equipment_ids, taken, branch_ends, home_of}
 
@@ -143,3 +147,20 @@ apply net (edits.RemoveEquipment id) = do
     substations = map (substation_without id) cleared.substations;
     lines = without_branch id cleared.lines;
   })
+
+-- ---- what a call answers
+
+-- the fault of a call is the refusal of the definition, or want of memory
+abbrev pub IsTold : Result Network EditFault → ApplyFault → Type 0
+IsTold result (Refused fault) = result ≡ Err fault
+IsTold result Memory = Unit {0}
+
+-- a level's fault, told of the structure
+abbrev pub told_of : LevelFault → ApplyFault
+told_of (level_faults.NodeRange node) = Refused (faults.NodeRange node)
+told_of (level_faults.SameNode node) = Refused (faults.SameNode node)
+told_of (level_faults.NodeTaken terminal) = Refused (faults.NodeTaken terminal)
+told_of level_faults.NoEdge = Refused faults.NoEdge
+told_of level_faults.TooManyEdges = Refused faults.TooManyEdges
+told_of level_faults.TooManyNodes = Refused faults.TooManyNodes
+told_of level_faults.Memory = Memory
