@@ -83,6 +83,20 @@ module _ {id : List ℕ} {heads : List Head} {ls : List VoltageLevel} {ts lines 
               none (Some j) e = cc
               none None e = refl
 
+  -- a level that has a place is there
+  pub some_level : (level : List ℕ) (k : ℕ) → find_level net level ≡ Some k → (old : VoltageLevel) × (level_named net level ≡ Some old)
+  unfolding find_level level_named
+  some_level level k found = (by (slice_get (levels net) k) refl)
+    where
+      inside : (xs : List VoltageLevel) (n : ℕ) → n < length xs → slice_get xs n ≡ None → ⊥
+      inside [] n l e = absurd (omega arith)
+      inside (x ∷ xs) zero l e = cc
+      inside (x ∷ xs) (suc n) l e = inside xs n (omega arith) e
+
+      by : (o : Option VoltageLevel) → slice_get (levels net) k ≡ o → (old : VoltageLevel) × (find (λ (l : VoltageLevel). same_id level l.id) (levels net) ≡ Some old)
+      by (Some old) e = (old, find_at (λ (l : VoltageLevel). same_id level l.id) (levels net) k old found e)
+      by None e = absurd (inside (levels net) k (position_found (λ (l : VoltageLevel). same_id level l.id) (levels net) k found).0 e)
+
   pub level_put : (level : List ℕ) (k : ℕ) (old new : VoltageLevel) → find_level net level ≡ Some k → slice_get ls k ≡ Some old → new.id ≡ old.id → with_level new net ≡ network_of id heads (slice_set ls k new) ts lines
   level_put level k old new found at same =
       let there = level_there level k old found at in

@@ -22,7 +22,7 @@ use Rattle.grid_structure.proofs.Cutting.{levels-network_of, branches-network_of
 use Rattle.grid_structure.proofs.Found.{any-flat_map}
 
 -- the level carries a busbar section or an injection of this id
-pub has_single : List ℕ → VoltageLevel → Bool
+unfoldable pub has_single : List ℕ → VoltageLevel → Bool
 has_single q l = list_any (same_id q) (map (λ (p : Placed). p.terminal.equipment) (filter (λ (p : Placed). not (is_branch_end p.stand)) l.placed))
 
 abbrev pub sides_over : List VoltageLevel → List NamedBranch → List ℕ → Option ℕ
@@ -107,6 +107,19 @@ flat_alike look other places heads ls bs same k = record {
   each_level = k.each_level;
 }
 
+pub sides_set : (ls : List VoltageLevel) (bs : List NamedBranch) (q : List ℕ) (k : ℕ) (old new : VoltageLevel) → slice_get ls k ≡ Some old → has_single q new ≡ has_single q old → sides_over (slice_set ls k new) bs q ≡ sides_over ls bs q
+sides_set ls bs q k old new at same =
+    ap (λ t. cond t (Some 1) (option_map (λ (b : NamedBranch). length (branch_ends b.shape)) (find (λ (b : NamedBranch). same_id q b.id) bs))) (any_set_same (has_single q) ls k old new at same)
+
+-- what holds at the id that turns and at the others holds of the table
+pub turned : (look other : List ℕ → Option Entry) (e : List ℕ) (entry : Option Entry) → ((q : List ℕ) → other q ≡ cond (bytes_eq e q) entry (look q)) → (P : List ℕ → Option Entry → Type 0)
+    → P e entry → ((q : List ℕ) → bytes_eq e q ≡ false → P q (look q)) → (q : List ℕ) → P q (other q)
+turned look other e entry is P at_e at_q q = by (bytes_eq e q) refl (is q)
+  where
+    by : (t : Bool) → bytes_eq e q ≡ t → other q ≡ cond t entry (look q) → P q (other q)
+    by true h o = subst (λ (z : Option Entry). P q z) (sym o) (subst (λ (z : List ℕ). P z entry) (same_is e q h) at_e)
+    by false h o = subst (λ (z : Option Entry). P q z) (sym o) (at_q q h)
+
 -- one level changed, with the same switches and terminals
 pub flat_same : (look : List ℕ → Option Entry) (places : List ℕ) (heads : List Head) (ls : List VoltageLevel) (bs : List NamedBranch) (k : ℕ) (old new : VoltageLevel) → slice_get ls k ≡ Some old
     → new.id ≡ old.id → new.switches ≡ old.switches → new.placed ≡ old.placed → IsFlat look places heads ls bs → IsFlat look places heads (slice_set ls k new) bs
@@ -116,8 +129,7 @@ flat_same look places heads ls bs k old new at id switches placed f = record {
   levels_found = λ q. position_set_same (λ (l : VoltageLevel). same_id q l.id) ls k old new at (ap (same_id q) id) ∙ f.levels_found q;
   switches_found = λ q. position_set_same (has_switch q) ls k old new at (ap (λ (z : List Switch). has_id (map (λ (s : Switch). s.id) z) q) switches) ∙ f.switches_found q;
   sides_found = λ q.
-      ap (λ t. cond t (Some 1) (option_map (λ (b : NamedBranch). length (branch_ends b.shape)) (find (λ (b : NamedBranch). same_id q b.id) bs)))
-      (any_set_same (has_single q) ls k old new at (ap (λ (z : List Placed). list_any (same_id q) (map (λ (p : Placed). p.terminal.equipment) (filter (λ (p : Placed). not (is_branch_end p.stand)) z))) placed))
+      sides_set ls bs q k old new at (ap (λ (z : List Placed). list_any (same_id q) (map (λ (p : Placed). p.terminal.equipment) (filter (λ (p : Placed). not (is_branch_end p.stand)) z))) placed)
       ∙ f.sides_found q;
   terminals = λ q side.
       position_set_same (has_terminal q side) ls k old new at (ap (λ (z : List Placed). list_any (λ (p : Placed). same_id q p.terminal.equipment && (p.terminal.side == side)) z) placed)
@@ -143,53 +155,17 @@ pub record Others (e : List ℕ) (old new : VoltageLevel) : Type 0 where
 pub flat_turned : (look other : List ℕ → Option Entry) (places : List ℕ) (heads : List Head) (ls : List VoltageLevel) (bs : List NamedBranch) (k : ℕ) (old new : VoltageLevel) (e : List ℕ) (entry : Option Entry)
     → slice_get ls k ≡ Some old → new.id ≡ old.id → ((q : List ℕ) → other q ≡ cond (bytes_eq e q) entry (look q)) → Others e old new → Turns look places (slice_set ls k new) bs e entry
     → IsFlat look places heads ls bs → IsFlat other places heads (slice_set ls k new) bs
-flat_turned look other places heads ls bs k old new e entry at id is others turns f = record {
-  substations = λ q. f.substations q ∙ substation q;
-  levels_found = λ q. position_set_same (λ (l : VoltageLevel). same_id q l.id) ls k old new at (ap (same_id q) id) ∙ f.levels_found q ∙ level q;
-  switches_found = switch;
-  sides_found = side_count;
-  terminals = terminal;
-  within = inner;
-  each_level = f.each_level ∙ sym (length-slice_set ls k new);
-}
-  where
-    split : (P : List ℕ → Type 0) (q : List ℕ) → (bytes_eq e q ≡ true → P e) → (bytes_eq e q ≡ false → P q) → P q
-    split P q at_e at_q = by (bytes_eq e q) refl
-      where
-        by : (t : Bool) → bytes_eq e q ≡ t → P q
-        by true h = subst P (same_is e q h) (at_e h)
-        by false h = at_q h
-
-    here : bytes_eq e e ≡ true
-    here = is_same e e refl
-
-    e_is : other e ≡ entry
-    e_is = is e ∙ ap (λ t. cond t entry (look e)) here
-
-    q_is : (q : List ℕ) → bytes_eq e q ≡ false → other q ≡ look q
-    q_is q h = is q ∙ ap (λ t. cond t entry (look q)) h
-
-    substation : (q : List ℕ) → substation_at (look q) ≡ substation_at (other q)
-    substation q = split (λ z. substation_at (look z) ≡ substation_at (other z)) q (λ h. turns.no_substation ∙ ap substation_at (sym e_is)) (λ h. ap substation_at (sym (q_is q h)))
-
-    level : (q : List ℕ) → level_at places (look q) ≡ level_at places (other q)
-    level q = split (λ z. level_at places (look z) ≡ level_at places (other z)) q (λ h. turns.no_level ∙ ap (level_at places) (sym e_is)) (λ h. ap (level_at places) (sym (q_is q h)))
-
-    switch : (q : List ℕ) → position (has_switch q) (slice_set ls k new) ≡ switch_at places (other q)
-    switch q = split (λ z. position (has_switch z) (slice_set ls k new) ≡ switch_at places (other z)) q
-        (λ h. turns.switch_is ∙ ap (switch_at places) (sym e_is))
-        (λ h. position_set_same (has_switch q) ls k old new at (others.switches q h) ∙ f.switches_found q ∙ ap (switch_at places) (sym (q_is q h)))
-
-    side_count : (q : List ℕ) → sides_over (slice_set ls k new) bs q ≡ sides_at (other q)
-    side_count q = split (λ z. sides_over (slice_set ls k new) bs z ≡ sides_at (other z)) q
-        (λ h. turns.sides_are ∙ ap sides_at (sym e_is))
-        (λ h. ap (λ t. cond t (Some 1) (option_map (λ (b : NamedBranch). length (branch_ends b.shape)) (find (λ (b : NamedBranch). same_id q b.id) bs)))
-            (any_set_same (has_single q) ls k old new at (others.singles q h)) ∙ f.sides_found q ∙ ap sides_at (sym (q_is q h)))
-
-    terminal : (q : List ℕ) (side : ℕ) → position (has_terminal q side) (slice_set ls k new) ≡ terminal_at places side (other q)
-    terminal q side = split (λ z. position (has_terminal z side) (slice_set ls k new) ≡ terminal_at places side (other z)) q
-        (λ h. turns.terminals_are side ∙ ap (terminal_at places side) (sym e_is))
-        (λ h. position_set_same (has_terminal q side) ls k old new at (others.terminals q side h) ∙ f.terminals q side ∙ ap (terminal_at places side) (sym (q_is q h)))
-
-    inner : (q : List ℕ) → is_within (length places) (other q) ≡ true
-    inner q = split (λ z. is_within (length places) (other z) ≡ true) q (λ h. ap (is_within (length places)) e_is ∙ turns.entry_within) (λ h. ap (is_within (length places)) (q_is q h) ∙ f.within q)
+flat_turned look other places heads ls bs k old new e entry at id is others turns f =
+    let level = λ (q : List ℕ). position_set_same (λ (l : VoltageLevel). same_id q l.id) ls k old new at (ap (same_id q) id) in
+    record {
+      substations = turned look other e entry is (λ q o. position (λ (h : Head). same_id q h.id) heads ≡ substation_at o) (f.substations e ∙ turns.no_substation) (λ q h. f.substations q);
+      levels_found = turned look other e entry is (λ q o. position (λ (l : VoltageLevel). same_id q l.id) (slice_set ls k new) ≡ level_at places o) (level e ∙ f.levels_found e ∙ turns.no_level) (λ q h. level q ∙ f.levels_found q);
+      switches_found = turned look other e entry is (λ q o. position (has_switch q) (slice_set ls k new) ≡ switch_at places o) turns.switch_is
+          (λ q h. position_set_same (has_switch q) ls k old new at (others.switches q h) ∙ f.switches_found q);
+      sides_found = turned look other e entry is (λ q o. sides_over (slice_set ls k new) bs q ≡ sides_at o) turns.sides_are
+          (λ q h. sides_set ls bs q k old new at (others.singles q h) ∙ f.sides_found q);
+      terminals = λ q side. turned look other e entry is (λ q o. position (has_terminal q side) (slice_set ls k new) ≡ terminal_at places side o) (turns.terminals_are side)
+          (λ q h. position_set_same (has_terminal q side) ls k old new at (others.terminals q side h) ∙ f.terminals q side) q;
+      within = turned look other e entry is (λ q o. is_within (length places) o ≡ true) turns.entry_within (λ q h. f.within q);
+      each_level = f.each_level ∙ sym (length-slice_set ls k new);
+    }

@@ -17,3 +17,5 @@ pub mod Found
 pub mod Flat
 pub mod Changing
 pub mod Internals
+pub mod Gaining
+pub mod Heading

@@ -3,9 +3,23 @@ ghost use Rattle.std.specs.Prelude.{◌≡◌, Ok, OnOk, OnErr, IfErr};
 ghost use Rattle.grid_structure.specs.Editing as editing;
 ghost use Rattle.grid_structure.specs.Editing.{IsTold, told_of};
 
+use crate::finding::{entry_of, keyed_level, make_room, put_entry};
+use crate::structure::{Entry, Head};
 use crate::{ApplyFault, Edit, EditFault, Structure};
-use grid_ids::Id;
+use grid_ids::{Duplicate, Id, Memory};
+use grid_kinds::SwitchKind;
 use grid_level::LevelFault;
+
+impl From<Memory> for ApplyFault {
+    ghost use Rattle.std.specs.Prelude.{◌≡◌};
+    ghost use Rattle.grid_structure.specs.declared.ApplyFault.TheVariants as variants;
+
+    ghost from_gives = { λ _ fault. fault ≡ variants.Memory };
+
+    fn from(_memory: Memory) -> ApplyFault {
+        ApplyFault::Memory
+    }
+}
 
 // A level's fault, told of the structure.
 fn told(fault: LevelFault) -> ApplyFault
@@ -25,6 +39,74 @@ fn told(fault: LevelFault) -> ApplyFault
 }
 
 impl Structure {
+    /// Puts a substation last.
+    pub fn add_substation(&mut self, id: &Id) -> Result<(), ApplyFault>
+        ensures done { OnOk result (editing.apply self.old (Edit.AddSubstation id.now) ≡ Ok self.new) }
+        ensures same { OnErr result (self.new ≡ self.old) }
+        ensures refused { IfErr result (IsTold (editing.apply self.old (Edit.AddSubstation id.now))) }
+    {
+        if self.taken(id) {
+            return Err(ApplyFault::Refused(EditFault::IdTaken));
+        }
+        if self.heads.len() >= u32::MAX as usize {
+            return Err(ApplyFault::Memory);
+        }
+        let place = self.heads.len() as u32;
+        let name = id.copy()?;
+        let head = Head {
+            id: id.copy()?,
+            levels: 0,
+            transformers: 0,
+        };
+        make_room(&mut self.table)?;
+        match self.heads.push(head) {
+            Ok(()) => {}
+            Err(_) => return Err(ApplyFault::Memory),
+        }
+        put_entry(&mut self.table, name, Entry::Substation(place));
+        Ok(())
+    }
+
+    /// Puts a switch last in its level.
+    pub fn add_switch(
+        &mut self,
+        id: &Id,
+        level: &Id,
+        kind: SwitchKind,
+        node1: i64,
+        node2: i64,
+        opened: bool,
+        retained: bool,
+        fictitious: bool,
+    ) -> Result<(), ApplyFault>
+        ensures done { OnOk result (editing.apply self.old (Edit.AddSwitch id.now level.now kind node1 node2 opened retained fictitious) ≡ Ok self.new) }
+        ensures same { OnErr result (self.new ≡ self.old) }
+        ensures refused { IfErr result (IsTold (editing.apply self.old (Edit.AddSwitch id.now level.now kind node1 node2 opened retained fictitious))) }
+    {
+        if self.taken(id) {
+            return Err(ApplyFault::Refused(EditFault::IdTaken));
+        }
+        let found = match keyed_level(self.places.as_slice(), entry_of(&self.table, level)) {
+            Some(found) => found,
+            None => return Err(ApplyFault::Refused(EditFault::NoLevel)),
+        };
+        if self.switches >= 200_000 {
+            return Err(ApplyFault::Refused(EditFault::TooManySwitches));
+        }
+        let name = id.copy()?;
+        let item = id.copy()?;
+        make_room(&mut self.table)?;
+        match self.levels[found.place as usize]
+            .add_switch(item, kind, node1, node2, opened, retained, fictitious)
+        {
+            Ok(_) => {}
+            Err(fault) => return Err(told(fault)),
+        }
+        put_entry(&mut self.table, name, Entry::Switch(found.key));
+        self.switches += 1;
+        Ok(())
+    }
+
     /// Puts an internal connection last in its level.
     pub fn add_internal(&mut self, level: &Id, node1: i64, node2: i64) -> Result<(), ApplyFault>
         ensures done { OnOk result (editing.apply self.old (Edit.AddInternal level.now node1 node2) ≡ Ok self.new) }

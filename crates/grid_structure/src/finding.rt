@@ -1,7 +1,7 @@
 // What an id finds: by a look-up in the table, and then in one level alone.
-ghost use Rattle.std.specs.Prelude.{◌≡◌, ◌<◌, ◌==◌, ◌&&◌, length, position, find, is_some, IfSome, IsTrue};
+ghost use Rattle.std.specs.Prelude.{◌≡◌, ℕ, List, ◌<◌, ◌==◌, ◌&&◌, length, position, find, if◌then◌else◌, Some, None, IfSome, OnOk, slice_get};
 ghost use Rattle.std.specs.Str.{bytes_eq};
-ghost use Rattle.std.specs.HashMap.{get};
+ghost use Rattle.std.specs.HashMap.{get, spare};
 ghost use Rattle.std.specs.Option.{option_map, option_copied};
 ghost use Rattle.grid_ids.specs.Name.{same_id};
 ghost use Rattle.grid_structure.specs.Indexed.{level_at, switch_at, terminal_at, sides_at, substation_at, find_substation};
@@ -10,7 +10,7 @@ ghost use Rattle.grid_structure.specs.Sites.{switch_spot, terminal_spot};
 
 use crate::structure::Entry;
 use crate::{Site, Structure, SwitchAt};
-use grid_ids::Id;
+use grid_ids::{Id, Memory};
 use grid_level::{Placed, Switch};
 use std::collections::HashMap;
 
@@ -19,6 +19,57 @@ pub(crate) fn entry_of(table: &HashMap<Id, Entry>, id: &Id) -> Option<Entry>
     ensures { result ≡ get bytes_eq table.now id.now }
 {
     table.get(id).copied()
+}
+
+// Room for one entry more.
+pub(crate) fn make_room(table: &mut HashMap<Id, Entry>) -> Result<(), Memory>
+    ensures room { OnOk result (0 < spare table.new) }
+    ensures same { (q : List ℕ) → get bytes_eq table.new q ≡ get bytes_eq table.old q }
+{
+    match table.reserve(1) {
+        Ok(()) => Ok(()),
+        Err(_) => Err(Memory),
+    }
+}
+
+// Puts an entry where there is room for it.
+pub(crate) fn put_entry(table: &mut HashMap<Id, Entry>, id: Id, entry: Entry)
+    requires { 0 < spare table.old }
+    ensures { (q : List ℕ) → get bytes_eq table.new q ≡ (if bytes_eq id q then Some entry else get bytes_eq table.old q) }
+{
+    match table.insert(id, entry) {
+        Ok(_) => {}
+        Err(_) => {}
+    }
+}
+
+// Takes the entry of an id out.
+pub(crate) fn drop_entry(table: &mut HashMap<Id, Entry>, id: &Id)
+    ensures { (q : List ℕ) → get bytes_eq table.new q ≡ (if bytes_eq id.now q then None else get bytes_eq table.old q) }
+{
+    table.remove(id);
+}
+
+/// A level by its key and its place.
+#[derive(Clone, Copy, Debug)]
+pub struct Keyed {
+    pub key: u32,
+    pub place: u32,
+}
+
+// The level with its key.
+pub(crate) fn keyed_level(places: &[u32], entry: Option<Entry>) -> Option<Keyed>
+    ensures place { option_map (λ l. l.place) result ≡ level_at places.now entry }
+    ensures key { IfSome result (λ l. slice_get places.now l.key ≡ Some l.place) }
+{
+    let key = match entry {
+        Some(Entry::Level(key)) => key,
+        _ => return None,
+    };
+    match places.get(key as usize) {
+        Some(place) => Some(Keyed { key, place: *place }),
+        None => None,
+    }
 }
 
 // The place of the substation.
