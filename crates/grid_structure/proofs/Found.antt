@@ -210,3 +210,7 @@ switch_below net q k e = (position_found (has_switch q) (levels net) k e).0
 pub terminal_below : (net : Network) (q : List ℕ) (side k : ℕ) → level_of_terminal net q side ≡ Some k → k < length (levels net)
 unfolding level_of_terminal
 terminal_below net q side k e = (position_found (has_terminal q side) (levels net) k e).0
+
+pub switch_has : (net : Network) (q : List ℕ) (k : ℕ) → level_of_switch net q ≡ Some k → (k < length (levels net)) × ((l : VoltageLevel) → slice_get (levels net) k ≡ Some l → has_switch q l ≡ true)
+unfolding level_of_switch
+switch_has net q k e = position_found (has_switch q) (levels net) k e

@@ -19,3 +19,4 @@ pub mod Changing
 pub mod Internals
 pub mod Gaining
 pub mod Heading
+pub mod Losing

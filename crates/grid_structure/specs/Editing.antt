@@ -155,6 +155,11 @@ abbrev pub IsTold : Result Network EditFault → ApplyFault → Type 0
 IsTold result (Refused fault) = result ≡ Err fault
 IsTold result Memory = Unit {0}
 
+-- no want of memory
+abbrev pub IsRefused : ApplyFault → Type 0
+IsRefused (Refused fault) = Unit {0}
+IsRefused Memory = ⊥
+
 -- a level's fault, told of the structure
 abbrev pub told_of : LevelFault → ApplyFault
 told_of (level_faults.NodeRange node) = Refused (faults.NodeRange node)

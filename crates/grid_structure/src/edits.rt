@@ -1,9 +1,9 @@
 // The edits of a structure, each as the definition of its change.
 ghost use Rattle.std.specs.Prelude.{◌≡◌, Ok, OnOk, OnErr, IfErr};
 ghost use Rattle.grid_structure.specs.Editing as editing;
-ghost use Rattle.grid_structure.specs.Editing.{IsTold, told_of};
+ghost use Rattle.grid_structure.specs.Editing.{IsTold, IsRefused, told_of};
 
-use crate::finding::{entry_of, keyed_level, make_room, put_entry};
+use crate::finding::{drop_entry, entry_of, keyed_level, make_room, put_entry};
 use crate::structure::{Entry, Head};
 use crate::{ApplyFault, Edit, EditFault, Structure};
 use grid_ids::{Duplicate, Id, Memory};
@@ -104,6 +104,23 @@ impl Structure {
         }
         put_entry(&mut self.table, name, Entry::Switch(found.key));
         self.switches += 1;
+        Ok(())
+    }
+
+    /// Takes a switch out; later ones of its level move down by one. It takes no memory.
+    pub fn remove_switch(&mut self, id: &Id) -> Result<(), ApplyFault>
+        ensures done { OnOk result (editing.apply self.old (Edit.RemoveSwitch id.now) ≡ Ok self.new) }
+        ensures same { OnErr result (self.new ≡ self.old) }
+        ensures refused { IfErr result (IsTold (editing.apply self.old (Edit.RemoveSwitch id.now))) }
+        ensures sure { IfErr result IsRefused }
+    {
+        let at = match self.find_switch(id) {
+            Some(at) => at,
+            None => return Err(ApplyFault::Refused(EditFault::NoSuchId)),
+        };
+        self.levels[at.level as usize].remove_switch(at.place);
+        drop_entry(&mut self.table, id);
+        self.switches -= 1;
         Ok(())
     }
 
