@@ -111,6 +111,9 @@ pub sides_set : (ls : List VoltageLevel) (bs : List NamedBranch) (q : List ℕ) 
 sides_set ls bs q k old new at same =
     ap (λ t. cond t (Some 1) (option_map (λ (b : NamedBranch). length (branch_ends b.shape)) (find (λ (b : NamedBranch). same_id q b.id) bs))) (any_set_same (has_single q) ls k old new at same)
 
+pub sides_one : (ls : List VoltageLevel) (bs : List NamedBranch) (q : List ℕ) → list_any (has_single q) ls ≡ true → sides_over ls bs q ≡ Some 1
+sides_one ls bs q h = ap (λ t. cond t (Some 1) (option_map (λ (b : NamedBranch). length (branch_ends b.shape)) (find (λ (b : NamedBranch). same_id q b.id) bs))) h
+
 -- what holds at the id that turns and at the others holds of the table
 pub turned : (look other : List ℕ → Option Entry) (e : List ℕ) (entry : Option Entry) → ((q : List ℕ) → other q ≡ cond (bytes_eq e q) entry (look q)) → (P : List ℕ → Option Entry → Type 0)
     → P e entry → ((q : List ℕ) → bytes_eq e q ≡ false → P q (look q)) → (q : List ℕ) → P q (other q)

@@ -20,3 +20,4 @@ pub mod Internals
 pub mod Gaining
 pub mod Heading
 pub mod Losing
+pub mod Singles

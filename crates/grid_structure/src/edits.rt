@@ -1,14 +1,16 @@
 // The edits of a structure, each as the definition of its change.
-ghost use Rattle.std.specs.Prelude.{◌≡◌, Ok, OnOk, OnErr, IfErr};
+ghost use Rattle.std.specs.Prelude.{◌≡◌, Ok, OnOk, OnErr, IfErr, IsFalse};
+ghost use Rattle.grid_kinds.specs.Records.{Tells};
+ghost use Rattle.grid_level.specs.Passing.{is_branch_end};
 ghost use Rattle.grid_structure.specs.Editing as editing;
-ghost use Rattle.grid_structure.specs.Editing.{IsTold, IsRefused, told_of};
+ghost use Rattle.grid_structure.specs.Editing.{IsTold, IsRefused, told_of, stand_fault, with_single};
 
 use crate::finding::{drop_entry, entry_of, keyed_level, make_room, put_entry};
 use crate::structure::{Entry, Head};
 use crate::{ApplyFault, Edit, EditFault, Structure};
 use grid_ids::{Duplicate, Id, Memory};
-use grid_kinds::SwitchKind;
-use grid_level::LevelFault;
+use grid_kinds::{CheckFault, Injection, SwitchKind, check_injection};
+use grid_level::{LevelFault, Stand, Terminal};
 
 impl From<Memory> for ApplyFault {
     ghost use Rattle.std.specs.Prelude.{◌≡◌};
@@ -38,7 +40,79 @@ fn told(fault: LevelFault) -> ApplyFault
     }
 }
 
+// Whether what is to stand at a node passes its check.
+#[tactic(auto, unfolding(crate::specs::Editing::stand_fault))]
+fn check_stand(stand: &Stand) -> Result<(), CheckFault>
+    ensures { Tells (stand_fault stand.now) result }
+{
+    match stand {
+        Stand::Feeder(item) => check_injection(item),
+        Stand::Busbar => Ok(()),
+        Stand::BranchEnd => Ok(()),
+    }
+}
+
 impl Structure {
+    // Puts a busbar section or an injection at its node.
+    fn add_single(
+        &mut self,
+        id: &Id,
+        level: &Id,
+        node: i64,
+        stand: Stand,
+    ) -> Result<(), ApplyFault>
+        requires { IsFalse (is_branch_end stand) }
+        ensures done { OnOk result (with_single self.old id.now level.now node stand ≡ Ok self.new) }
+        ensures same { OnErr result (self.new ≡ self.old) }
+        ensures refused { IfErr result (IsTold (with_single self.old id.now level.now node stand)) }
+    {
+        if self.taken(id) {
+            return Err(ApplyFault::Refused(EditFault::IdTaken));
+        }
+        let found = match keyed_level(self.places.as_slice(), entry_of(&self.table, level)) {
+            Some(found) => found,
+            None => return Err(ApplyFault::Refused(EditFault::NoLevel)),
+        };
+        match check_stand(&stand) {
+            Ok(()) => {}
+            Err(fault) => return Err(ApplyFault::Refused(EditFault::Check(fault))),
+        }
+        let name = id.copy()?;
+        let equipment = id.copy()?;
+        make_room(&mut self.table)?;
+        let terminal = Terminal { equipment, side: 1 };
+        match self.levels[found.place as usize].place_terminal(node, terminal, stand) {
+            Ok(()) => {}
+            Err(fault) => return Err(told(fault)),
+        }
+        put_entry(&mut self.table, name, Entry::Single(found.key));
+        Ok(())
+    }
+
+    /// Puts a busbar section at its node.
+    pub fn add_busbar(&mut self, id: &Id, level: &Id, node: i64) -> Result<(), ApplyFault>
+        ensures done { OnOk result (editing.apply self.old (Edit.AddBusbar id.now level.now node) ≡ Ok self.new) }
+        ensures same { OnErr result (self.new ≡ self.old) }
+        ensures refused { IfErr result (IsTold (editing.apply self.old (Edit.AddBusbar id.now level.now node))) }
+    {
+        self.add_single(id, level, node, Stand::Busbar)
+    }
+
+    /// Puts an injection at its node.
+    pub fn add_injection(
+        &mut self,
+        id: &Id,
+        level: &Id,
+        node: i64,
+        item: &Injection,
+    ) -> Result<(), ApplyFault>
+        ensures done { OnOk result (editing.apply self.old (Edit.AddInjection id.now level.now node item.now) ≡ Ok self.new) }
+        ensures same { OnErr result (self.new ≡ self.old) }
+        ensures refused { IfErr result (IsTold (editing.apply self.old (Edit.AddInjection id.now level.now node item.now))) }
+    {
+        self.add_single(id, level, node, Stand::Feeder(*item))
+    }
+
     /// Puts a substation last.
     pub fn add_substation(&mut self, id: &Id) -> Result<(), ApplyFault>
         ensures done { OnOk result (editing.apply self.old (Edit.AddSubstation id.now) ≡ Ok self.new) }
