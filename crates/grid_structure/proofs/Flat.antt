@@ -1,8 +1,8 @@
 -- What the table finds, over the flat lists.
 use Rattle.std.proofs.Common.{◌≡◌, refl, sym, ap, ◌∙◌, subst, ℕ, zero, suc, ◌+◌, ◌<◌, ◌≤◌, Bool, true, false, cond, not, ◌&&◌, ◌||◌, List, [], ◌∷◌, ◌++◌, length, arith, Option, Some, None, take, drop}
-use Rattle.std.specs.Prelude.{map, flat_map, find, filter, position, slice_get, slice_set, is_some, ◌==◌, IsTrue, if◌then◌else◌}
+use Rattle.std.specs.Prelude.{map, flat_map, find, filter, position, slice_get, slice_set, is_some, ◌==◌, nat_lt, IsTrue, if◌then◌else◌}
 use Rattle.std.specs.Option.{option_map}
-use Rattle.std.specs.List.{list_any}
+use Rattle.std.specs.List.{list_any, list_all}
 use Rattle.std.specs.Str.{bytes_eq}
 use Rattle.grid_ids.specs.Name.{same_id, has_id}
 use Rattle.grid_level.specs.declared.Placed.{Placed}
@@ -36,6 +36,7 @@ pub record IsFlat (look : List ℕ → Option Entry) (places : List ℕ) (heads 
   pub terminals : (q : List ℕ) (side : ℕ) → position (has_terminal q side) ls ≡ terminal_at places side (look q)
   pub within : (q : List ℕ) → is_within (length places) (look q) ≡ true
   pub each_level : length places ≡ length ls
+  pub below : list_all (λ (place : ℕ). nat_lt place (length ls)) places ≡ true
 
 -- ---- the network's definitions over the flat lists
 
@@ -49,7 +50,7 @@ cut_position q (h ∷ heads) ls ts =
     position-cons (λ (s : Substation). same_id q s.id) first (cut heads ls_rest ts_rest)
     ∙ (rw (cut_position q heads ls_rest ts_rest) (sym (position-cons (λ (h : Head). same_id q h.id) h heads)))
 
-flat_substation : (id : List ℕ) (heads : List Head) (ls : List VoltageLevel) (ts lines : List NamedBranch) (q : List ℕ) → find_substation (network_of id heads ls ts lines) q ≡ position (λ (h : Head). same_id q h.id) heads
+pub flat_substation : (id : List ℕ) (heads : List Head) (ls : List VoltageLevel) (ts lines : List NamedBranch) (q : List ℕ) → find_substation (network_of id heads ls ts lines) q ≡ position (λ (h : Head). same_id q h.id) heads
 unfolding find_substation
 flat_substation id heads ls ts lines q = cut_position q heads ls ts
 
@@ -78,6 +79,7 @@ module _ (id : List ℕ) (heads : List Head) (ls : List VoltageLevel) (ts lines 
     terminals = λ q side. ap (position (has_terminal q side)) (sym ls_are) ∙ k.terminals q side;
     within = k.within;
     each_level = k.each_level ∙ ap length ls_are;
+    below = ap (λ (z : List VoltageLevel). list_all (λ (place : ℕ). nat_lt place (length z)) places) (sym ls_are) ∙ k.places_below;
   }
 
   pub from_flat : (look : List ℕ → Option Entry) (places : List ℕ) → IsFlat look places heads ls (ts ++ lines) → IsIndexed look places net
@@ -90,6 +92,7 @@ module _ (id : List ℕ) (heads : List Head) (ls : List VoltageLevel) (ts lines 
     terminals = λ q side. ap (position (has_terminal q side)) ls_are ∙ k.terminals q side;
     within = k.within;
     each_level = k.each_level ∙ ap length (sym ls_are);
+    places_below = ap (λ (z : List VoltageLevel). list_all (λ (place : ℕ). nat_lt place (length z)) places) ls_are ∙ k.below;
   }
 
 -- ---- changes
@@ -105,6 +108,7 @@ flat_alike look other places heads ls bs same k = record {
   terminals = λ q side. k.terminals q side ∙ ap (terminal_at places side) (sym (same q));
   within = λ q. ap (is_within (length places)) (same q) ∙ k.within q;
   each_level = k.each_level;
+  below = k.below;
 }
 
 pub sides_set : (ls : List VoltageLevel) (bs : List NamedBranch) (q : List ℕ) (k : ℕ) (old new : VoltageLevel) → slice_get ls k ≡ Some old → has_single q new ≡ has_single q old → sides_over (slice_set ls k new) bs q ≡ sides_over ls bs q
@@ -139,6 +143,7 @@ flat_same look places heads ls bs k old new at id switches placed f = record {
       ∙ f.terminals q side;
   within = f.within;
   each_level = f.each_level ∙ sym (length-slice_set ls k new);
+  below = ap (λ n. list_all (λ (place : ℕ). nat_lt place n) places) (length-slice_set ls k new) ∙ f.below;
 }
 
 -- one level changed, and with it what one id finds
@@ -171,4 +176,5 @@ flat_turned look other places heads ls bs k old new e entry at id is others turn
           (λ q h. position_set_same (has_terminal q side) ls k old new at (others.terminals q side h) ∙ f.terminals q side) q;
       within = turned look other e entry is (λ q o. is_within (length places) o ≡ true) turns.entry_within (λ q h. f.within q);
       each_level = f.each_level ∙ sym (length-slice_set ls k new);
+  below = ap (λ n. list_all (λ (place : ℕ). nat_lt place n) places) (length-slice_set ls k new) ∙ f.below;
     }

@@ -109,6 +109,7 @@ module _ {id : List ℕ} {heads : List Head} {ls : List VoltageLevel} {ts lines 
       terminals = λ q side. kept.indexed.terminals q side ∙ ap (terminal_at places side) (sym (same q));
       within = λ q. ap (is_within (length places)) (same q) ∙ kept.indexed.within q;
       each_level = kept.indexed.each_level;
+      places_below = kept.indexed.places_below;
     };
   }
 

@@ -89,6 +89,7 @@ module _ {id : List ℕ} {heads : List Head} {ls : List VoltageLevel} {ts lines 
         terminals = λ q side. turned look other e entry is (λ q o. position (has_terminal q side) ls ≡ terminal_at places side o) (f.terminals e side ∙ ap (terminal_at places side) none) (λ q h. f.terminals q side) q;
         within = turned look other e entry is (λ q o. is_within (length places) o ≡ true) refl (λ q h. f.within q);
         each_level = f.each_level;
+        below = f.below;
       }
 
   pub head_kept : (e : List ℕ) (place : ℕ) (other : List ℕ → Option Entry) → taken net e ≡ false → place ≡ length heads → place + 1 < 2 ^ 32

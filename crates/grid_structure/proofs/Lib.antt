@@ -21,3 +21,5 @@ pub mod Gaining
 pub mod Heading
 pub mod Losing
 pub mod Singles
+pub mod Inserting
+pub mod LevelMore

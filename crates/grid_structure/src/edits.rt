@@ -1,16 +1,19 @@
 // The edits of a structure, each as the definition of its change.
-ghost use Rattle.std.specs.Prelude.{◌≡◌, Ok, OnOk, OnErr, IfErr, IsFalse};
+ghost use Rattle.std.specs.Prelude.{◌≡◌, ◌<◌, ◌≤◌, [], ◌∷◌, ◌++◌, length, map, take, nat_lt, Ok, OnOk, OnErr, IfErr, IsTrue, IsFalse};
+ghost use Rattle.std.specs.List.{list_all};
 ghost use Rattle.grid_kinds.specs.Records.{Tells};
 ghost use Rattle.grid_level.specs.Passing.{is_branch_end};
+ghost use Rattle.grid_structure.specs.Cutting.{level_total};
 ghost use Rattle.grid_structure.specs.Editing as editing;
 ghost use Rattle.grid_structure.specs.Editing.{IsTold, IsRefused, told_of, stand_fault, with_single};
+ghost use Rattle.grid_structure.specs.Indexed as indexed;
 
 use crate::finding::{drop_entry, entry_of, keyed_level, make_room, put_entry};
 use crate::structure::{Entry, Head};
 use crate::{ApplyFault, Edit, EditFault, Structure};
 use grid_ids::{Duplicate, Id, Memory};
-use grid_kinds::{CheckFault, Injection, SwitchKind, check_injection};
-use grid_level::{LevelFault, Stand, Terminal};
+use grid_kinds::{CheckFault, Injection, SwitchKind, check_injection, check_level};
+use grid_level::{Level, LevelFault, Stand, Terminal};
 
 impl From<Memory> for ApplyFault {
     ghost use Rattle.std.specs.Prelude.{◌≡◌};
@@ -52,7 +55,94 @@ fn check_stand(stand: &Stand) -> Result<(), CheckFault>
     }
 }
 
+// How many levels the first substations have.
+fn levels_before(heads: &[Head], count: usize) -> u32
+    requires within { count ≤ length heads.now }
+    requires few { level_total heads.now ≤ 10000 }
+    ensures { result ≡ level_total (take count heads.now) }
+{
+    let mut total = 0;
+    for place in 0..count {
+        total += heads[place].levels;
+    }
+    total
+}
+
+// A place, after a new level stands at this one.
+fn moved(at: u32, place: u32) -> u32
+    requires { place < 10000 }
+    ensures { result ≡ indexed.moved at place }
+{
+    if place < at { place } else { place + 1 }
+}
+
+// The places with that of a new level last, for which those behind it move up.
+fn push_place(places: &mut Vec<u32>, at: u32) -> Result<(), Memory>
+    requires { IsTrue (list_all (λ place. nat_lt place 10000) places.old.items) }
+    ensures ok { OnOk result (places.new.items ≡ map (indexed.moved at) places.old.items ++ at ∷ []) }
+    ensures err { OnErr result (places.new.items ≡ places.old.items) }
+{
+    let count = places.len();
+    match places.push(at) {
+        Ok(()) => {}
+        Err(_) => return Err(Memory),
+    }
+    for key in 0..count {
+        places[key] = moved(at, places[key]);
+    }
+    Ok(())
+}
+
 impl Structure {
+    /// Puts a level last in its substation. The places of the levels of later substations move up by one.
+    pub fn add_level(
+        &mut self,
+        id: &Id,
+        substation: &Id,
+        nominal_v: i64,
+        low_v: Option<i64>,
+        high_v: Option<i64>,
+    ) -> Result<(), ApplyFault>
+        ensures done { OnOk result (editing.apply self.old (Edit.AddLevel id.now substation.now nominal_v low_v high_v) ≡ Ok self.new) }
+        ensures same { OnErr result (self.new ≡ self.old) }
+        ensures refused { IfErr result (IsTold (editing.apply self.old (Edit.AddLevel id.now substation.now nominal_v low_v high_v))) }
+    {
+        if self.taken(id) {
+            return Err(ApplyFault::Refused(EditFault::IdTaken));
+        }
+        let home = match self.find_substation(substation) {
+            Some(home) => home as usize,
+            None => return Err(ApplyFault::Refused(EditFault::NoSubstation)),
+        };
+        if self.levels.len() >= 10_000 {
+            return Err(ApplyFault::Refused(EditFault::TooManyLevels));
+        }
+        match check_level(nominal_v, low_v, high_v) {
+            Ok(()) => {}
+            Err(fault) => return Err(ApplyFault::Refused(EditFault::Check(fault))),
+        }
+        let name = id.copy()?;
+        let item = id.copy()?;
+        make_room(&mut self.table)?;
+        let place = levels_before(self.heads.as_slice(), home + 1);
+        let key = self.places.len() as u32;
+        let level = Level::empty(*self.levels.allocator(), item, nominal_v, low_v, high_v);
+        match self.levels.insert(place as usize, level) {
+            Ok(()) => {}
+            Err(_) => return Err(ApplyFault::Memory),
+        }
+        match push_place(&mut self.places, place) {
+            Ok(()) => {}
+            Err(_) => {
+                self.levels.remove(place as usize);
+                return Err(ApplyFault::Memory);
+            }
+        }
+        self.heads[home].levels += 1;
+        put_entry(&mut self.table, name, Entry::Level(key));
+        Ok(())
+    }
+
     // Puts a busbar section or an injection at its node.
     fn add_single(
         &mut self,
