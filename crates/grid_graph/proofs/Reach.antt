@@ -1,12 +1,12 @@
 -- Nodes joined by pairs: joined is an equivalence, and as many steps as there are nodes reach whatever can be reached.
-use Rattle.std.proofs.Common.{◌≡◌, refl, sym, ap, ◌∙◌, subst, ℕ, zero, suc, ◌+◌, ◌-◌, ◌<◌, ◌≤◌, Bool, true, false, cond, not, ◌&&◌, ◌||◌, List, [], ◌∷◌, ◌++◌, length, inl, inr, arith, ◌⊎◌}
+use Rattle.std.proofs.Common.{◌≡◌, refl, sym, ap, ◌∙◌, subst, ℕ, zero, suc, ◌+◌, ◌-◌, ◌≤◌, Bool, true, false, cond, ◌||◌, List, [], ◌∷◌, ◌++◌, length, inl, inr, arith, ◌⊎◌}
 use Rattle.std.specs.List.{list_any, flat_map, IsDistinct, AllByRecursion}
 use Rattle.std.specs.Cmp.{IsEquivalence}
-use Rattle.std.specs.Prelude.{nat_eq, eqb}
-use Rattle.std.proofs.lemmas.Bool.{or_cases, eqb-true, eqb-false, eq-eqb, ne_eqb, false≢true, true≢false, cases_Bool, both_ways}
+use Rattle.std.specs.Prelude.{eqb}
+use Rattle.std.proofs.lemmas.Bool.{or_cases, eqb-true, eqb-false, eq-eqb, ne_eqb, false≢true, true≢false, cases_Bool}
 use Rattle.std.proofs.lemmas.List.Folds.{list_any-append}
 use Rattle.std.proofs.lemmas.Map.Made.{length-le_from_is_member}
-use Rattle.std.proofs.lemmas.Map.Keys.{IsDistinct-cons, IsDistinct-head, IsDistinct-tail}
+use Rattle.std.proofs.lemmas.Map.Keys.{IsDistinct-cons, IsDistinct-tail}
 use Rattle.std.proofs.Math.Nat.{add-suc, add-zero}
 use Rattle.grid_graph.specs.Joined.{end_across, neighbours, within, joined}
 

@@ -1,0 +1,75 @@
+//! The program: real streams round the top call.
+#![tactic(auto)]
+
+use grid_cli::{Status, grid_once};
+use grid_source::{StdSink, StdSource};
+use std::process::ExitCode;
+use std::{env, io};
+use thiserror::Error;
+
+/// Why a run was not done: the line on standard error.
+#[derive(Debug, Drop, Error)]
+enum Fault {
+    #[error("grid: usage: grid replay < JOB > REPORT (replay is the one word that there is)")]
+    Usage,
+    #[error("grid: standard input could not be read to its end; nothing was written")]
+    ReadFault,
+    #[error("grid: the input is longer than 33,554,432 bytes; nothing was written")]
+    TooLong,
+    #[error("grid: the input is not JSON; nothing was written")]
+    BadJson,
+    #[error("grid: the input is JSON, but no small job (one level and one script, every member given: docs/formats.md); nothing was written")]
+    NotBuilt,
+    #[error("grid: standard output could not be written; the report is cut off")]
+    WriteFault,
+    #[error("grid: memory ran out; the report is cut off or missing")]
+    NoMemory,
+}
+
+/// The exit status, and what is told.
+fn ending(status: Status) -> (u8, Option<Fault>) {
+    match status {
+        Status::Done => (0, None),
+        Status::Usage => (2, Some(Fault::Usage)),
+        Status::ReadFault => (3, Some(Fault::ReadFault)),
+        Status::TooLong => (4, Some(Fault::TooLong)),
+        Status::BadJson => (5, Some(Fault::BadJson)),
+        Status::WriteFault => (7, Some(Fault::WriteFault)),
+        Status::NoMemory => (8, Some(Fault::NoMemory)),
+        Status::NotBuilt => (9, Some(Fault::NotBuilt)),
+    }
+}
+
+/// The words behind the program's name. A word that is no text is no form.
+fn words_of(rt: &HostRuntime) -> Result<Vec<String>, Status> {
+    let all = match env::args(rt) {
+        Ok(all) => all,
+        Err(error) if error.kind() == io::ErrorKind::OutOfMemory => return Err(Status::NoMemory),
+        Err(_) => return Err(Status::Usage),
+    };
+    let mut words = Vec::new(rt.alloc());
+    for word in all.skip(1) {
+        if words.push(word).is_err() {
+            return Err(Status::NoMemory);
+        }
+    }
+    Ok(words)
+}
+
+fn run(rt: &HostRuntime) -> Status {
+    let words = match words_of(rt) {
+        Ok(words) => words,
+        Err(status) => return status,
+    };
+    let mut source = StdSource::new(rt.reader());
+    let mut sink = StdSink::new(io::writer(rt));
+    grid_once(rt.alloc(), words.as_slice(), &mut source, &mut sink)
+}
+
+fn main(rt: HostRuntime) -> ExitCode {
+    let (code, fault) = ending(run(&rt));
+    if let Some(fault) = fault {
+        let _ = eprintln!(rt; "{fault}");
+    }
+    ExitCode::from(code)
+}

@@ -1,0 +1,4 @@
+pub mod Counting
+pub mod Rows
+pub mod Summing
+pub mod Viewing

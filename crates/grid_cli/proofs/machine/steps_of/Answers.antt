@@ -1,0 +1,16 @@
+use Rattle.std.proofs.Common.{◌∙◌}
+use Rattle.grid_cli.proofs.Stepping.{stepped, left, all_stepped, all_left}
+use Rattle.grid_cli.proofs.machine.steps_of.Goals as goal
+
+pub loop-k-preserved : goal.loop-k-preserved
+loop-k-preserved c = record {
+  long = c.perform.ensures.long ∙ c.loop-k.invariant.long;
+  steps = rw (c.in_ok-push.ensures.ok, c.in_ok-copy.ensures) (stepped c.args.level.now c.args.commands.now c.loop-k.k c.index-commands-k.result c.loop-k-test.true c.index-commands-k.is _ _ _ _ _ c.in_ok-answer.ensures.answer c.in_ok-answer.ensures.flags c.loop-k.invariant.steps);
+  flags = left c.args.level.now c.args.commands.now c.loop-k.k c.index-commands-k.result c.loop-k-test.true c.index-commands-k.is _ _ _ c.in_ok-answer.ensures.flags c.loop-k.invariant.flags;
+}
+
+pub returns-clause-steps : goal.returns-clause-steps
+returns-clause-steps c = all_stepped c.args.level.now c.args.commands.now c.loop-k.k _ _ _ c.loop-k-test.false c.loop-k.invariant.steps
+
+pub returns-clause-flags : goal.returns-clause-flags
+returns-clause-flags c = all_left c.args.level.now c.args.commands.now c.loop-k.k _ _ c.loop-k-test.false c.loop-k.invariant.flags

@@ -1,0 +1,7 @@
+pub mod Lists
+pub mod Indices
+pub mod Bridge
+pub mod Placing
+pub mod Standing
+pub mod Steps
+pub mod Under

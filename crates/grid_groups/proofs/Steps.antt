@@ -1,0 +1,183 @@
+-- One step more of a loop.
+use Rattle.std.proofs.Common.{◌≡◌, refl, sym, ap, ◌∙◌, subst, ℕ, zero, suc, ◌+◌, ◌<◌, ◌≤◌, Bool, true, false, cond, ◌&&◌, List, [], ◌∷◌, ◌++◌, length, get_or, set, take, append_assoc, inl, inr, arith, Some, get_or-set_same, get_or-set_other, length-set}
+use Rattle.std.specs.Prelude.{eqb, map, filter, slice_get}
+use Rattle.std.specs.List.{list_all, filter_map, range_with_len, zip}
+use Rattle.std.proofs.lemmas.Slice.Zip.{length-zip, get_or-zip}
+use Rattle.std.proofs.lemmas.Bool.{and_parts, cases_eq, eq-eqb, ne_eqb}
+use Rattle.std.proofs.lemmas.Option.{slice_get_read}
+use Rattle.std.proofs.lemmas.List.{append-nil, map-append, take_more}
+use Rattle.std.proofs.lemmas.List.Elements.{filter_more, filter-append, filter_map-append}
+use Rattle.grid_graph.specs.Components.{places}
+use Rattle.grid_level.specs.declared.Switch.{Switch}
+use Rattle.grid_level.specs.declared.Internal.{Internal}
+use Rattle.grid_level.specs.VoltageLevel.{VoltageLevel}
+use Rattle.grid_level.specs.Passing.{Edge, switch_edge, internal_edge, edges, ends, nodes}
+use Rattle.grid_level.specs.Kept.{among, ends_among}
+use Rattle.grid_groups.specs.Labels.{items_at, places_with}
+use Rattle.grid_groups.proofs.Lists.{get_or_any, passed_below}
+
+-- ---- items that pass, behind others
+
+pub passed_more : {A B C : Type 0} (h : B → C) (f : A → B) (p : A → Bool) (xs : List A) (i : ℕ) (x : A) (old now : List C) → i < length xs → x ≡ get_or xs i x → p x ≡ true
+    → now ≡ old ++ map h (map f (filter p (take i xs))) → now ++ h (f x) ∷ [] ≡ old ++ map h (map f (filter p (take (i + 1) xs)))
+passed_more {A} h f p xs i x old now lt at pass so_far =
+    ap (λ z. z ++ h (f x) ∷ []) so_far ∙ append_assoc old (map h (map f (filter p (take i xs)))) (h (f x) ∷ [])
+    ∙ ap (λ z. old ++ z) (sym (ap (λ z. map h (map f z)) step ∙ ap (map h) (map-append f (filter p (take i xs)) (x ∷ [])) ∙ map-append h (map f (filter p (take i xs))) (f x ∷ [])))
+  where
+    step : filter p (take (i + 1) xs) ≡ filter p (take i xs) ++ x ∷ []
+    step = filter_more p xs i x lt ∙ ap (λ (z : A). filter p (take i xs) ++ cond (p z) (z ∷ []) []) (sym at) ∙ ap (λ t. filter p (take i xs) ++ cond t (x ∷ []) []) pass
+
+pub skipped_more : {A B C : Type 0} (h : B → C) (f : A → B) (p : A → Bool) (xs : List A) (i : ℕ) (x : A) (old now : List C) → i < length xs → x ≡ get_or xs i x → p x ≡ false
+    → now ≡ old ++ map h (map f (filter p (take i xs))) → now ≡ old ++ map h (map f (filter p (take (i + 1) xs)))
+skipped_more {A} h f p xs i x old now lt at pass so_far = so_far ∙ ap (λ z. old ++ map h (map f z)) (sym step)
+  where
+    step : filter p (take (i + 1) xs) ≡ filter p (take i xs)
+    step = filter_more p xs i x lt ∙ ap (λ (z : A). filter p (take i xs) ++ cond (p z) (z ∷ []) []) (sym at) ∙ ap (λ t. filter p (take i xs) ++ cond t (x ∷ []) []) pass ∙ append-nil (filter p (take i xs))
+
+pub mapped_more : {A B C : Type 0} (h : B → C) (f : A → B) (xs : List A) (i : ℕ) (x : A) (old now : List C) → i < length xs → x ≡ get_or xs i x
+    → now ≡ old ++ map h (map f (take i xs)) → now ++ h (f x) ∷ [] ≡ old ++ map h (map f (take (i + 1) xs))
+mapped_more {A} h f xs i x old now lt at so_far =
+    ap (λ z. z ++ h (f x) ∷ []) so_far ∙ append_assoc old (map h (map f (take i xs))) (h (f x) ∷ [])
+    ∙ ap (λ z. old ++ z) (sym (ap (λ z. map h (map f z)) step ∙ ap (map h) (map-append f (take i xs) (x ∷ [])) ∙ map-append h (map f (take i xs)) (f x ∷ [])))
+  where
+    step : take (i + 1) xs ≡ take i xs ++ x ∷ []
+    step = take_more xs i x lt ∙ ap (λ (z : A). take i xs ++ z ∷ []) (sym at)
+
+-- ---- items at places
+
+pub items_more : {X : Type 0} (xs : List X) (ks : List ℕ) (i : ℕ) (x : X) → i < length ks → slice_get xs (get_or ks i 0) ≡ Some x → items_at xs (take (i + 1) ks) ≡ items_at xs (take i ks) ++ x ∷ []
+unfolding items_at
+items_more xs ks i x lt e =
+    ap (filter_map (slice_get xs)) (take_more ks i 0 lt)
+    ∙ filter_map-append (slice_get xs) (take i ks) (get_or ks i 0 ∷ [])
+    ∙ ap (λ z. filter_map (slice_get xs) (take i ks) ++ z) (rw e refl)
+
+-- ---- places that pass
+
+range_more : (a n j : ℕ) → a + n ≡ j → range_with_len a (suc n) ≡ range_with_len a n ++ j ∷ []
+range_more a zero j e = let same : a ≡ j = omega (arith, e) in ap (λ z. z ∷ []) same
+range_more a (suc n) j e = ap (λ z. a ∷ z) (range_more (a + 1) n j (omega (arith, e)))
+
+pub places_more : (n : ℕ) → places (n + 1) ≡ places n ++ n ∷ []
+unfolding places
+places_more n = let next : n + 1 ≡ suc n = omega arith in ap (range_with_len 0) next ∙ range_more 0 n n (omega arith)
+
+pub places_passed : (p : ℕ → Bool) (n : ℕ) → filter p (places (n + 1)) ≡ filter p (places n) ++ cond (p n) (n ∷ []) []
+places_passed p n = ap (filter p) (places_more n) ∙ filter-append p (places n) (n ∷ [])
+
+-- one place more in one of the rows
+pub row_more : (rows : List (List ℕ)) (row place a : ℕ) → row < length rows → get_or (set rows row (get_or rows row [] ++ place ∷ [])) a [] ≡ get_or rows a [] ++ cond (eqb row a) (place ∷ []) []
+row_more rows row place a lt = elim (cases_eq a row) [
+  | inl e ↦ (let P : ℕ → Type 0 = λ z. get_or (set rows row (get_or rows row [] ++ place ∷ [])) z [] ≡ get_or rows z [] ++ cond (eqb row z) (place ∷ []) [] in
+      subst P (sym e) (get_or-set_same rows row (get_or rows row [] ++ place ∷ []) [] lt ∙ sym (ap (λ t. get_or rows row [] ++ cond t (place ∷ []) []) (eq-eqb row row refl))))
+  | inr ne ↦ get_or-set_other rows row a (get_or rows row [] ++ place ∷ []) [] ne ∙ sym (append-nil (get_or rows a []))
+      ∙ sym (ap (λ t. get_or rows a [] ++ cond t (place ∷ []) []) (ne_eqb row a (λ e. ne (sym e))))
+]
+
+-- ---- the nodes of an item
+
+pub switch_ends : (ns : List ℕ) (ss : List Switch) (rest : List Edge) (i : ℕ) (s : Switch) → list_all (ends_among ns) (map switch_edge ss ++ rest) ≡ true → i < length ss → s ≡ get_or ss i s
+    → (among ns s.node1 ≡ true) × (among ns s.node2 ≡ true)
+unfolding ends
+switch_ends ns [] rest i s h lt at = absurd (omega arith)
+switch_ends ns (t ∷ ss) rest zero s h lt at =
+    let P : Switch → Type 0 = λ z. (among ns z.node1 ≡ true) × (among ns z.node2 ≡ true) in
+    subst P (sym at) (and_parts (among ns t.node1) (among ns t.node2) (and_parts (among ns t.node1 && among ns t.node2) (list_all (ends_among ns) (map switch_edge ss ++ rest)) h).0)
+switch_ends ns (t ∷ ss) rest (suc i) s h lt at = switch_ends ns ss rest i s (and_parts (among ns t.node1 && among ns t.node2) (list_all (ends_among ns) (map switch_edge ss ++ rest)) h).1 (omega arith) at
+
+pub internal_ends : (ns : List ℕ) (ss : List Switch) (is : List Internal) (i : ℕ) (n : Internal) → list_all (ends_among ns) (map switch_edge ss ++ map internal_edge is) ≡ true → i < length is → n ≡ get_or is i n
+    → (among ns n.node1 ≡ true) × (among ns n.node2 ≡ true)
+unfolding ends
+internal_ends ns (t ∷ ss) is i n h lt at = internal_ends ns ss is i n (and_parts (among ns t.node1 && among ns t.node2) (list_all (ends_among ns) (map switch_edge ss ++ map internal_edge is)) h).1 lt at
+internal_ends ns [] [] i n h lt at = absurd (omega arith)
+internal_ends ns [] (m ∷ is) zero n h lt at =
+    let P : Internal → Type 0 = λ z. (among ns z.node1 ≡ true) × (among ns z.node2 ≡ true) in
+    subst P (sym at) (and_parts (among ns m.node1) (among ns m.node2) (and_parts (among ns m.node1 && among ns m.node2) (list_all (ends_among ns) (map internal_edge is)) h).0)
+internal_ends ns [] (m ∷ is) (suc i) n h lt at = internal_ends ns [] is i n (and_parts (among ns m.node1 && among ns m.node2) (list_all (ends_among ns) (map internal_edge is)) h).1 (omega arith) at
+
+pub all_at : {X : Type 0} (p : X → Bool) (xs : List X) (i : ℕ) (x : X) → list_all p xs ≡ true → i < length xs → x ≡ get_or xs i x → p x ≡ true
+all_at p [] i x h lt at = absurd (omega arith)
+all_at {X} p (y ∷ xs) zero x h lt at = let P : X → Type 0 = λ z. p z ≡ true in subst P (sym at) (and_parts (p y) (list_all p xs) h).0
+all_at p (y ∷ xs) (suc i) x h lt at = all_at p xs i x (and_parts (p y) (list_all p xs) h).1 (omega arith) at
+
+pub length_put : (rows : List (List ℕ)) (row place : ℕ) → length (set rows row (get_or rows row [] ++ place ∷ [])) ≡ length rows
+length_put rows row place = length-set rows row (get_or rows row [] ++ place ∷ [])
+
+pub map_next : {A B : Type 0} (f : A → B) (xs : List A) (i : ℕ) (x : A) (now : List B) (y : B) → i < length xs → x ≡ get_or xs i x → now ≡ map f (take i xs) → y ≡ f x → now ++ y ∷ [] ≡ map f (take (i + 1) xs)
+map_next {A} f xs i x now y lt at so_far e =
+    ap (λ z. z ++ y ∷ []) so_far ∙ ap (λ z. map f (take i xs) ++ z ∷ []) e
+    ∙ sym (ap (map f) (take_more xs i x lt ∙ ap (λ (z : A). take i xs ++ z ∷ []) (sym at)) ∙ map-append f (take i xs) (x ∷ []))
+
+pub switch_at : (level : VoltageLevel) (ss : List Switch) (i : ℕ) (s : Switch) → list_all (ends_among (nodes level)) (edges level) ≡ true → ss ≡ level.switches → i < length ss → s ≡ get_or ss i s
+    → (among (nodes level) s.node1 ≡ true) × (among (nodes level) s.node2 ≡ true)
+unfolding edges
+switch_at level ss i s h e lt at =
+    let P : List Switch → Type 0 = λ z. list_all (ends_among (nodes level)) (map switch_edge z ++ map internal_edge level.internals) ≡ true in
+    switch_ends (nodes level) ss (map internal_edge level.internals) i s (subst P (sym e) h) lt at
+
+pub internal_at : (level : VoltageLevel) (is : List Internal) (i : ℕ) (d : Internal) → list_all (ends_among (nodes level)) (edges level) ≡ true → is ≡ level.internals → i < length is
+    → (among (nodes level) (get_or is i d).node1 ≡ true) × (among (nodes level) (get_or is i d).node2 ≡ true)
+unfolding edges
+internal_at level is i d h e lt =
+    let P : List Internal → Type 0 = λ z. list_all (ends_among (nodes level)) (map switch_edge level.switches ++ map internal_edge z) ≡ true in
+    internal_ends (nodes level) level.switches is i (get_or is i d) (subst P (sym e) h) lt (get_or_any is i d (get_or is i d) lt)
+
+-- ---- switches with their flags
+
+pub zip_at : (ss : List Switch) (flags : List Bool) (i : ℕ) (s : Switch) (f : Bool) → i < length ss → length flags ≡ length ss → s ≡ get_or ss i s → get_or flags i false ≡ f → (s, f) ≡ get_or (zip ss flags) i (s, f)
+zip_at ss flags i s f lt long at flag =
+    let less : i < length flags = omega (arith, lt, long) in
+    ap (λ (z : Switch). (z, f)) at ∙ ap (λ (t : Bool). (get_or ss i s, t)) (sym flag ∙ get_or_any flags i false f less) ∙ sym (get_or-zip ss flags i (s, f) lt less)
+
+pub zip_within : (ss : List Switch) (flags : List Bool) (i : ℕ) → i < length ss → length flags ≡ length ss → i < length (zip ss flags)
+zip_within ss flags i lt long = omega (arith, length-zip ss flags, lt, long)
+
+pub zip_over : (ss : List Switch) (flags : List Bool) (i : ℕ) → length ss ≤ i → length (zip ss flags) ≤ i
+zip_over ss flags i le = omega (arith, length-zip ss flags, le)
+
+-- ---- what is made of the places that pass
+
+pub mapped_place : {X : Type 0} (f : ℕ → X) (p : ℕ → Bool) (n : ℕ) (now : List X) (y : X) → p n ≡ true → now ≡ map f (filter p (places n)) → y ≡ f n → now ++ y ∷ [] ≡ map f (filter p (places (n + 1)))
+mapped_place f p n now y pass so_far e =
+    ap (λ z. z ++ y ∷ []) so_far ∙ ap (λ z. map f (filter p (places n)) ++ z ∷ []) e ∙ sym (map-append f (filter p (places n)) (n ∷ []))
+    ∙ sym (ap (map f) (places_passed p n ∙ ap (λ t. filter p (places n) ++ cond t (n ∷ []) []) pass))
+
+pub unmapped_place : {X : Type 0} (f : ℕ → X) (p : ℕ → Bool) (n : ℕ) (now : List X) → p n ≡ false → now ≡ map f (filter p (places n)) → now ≡ map f (filter p (places (n + 1)))
+unmapped_place f p n now pass so_far = so_far ∙ sym (ap (map f) (places_passed p n ∙ ap (λ t. filter p (places n) ++ cond t (n ∷ []) []) pass ∙ append-nil (filter p (places n))))
+
+-- a row that was read is that of its number
+pub row_is : (rows : List (List ℕ)) (keys row : List ℕ) (count key : ℕ) → length rows ≡ count → key < count → row ≡ get_or rows key row → ((k : ℕ) → k < count → get_or rows k [] ≡ places_with keys k) → row ≡ places_with keys key
+row_is rows keys row count key long lt at each = at ∙ get_or_any rows key row [] (omega (arith, long, lt)) ∙ each key lt
+
+-- the places with a key are places of the list
+pub places_within : (keys row : List ℕ) (key count : ℕ) → row ≡ places_with keys key → length keys ≡ count → (k : ℕ) → k < length row → get_or row k 0 < count
+unfolding places_with
+places_within keys row key count e long k lt =
+    let r = passed_below (λ j. eqb (get_or keys j 0) key) (length keys) k 0 (omega (arith, lt, ap length e)) in
+    omega (arith, r, long, ap (λ z. get_or z k 0) e)
+
+pub read_item : {X : Type 0} (xs all : List X) (k : ℕ) (x : X) → xs ≡ all → k < length all → x ≡ get_or xs k x → slice_get all k ≡ Some x
+read_item xs all k x same lt at = slice_get_read all (length all) k x refl lt (at ∙ ap (λ z. get_or z k x) same)
+
+pub items_next : {X Y : Type 0} (f : X → Y) (xs all : List X) (ks : List ℕ) (i : ℕ) (x : X) (now : List Y) (y : Y) → i < length ks → xs ≡ all → get_or ks i 0 < length all → x ≡ get_or xs (get_or ks i 0) x
+    → now ≡ map f (items_at all (take i ks)) → y ≡ f x → now ++ y ∷ [] ≡ map f (items_at all (take (i + 1) ks))
+items_next f xs all ks i x now y lt same inside at so_far e =
+    ap (λ z. z ++ y ∷ []) so_far ∙ ap (λ z. map f (items_at all (take i ks)) ++ z ∷ []) e
+    ∙ sym (ap (map f) (items_more all ks i x lt (read_item xs all (get_or ks i 0) x same inside at)) ∙ map-append f (items_at all (take i ks)) (x ∷ []))
+
+-- ---- what is made of the items that pass
+
+pub passed_next : {A B : Type 0} (f : A → B) (p : A → Bool) (xs : List A) (i : ℕ) (x : A) (now : List B) (y : B) → i < length xs → x ≡ get_or xs i x → p x ≡ true → now ≡ map f (filter p (take i xs)) → y ≡ f x
+    → now ++ y ∷ [] ≡ map f (filter p (take (i + 1) xs))
+passed_next {A} f p xs i x now y lt at pass so_far e =
+    ap (λ z. z ++ y ∷ []) so_far ∙ ap (λ z. map f (filter p (take i xs)) ++ z ∷ []) e ∙ sym (ap (map f) step ∙ map-append f (filter p (take i xs)) (x ∷ []))
+  where
+    step : filter p (take (i + 1) xs) ≡ filter p (take i xs) ++ x ∷ []
+    step = filter_more p xs i x lt ∙ ap (λ (z : A). filter p (take i xs) ++ cond (p z) (z ∷ []) []) (sym at) ∙ ap (λ t. filter p (take i xs) ++ cond t (x ∷ []) []) pass
+
+pub skipped_next : {A B : Type 0} (f : A → B) (p : A → Bool) (xs : List A) (i : ℕ) (x : A) (now : List B) → i < length xs → x ≡ get_or xs i x → p x ≡ false → now ≡ map f (filter p (take i xs))
+    → now ≡ map f (filter p (take (i + 1) xs))
+skipped_next {A} f p xs i x now lt at pass so_far = so_far ∙ sym (ap (map f) step)
+  where
+    step : filter p (take (i + 1) xs) ≡ filter p (take i xs)
+    step = filter_more p xs i x lt ∙ ap (λ (z : A). filter p (take i xs) ++ cond (p z) (z ∷ []) []) (sym at) ∙ ap (λ t. filter p (take i xs) ++ cond t (x ∷ []) []) pass ∙ append-nil (filter p (take i xs))

@@ -1,0 +1,83 @@
+// The label of each node.
+ghost use Rattle.std.specs.Prelude.{◌≡◌, IfOk, OnOk, IsTrue, ◌∷◌, ◌++◌, [], length, map, filter};
+ghost use Rattle.std.specs.List.{zip};
+ghost use Rattle.grid_level.specs.Passing.{nodes, ends, switch_edge, internal_edge};
+ghost use Rattle.grid_level.specs.Kept.{among};
+ghost use Rattle.grid_groups.specs.Labels.{index_in, pair_by_index, pair_of, passing_where, labels_where};
+
+use grid_ids::{Memory, Seq};
+use grid_level::Level;
+use std::alloc::Global;
+
+/// Pairs of nodes, by their indices.
+type Pairs = Seq<(u32, u32)>;
+
+/// The index of a node of the level.
+#[tactic(auto, using(crate::proofs::Indices::among_In, crate::proofs::Indices::index_is_first))]
+pub(crate) fn index_of(level: &Level, node: u16) -> u32
+    requires { IsTrue (among (nodes level.now) node) }
+    ensures { result ≡ index_in (nodes level.now) node }
+{
+    level.index_of(node).unwrap()
+}
+
+// Puts a pair of nodes last.
+#[tactic(auto, unfolding(crate::specs::Labels::pair_by_index))]
+fn push_pair(pairs: &mut Pairs, level: &Level, node1: u16, node2: u16) -> Result<(), Memory>
+    requires first { IsTrue (among (nodes level.now) node1) }
+    requires second { IsTrue (among (nodes level.now) node2) }
+    ensures { OnOk result (pairs.new ≡ pairs.old ++ pair_by_index (nodes level.now) (pair_of node1 node2) ∷ []) }
+{
+    pairs.push((index_of(level, node1), index_of(level, node2)))
+}
+
+// Puts the ends of the switches whose flag is set last.
+fn push_switches(pairs: &mut Pairs, level: &Level, passes: &[bool]) -> Result<(), Memory>
+    requires { length passes.now ≡ length level.now.switches }
+    ensures { OnOk result (pairs.new ≡ pairs.old
+        ++ map (pair_by_index (nodes level.now)) (map (λ pair. ends (switch_edge pair.0)) (filter (λ pair. pair.1) (zip level.now.switches passes.now)))) }
+{
+    level.keeps();
+    for (place, switch) in level.switches().iter().enumerate() {
+        if passes[place] {
+            push_pair(pairs, level, switch.node1, switch.node2)?;
+        }
+    }
+    Ok(())
+}
+
+// Puts the ends of the internal connections last.
+fn push_internals(pairs: &mut Pairs, level: &Level) -> Result<(), Memory>
+    ensures { OnOk result (pairs.new ≡ pairs.old ++ map (pair_by_index (nodes level.now)) (map (λ i. ends (internal_edge i)) level.now.internals)) }
+{
+    level.keeps();
+    for internal in level.internals() {
+        push_pair(pairs, level, internal.node1, internal.node2)?;
+    }
+    Ok(())
+}
+
+// The pairs that pass.
+fn passing_pairs(alloc: Global, level: &Level, passes: &[bool]) -> Result<Pairs, Memory>
+    requires { length passes.now ≡ length level.now.switches }
+    ensures { IfOk result (λ pairs. pairs ≡ map (pair_by_index (nodes level.now)) (passing_where level.now passes.now)) }
+{
+    let mut pairs = Pairs::empty(alloc);
+    push_switches(&mut pairs, level, passes)?;
+    push_internals(&mut pairs, level)?;
+    Ok(pairs)
+}
+
+/// For each node of the level, by rising number, the index of the least node joined to it. The switches whose flag
+/// in `passes` is set let pass, and so does each internal connection.
+pub fn labels(alloc: Global, level: &Level, passes: &[bool]) -> Result<Vec<u32>, Memory>
+    requires { length passes.now ≡ length level.now.switches }
+    ensures { IfOk result (λ labels. labels.items ≡ labels_where level.now passes.now) }
+{
+    level.keeps();
+    let pairs = passing_pairs(alloc, level, passes)?;
+    match grid_queue::leaders(alloc, level.node_count(), pairs.slice()) {
+        Ok(labels) => Ok(labels),
+        Err(_) => Err(Memory),
+    }
+}

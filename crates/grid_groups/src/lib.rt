@@ -1,0 +1,8 @@
+//! The groups of a level's nodes, by one label per node: the index of the least node joined to it.
+#![tactic(auto)]
+
+mod grouping;
+mod joining;
+
+pub use grouping::{Group, Groups, Places, group_nodes, leader, terminals_at};
+pub use joining::labels;

@@ -1,0 +1,210 @@
+// Reading values from JSON, each with the first fault and its place.
+ghost use Rattle.std.specs.Prelude.{◌≡◌, ℕ, Result, map, string_bytes};
+ghost use Rattle.std.specs.List.{list_any, list_all};
+ghost use Rattle.std.specs.Str.{bytes_eq};
+ghost use Rattle.std.specs.BTreeMap.{keys};
+ghost use Rattle.serde_json.specs.Data.{Data};
+ghost use Rattle.serde_json.specs.View.{view, items_view};
+ghost use Rattle.grid_json.specs.declared.fault.Fault.{Fault as FaultAt};
+ghost use Rattle.grid_json.specs.Reading.{Gives, whole_at, flag_at, id_at, member_at, optional_at, member_or, object_at, only_at, texts, array_at, items_at, items_len, sized_at};
+
+use crate::{ReadError, Reason};
+use grid_ids::{Id, IdFault, Seq};
+use serde_json::{Map, Value};
+use std::alloc::Global;
+
+/// What is read from a JSON value.
+pub trait FromJson: Sized + Drop {
+    ghost reads: { Data → Result Self FaultAt };
+
+    fn from_json(alloc: Global, value: &Value) -> Result<Self, ReadError>
+        ensures { Gives result (reads (view value.now)) };
+}
+
+impl FromJson for i64 {
+    ghost reads = { whole_at };
+
+    fn from_json(alloc: Global, value: &Value) -> Result<i64, ReadError> {
+        if !value.is_number() {
+            return Err(ReadError::here(alloc, Reason::WrongKind));
+        }
+        match value.as_i64() {
+            Some(number) => Ok(number),
+            None => Err(ReadError::here(alloc, Reason::NotWhole)),
+        }
+    }
+}
+
+impl FromJson for bool {
+    ghost reads = { flag_at };
+
+    fn from_json(alloc: Global, value: &Value) -> Result<bool, ReadError> {
+        match value.as_bool() {
+            Some(flag) => Ok(flag),
+            None => Err(ReadError::here(alloc, Reason::WrongKind)),
+        }
+    }
+}
+
+impl FromJson for Id {
+    ghost reads = { id_at };
+
+    fn from_json(alloc: Global, value: &Value) -> Result<Id, ReadError> {
+        let Some(text) = value.as_str() else {
+            return Err(ReadError::here(alloc, Reason::WrongKind));
+        };
+        match Id::new(alloc, text) {
+            Ok(id) => Ok(id),
+            Err(IdFault::Memory) => Err(ReadError::Memory),
+            Err(fault) => Err(ReadError::here(alloc, Reason::Name(fault))),
+        }
+    }
+}
+
+/// A member that must be there.
+pub fn member<T: FromJson>(alloc: Global, value: &Value, name: &str) -> Result<T, ReadError>
+    ensures { Gives result (member_at T.reads name.now (view value.now)) }
+{
+    match value.get(name) {
+        None => Err(ReadError::here(alloc, Reason::Missing).under(alloc, name)),
+        Some(found) => match T::from_json(alloc, found) {
+            Ok(read) => Ok(read),
+            Err(e) => Err(e.under(alloc, name)),
+        },
+    }
+}
+
+/// A member that may be absent.
+pub fn optional<T: FromJson>(
+    alloc: Global,
+    value: &Value,
+    name: &str,
+) -> Result<Option<T>, ReadError>
+    ensures { Gives result (optional_at T.reads name.now (view value.now)) }
+{
+    match value.get(name) {
+        None => Ok(None),
+        Some(found) => match T::from_json(alloc, found) {
+            Ok(read) => Ok(Some(read)),
+            Err(e) => Err(e.under(alloc, name)),
+        },
+    }
+}
+
+/// A member that may be absent, and what stands for it then.
+pub fn member_otherwise<T: FromJson>(
+    alloc: Global,
+    value: &Value,
+    name: &str,
+    otherwise: T,
+) -> Result<T, ReadError>
+    ensures { Gives result (member_or otherwise T.reads name.now (view value.now)) }
+{
+    match value.get(name) {
+        None => Ok(otherwise),
+        Some(found) => match T::from_json(alloc, found) {
+            Ok(read) => Ok(read),
+            Err(e) => Err(e.under(alloc, name)),
+        },
+    }
+}
+
+/// The value is an object.
+pub fn object(alloc: Global, value: &Value) -> Result<(), ReadError>
+    ensures { Gives result (object_at (view value.now)) }
+{
+    if value.is_object() {
+        Ok(())
+    } else {
+        Err(ReadError::here(alloc, Reason::WrongKind))
+    }
+}
+
+/// Whether the name is among those given.
+fn is_among(names: &[&str], name: &str) -> bool
+    ensures { result ≡ list_any (λ known. bytes_eq known.now name.now) names.now }
+{
+    names.iter().any(|known| *known == name)
+}
+
+/// Whether each member's name is among those given.
+fn has_only(names: &[&str], map: &Map<String, Value>) -> bool
+    ensures { result ≡ list_all
+        (λ k. list_any (λ known. bytes_eq known.now (string_bytes k)) names.now) (keys map.now) }
+{
+    map.keys().all(|name| is_among(names, name.as_str()))
+}
+
+/// The value is an object that has no member but these.
+pub fn only(alloc: Global, value: &Value, names: &[&str]) -> Result<(), ReadError>
+    ensures { Gives result (only_at (texts names.now) (view value.now)) }
+{
+    let Some(map) = value.as_object() else {
+        return Err(ReadError::here(alloc, Reason::WrongKind));
+    };
+    if has_only(names, map) {
+        Ok(())
+    } else {
+        Err(ReadError::here(alloc, Reason::Unknown))
+    }
+}
+
+impl<T: FromJson> FromJson for Seq<T> {
+    ghost reads = { array_at T.reads };
+
+    fn from_json(alloc: Global, value: &Value) -> Result<Seq<T>, ReadError> {
+        match value.as_array() {
+            None => Err(ReadError::here(alloc, Reason::WrongKind)),
+            Some(items) => read_items(alloc, items.as_slice()),
+        }
+    }
+}
+
+/// Each item, under its position.
+fn read_items<T: FromJson>(alloc: Global, items: &[Value]) -> Result<Seq<T>, ReadError>
+    ensures { Gives result (items_at T.reads 0 (items_view items.now)) }
+{
+    let mut list = Seq::empty(alloc);
+    for (i, item) in items.iter().enumerate() {
+        match T::from_json(alloc, item) {
+            Ok(read) => list.push(read)?,
+            Err(e) => return Err(e.under_position(alloc, i)),
+        }
+    }
+    Ok(list)
+}
+
+/// An array of this many items.
+#[tactic(auto, using(crate::proofs::Items::items_len_is))]
+fn sized<T: FromJson>(alloc: Global, value: &Value, count: usize) -> Result<Seq<T>, ReadError>
+    ensures { Gives result (sized_at count T.reads (view value.now)) }
+{
+    match value.as_array() {
+        None => Err(ReadError::here(alloc, Reason::WrongKind)),
+        Some(items) => {
+            if items.len() == count {
+                read_items(alloc, items.as_slice())
+            } else {
+                Err(ReadError::here(alloc, Reason::WrongKind))
+            }
+        }
+    }
+}
+
+/// A member that must be there, an array of this many items.
+pub fn sized_member<T: FromJson>(
+    alloc: Global,
+    value: &Value,
+    name: &str,
+    count: usize,
+) -> Result<Seq<T>, ReadError>
+    ensures { Gives result (member_at (sized_at count T.reads) name.now (view value.now)) }
+{
+    match value.get(name) {
+        None => Err(ReadError::here(alloc, Reason::Missing).under(alloc, name)),
+        Some(found) => match sized(alloc, found, count) {
+            Ok(read) => Ok(read),
+            Err(e) => Err(e.under(alloc, name)),
+        },
+    }
+}

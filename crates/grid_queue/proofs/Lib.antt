@@ -1,0 +1,8 @@
+pub mod Marks
+pub mod PassingWays
+pub mod Putting
+pub mod PairsAtNodes
+pub mod Sweep
+pub mod Walking
+pub mod Ways
+pub mod Writing

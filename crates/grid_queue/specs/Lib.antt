@@ -1,0 +1,4 @@
+pub mod Net
+pub mod Work
+pub mod Walks
+pub mod Adjacency

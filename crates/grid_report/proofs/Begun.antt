@@ -1,0 +1,52 @@
+-- What was written where a write stopped: a front of all that was to be written.
+use Rattle.std.proofs.Common.{◌≡◌, ℕ, suc, ◌<◌, ◌≤◌, List, [], ◌∷◌, ◌++◌, take, drop, get_or, length, Option, None, Some, refl, sym, ap, ◌∙◌, append_assoc, append-nil, take-append-drop, drop-cons, Result, Ok, Err}
+use Rattle.std.specs.Prelude.{OnErr}
+use Rattle.std.specs.List.{flat_map}
+use Rattle.std.specs.Io.KnownBytes.{Appends, append_known}
+use Rattle.std.proofs.lemmas.List.{take_all}
+use Rattle.std.proofs.lemmas.List.Concat.{flat_map-append}
+use Rattle.grid_source.specs.Whole.{IsBegun}
+
+pub on_err : {T E : Type 0} {P : Type 0} (r : Result T E) → P → OnErr r P
+on_err (Ok x) p = tt
+on_err (Err e) p = p
+
+pub on_err_map : {T E : Type 0} {P Q : Type 0} (r : Result T E) → (P → Q) → OnErr r P → OnErr r Q
+on_err_map (Ok x) f p = tt
+on_err_map (Err e) f p = f p
+
+joined : (x y text waits rest bytes : List ℕ) → bytes ≡ text ++ rest → y ++ waits ≡ x ++ text → x ++ bytes ≡ y ++ (waits ++ rest)
+joined x y text waits rest bytes e p = ap (λ l. x ++ l) e ∙ sym (append_assoc x text rest) ∙ ap (λ l. l ++ rest) (sym p) ∙ append_assoc y waits rest
+
+-- nothing of what waits was handed over
+pub before : (w0 w : Option (List ℕ)) (waits text rest bytes : List ℕ) → bytes ≡ text ++ rest → Appends w0 (append_known w waits) text → IsBegun w0 bytes w
+before None w waits text rest bytes e p = tt
+before (Some x) None waits text rest bytes e p = absurd p
+before (Some x) (Some y) waits text rest bytes e p = (waits ++ rest, joined x y text waits rest bytes e p)
+
+-- the write stopped within a line
+pub within : (w0 h v : Option (List ℕ)) (text line rest bytes : List ℕ) → bytes ≡ text ++ (line ++ rest) → Appends w0 h text → IsBegun h line v → IsBegun w0 bytes v
+within None h v text line rest bytes e p q = tt
+within (Some x) None v text line rest bytes e p q = absurd p
+within (Some x) (Some y) None text line rest bytes e p q = absurd q
+within (Some x) (Some y) (Some z) text line rest bytes e p q =
+    (q.0 ++ rest, joined x y text [] (line ++ rest) bytes e (append-nil y ∙ p) ∙ sym (append_assoc y line rest) ∙ ap (λ l. l ++ rest) q.1 ∙ append_assoc z q.0 rest)
+
+-- the write stopped in what waited at the end
+pub at_end : (w0 w v : Option (List ℕ)) (waits text : List ℕ) (done : ℕ) → Appends w0 (append_known w waits) text → Appends w v (take done waits) → IsBegun w0 text v
+at_end None w v waits text done p q = tt
+at_end (Some x) None v waits text done p q = absurd p
+at_end (Some x) (Some y) None waits text done p q = absurd q
+at_end (Some x) (Some y) (Some z) waits text done p q =
+    let whole : z ++ drop done waits ≡ y ++ waits = ap (λ l. l ++ drop done waits) q ∙ append_assoc y (take done waits) (drop done waits) ∙ ap (λ l. y ++ l) (take-append-drop done waits) in
+    (drop done waits, sym (whole ∙ p))
+
+module _ {X : Type 0} (f : X → List ℕ) where
+  pub cut : (xs : List X) (i : ℕ) → flat_map f xs ≡ flat_map f (take i xs) ++ flat_map f (drop i xs)
+  cut xs i = ap (flat_map f) (sym (take-append-drop i xs)) ∙ flat_map-append f (take i xs) (drop i xs)
+
+  pub cut_at : (xs : List X) (i : ℕ) (x : X) → i < length xs → x ≡ get_or xs i x → flat_map f xs ≡ flat_map f (take i xs) ++ (f x ++ flat_map f (drop (suc i) xs))
+  cut_at xs i x lt is = cut xs i ∙ ap (λ l. flat_map f (take i xs) ++ flat_map f l) (drop-cons xs i x lt ∙ ap (λ w. w ∷ drop (suc i) xs) (sym is))
+
+  pub whole : (xs : List X) (i : ℕ) → length xs ≤ i → flat_map f (take i xs) ≡ flat_map f xs
+  whole xs i le = ap (flat_map f) (take_all i xs le)

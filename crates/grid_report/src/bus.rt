@@ -1,0 +1,95 @@
+// The lines of buses.
+ghost use Rattle.std.specs.Prelude.{◌≡◌, ◌++◌, OnOk};
+ghost use Rattle.grid_report.specs.Lines.{bus_name, terminals_text, flows_text, bus_line, bus_lines, count_text, level_text};
+
+use crate::text::{Shown, Text, put_spaced};
+use grid_busview::{BusView, ViewBus};
+use grid_ids::{Id, Memory};
+use grid_level::Terminal;
+
+impl Shown for Terminal {
+    ghost use Rattle.grid_report.specs.Lines.{terminal_text};
+
+    ghost shown = { terminal_text };
+
+    fn show(&self, out: &mut Text) -> Result<(), Memory> {
+        out.put(self.equipment.text())?;
+        out.put(".")?;
+        out.put_unsigned(u64::from(self.side))
+    }
+}
+
+/// Puts the name of a bus: its level's id and its least node.
+pub fn put_bus_name(out: &mut Text, level: &Id, least: u16) -> Result<(), Memory>
+    ensures { OnOk result (out.new ≡ out.old ++ bus_name level.now least) }
+{
+    out.put(level.text())?;
+    out.put("_")?;
+    out.put_unsigned(u64::from(least))
+}
+
+fn put_terminals(out: &mut Text, terminals: &[Terminal]) -> Result<(), Memory>
+    ensures { OnOk result (out.new ≡ out.old ++ terminals_text terminals.now) }
+{
+    if terminals.is_empty() {
+        out.put(" -")
+    } else {
+        put_spaced(out, terminals)
+    }
+}
+
+fn put_flows(out: &mut Text, load: &i128, generation: &i128) -> Result<(), Memory>
+    ensures { OnOk result (out.new ≡ out.old ++ flows_text load.now generation.now) }
+{
+    out.put(" | load ")?;
+    out.put_signed(load)?;
+    out.put(" | generation ")?;
+    out.put_signed(generation)?;
+    out.put("\n")?;
+    Ok(())
+}
+
+/// Puts the line of a bus.
+fn put_bus(out: &mut Text, level: &Id, bus: &ViewBus) -> Result<(), Memory>
+    ensures { OnOk result (out.new ≡ out.old ++ bus_line level.now bus.now) }
+{
+    out.put("  bus ")?;
+    put_bus_name(out, level, bus.least)?;
+    out.put(" |")?;
+    put_spaced(out, bus.nodes.slice())?;
+    out.put(" |")?;
+    put_terminals(out, bus.terminals.slice())?;
+    put_flows(out, &bus.load, &bus.generation)
+}
+
+/// Puts the line of each bus of a view.
+#[tactic(auto, unfolding(crate::specs::Lines::bus_lines))]
+pub fn put_buses(out: &mut Text, view: &BusView) -> Result<(), Memory>
+    ensures { OnOk result (out.new ≡ out.old ++ bus_lines view.now) }
+{
+    for bus in view.buses.slice() {
+        put_bus(out, &view.level, bus)?;
+    }
+    Ok(())
+}
+
+/// Puts how many buses a view has.
+pub fn put_count(out: &mut Text, view: &BusView) -> Result<(), Memory>
+    ensures { OnOk result (out.new ≡ out.old ++ count_text view.now) }
+{
+    out.put_unsigned(view.buses.len() as u64)?;
+    out.put(" buses")
+}
+
+/// Puts a level's line with its buses.
+#[tactic(auto, unfolding(crate::specs::Lines::level_text))]
+pub fn put_level(out: &mut Text, view: &BusView) -> Result<(), Memory>
+    ensures { OnOk result (out.new ≡ out.old ++ level_text view.now) }
+{
+    out.put("level ")?;
+    out.put(view.level.text())?;
+    out.put(": ")?;
+    put_count(out, view)?;
+    out.put("\n")?;
+    put_buses(out, view)
+}

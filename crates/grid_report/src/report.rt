@@ -1,0 +1,36 @@
+// Blocks of text, handed to a sink.
+ghost use Rattle.std.specs.Prelude.{◌≡◌, ◌≤◌, OnOk, OnErr, Err};
+ghost use Rattle.std.specs.List.{flat_map};
+ghost use Rattle.std.specs.Io.KnownBytes.{Appends};
+ghost use Rattle.grid_source.specs.Causes.{Rose};
+ghost use Rattle.grid_source.specs.Whole.{IsBegun};
+
+use crate::pieces::{Pieces, ReportFault};
+use crate::text::{Shown, Text};
+use grid_source::Sink;
+use std::alloc::Global;
+
+/// Writes each block, in pieces of `PIECE` bytes, the last one shorter. A piece that is taken in part is offered again
+/// from its rest. It stops only where the sink's count of faults rose; after that, or want of memory, a front of the
+/// text was written.
+pub fn write_blocks<T: Shown, K: Sink>(
+    alloc: Global,
+    blocks: &[T],
+    sink: &mut K,
+) -> Result<(), ReportFault>
+    ensures ok { OnOk result
+        (Appends (K.written sink.old) (K.written sink.new) (flat_map T.shown blocks.now)) }
+    ensures err { OnErr result
+        (IsBegun (K.written sink.old) (flat_map T.shown blocks.now) (K.written sink.new)) }
+    ensures later { K.faults sink.old ≤ K.faults sink.new }
+    ensures cause { result ≡ Err ReportFault.Stopped → Rose (K.faults sink.old) (K.faults sink.new) }
+{
+    let mut pieces = Pieces::empty(alloc);
+    let mut text = Text::empty(alloc);
+    for block in blocks {
+        text.clear();
+        block.show(&mut text)?;
+        pieces.put(sink, text.as_bytes())?;
+    }
+    pieces.finish(sink)
+}
