@@ -45,3 +45,6 @@ pub struct BusBreakerView {
     pub buses: Buses,
     pub switches: ViewSwitches,
 }
+
+#[cfg(test)]
+mod tests;

@@ -35,3 +35,6 @@ pub struct BusView {
     pub level: Id,
     pub buses: ViewBuses,
 }
+
+#[cfg(test)]
+mod tests;

@@ -1,16 +1,15 @@
--- A component's number is the rank of its least bus among the sizes.
-use Rattle.std.proofs.Common.{◌≡◌, refl, sym, ap, ◌∙◌, subst, ℕ, zero, suc, ◌+◌, ◌-◌, ◌<◌, ◌≤◌, Bool, true, false, not, cond, ◌&&◌, List, [], ◌∷◌, length, arith, inl, inr, ◌⊎◌}
+-- The sizes of groups, as counts of the nodes of one label.
+use Rattle.std.proofs.Common.{◌≡◌, refl, sym, ap, ◌∙◌, subst, ℕ, zero, suc, ◌+◌, ◌-◌, ◌<◌, ◌≤◌, Bool, true, false, cond, ◌&&◌, List, [], ◌∷◌, length, arith, inl, inr, ◌⊎◌}
 use Rattle.std.specs.Prelude.{eqb, filter, count_by, nat_lt, map}
-use Rattle.std.specs.List.{list_any, range_with_len}
-use Rattle.std.proofs.lemmas.Bool.{false≢true, both_ways, cases_Bool, eq-eqb, ne_eqb, ltb-true, lt-ltb, le-ltb}
+use Rattle.std.specs.List.{range_with_len}
+use Rattle.std.proofs.lemmas.Bool.{false≢true, both_ways, cases_Bool, eq-eqb, ne_eqb, lt-ltb, le-ltb}
 use Rattle.std.proofs.lemmas.List.Sums.{length-filter}
-use Rattle.grid_graph.specs.Joined.{joined, is_least}
 use Rattle.grid_graph.specs.Components.{places}
-use Rattle.grid_graph.proofs.Reach.{In, any_of, any_from}
+use Rattle.grid_graph.proofs.Reach.{In}
 use Rattle.grid_graph.proofs.Places.{AreBelow, In_places, places_In}
 use Rattle.grid_graph.specs.Graph.{Graph, joined_in, least_joined, count_joined}
 use Rattle.grid_components.specs.Ranks.{is_key}
-use Rattle.grid_graph.proofs.Least.{least_is_least, least_same, joined_from_least, least_le, n_refl, n_same, In_filter}
+use Rattle.grid_graph.proofs.Least.{least_same, joined_from_least, n_refl, n_same, In_filter}
 use Rattle.grid_graph.proofs.Least.{leads_itself}
 use Rattle.grid_components.proofs.Tallies.{counts_same, counts_none}
 
@@ -36,14 +35,6 @@ groups_step : (p : List ℕ → Bool) (f : ℕ → List ℕ) (q : ℕ → Bool) 
     → length (filter p (map f (cond t (x ∷ filter q xs) (filter q xs)))) ≡ length (cond (t && p (f x)) (x ∷ filter (λ y. q y && p (f y)) xs) (filter (λ y. q y && p (f y)) xs))
 groups_step p f q x xs true e = groups_cond (p (f x)) true (f x) x (filter p (map f (filter q xs))) (filter (λ y. q y && p (f y)) xs) e
 groups_step p f q x xs false e = e
-
-and_both : (a b : Bool) → a ≡ true → b ≡ true → (a && b) ≡ true
-and_both true b e f = f
-and_both false b e f = absurd (false≢true e)
-
-and_parts : (a b : Bool) → (a && b) ≡ true → (a ≡ true) × (b ≡ true)
-and_parts true b e = (refl, e)
-and_parts false b e = absurd (false≢true e)
 
 and_true : (a : Bool) → (a && true) ≡ a
 and_true true = refl
@@ -108,24 +99,3 @@ joined_some net x fit lt = rw (← length-filter (joined_in net x) (places net.n
 pub count_same : (net : Graph) (a b : ℕ) → AreBelow net.nodes net.pairs → a < net.nodes → joined_in net a b ≡ true → count_joined net a ≡ count_joined net b
 unfolding count_joined
 count_same net a b fit lt h = counts_same (joined_in net a) (joined_in net b) (places net.nodes) (λ x i. n_same net a b x fit lt h)
-
--- ---- the least nodes
-
-pub least_true : (net : Graph) (a : ℕ) → AreBelow net.nodes net.pairs → a < net.nodes → least_joined net a ≡ a → is_least (places net.nodes) net.pairs a ≡ true
-unfolding is_least joined_in
-least_true net a fit lt leads = pick (list_any (λ b. nat_lt b a && joined (places net.nodes) net.pairs a b) (places net.nodes)) refl
-  where
-    pick : (t : Bool) → list_any (λ b. nat_lt b a && joined (places net.nodes) net.pairs a b) (places net.nodes) ≡ t → not t ≡ true
-    pick true e =
-        let r = any_from (λ b. nat_lt b a && joined (places net.nodes) net.pairs a b) (places net.nodes) e in
-        let parts = and_parts (nat_lt r.0 a) (joined (places net.nodes) net.pairs a r.0) r.2 in
-        absurd (omega (arith, ltb-true r.0 a parts.0, (least_is_least net a fit lt).least r.0 parts.1, leads))
-    pick false e = refl
-
-pub least_false : (net : Graph) (a : ℕ) → AreBelow net.nodes net.pairs → a < net.nodes → (least_joined net a ≡ a → ⊥) → is_least (places net.nodes) net.pairs a ≡ false
-unfolding is_least joined_in
-least_false net a fit lt other =
-    let l = least_joined net a in
-    let less : l < a = omega (arith, least_le net a fit lt, other) in
-    ap not (any_of (λ b. nat_lt b a && joined (places net.nodes) net.pairs a b) (places net.nodes) l (In_places l net.nodes (omega (arith, less, lt)))
-    (and_both (nat_lt l a) (joined (places net.nodes) net.pairs a l) (lt-ltb l a less) (least_is_least net a fit lt).reached))

@@ -1,10 +1,13 @@
 -- Labels of a graph: for each node the least one that is joined to it.
-use Rattle.std.proofs.Common.{◌≡◌, sym, ◌∙◌, ℕ, ◌<◌, List, length, get_or, arith}
+use Rattle.std.proofs.Common.{true, false, inl, inr, ◌≡◌, sym, ◌∙◌, ℕ, ◌<◌, List, length, get_or, arith}
 use Rattle.std.specs.Prelude.{eqb}
-use Rattle.std.proofs.lemmas.Bool.{eqb-true, eq-eqb}
+use Rattle.std.proofs.lemmas.Bool.{both_ways, cases_Bool, eqb-true, eq-eqb}
+use Rattle.grid_graph.specs.Joined.{is_least}
+use Rattle.grid_graph.specs.Components.{places}
 use Rattle.grid_graph.specs.Graph.{Graph, joined_in, least_joined, labels_of}
-use Rattle.grid_graph.proofs.Places.{AreBelow, same_test}
-use Rattle.grid_graph.proofs.Least.{least_below, least_same, joined_from_least}
+use Rattle.grid_graph.proofs.Places.{AreBelow, In_places, same_test}
+use Rattle.grid_graph.proofs.Least.{least_is_least, least_below, least_le, least_same, joined_from_least}
+use Rattle.grid_graph.proofs.Leading.{none_joined, least_apart_from}
 use Rattle.grid_graph.proofs.Counts.{at_place, long_places}
 
 pub labels_long : (net : Graph) (labels : List ℕ) → labels ≡ labels_of net → length labels ≡ net.nodes
@@ -28,3 +31,19 @@ same_label net labels a b fit e lt less =
     same_test _ _
     (λ h. joined_from_least net a b fit lt less (sym here ∙ eqb-true (get_or labels a 0) (get_or labels b 0) h ∙ there))
     (λ h. eq-eqb (get_or labels a 0) (get_or labels b 0) (here ∙ least_same net a b fit lt h ∙ sym there))
+
+-- ---- the least nodes are those with their own label
+
+pub least_true : (net : Graph) (a : ℕ) → AreBelow net.nodes net.pairs → a < net.nodes → least_joined net a ≡ a → is_least (places net.nodes) net.pairs a ≡ true
+unfolding joined_in
+least_true net a fit lt leads = none_joined (places net.nodes) net.pairs a (λ c i j. omega (arith, (least_is_least net a fit lt).least c j, leads))
+
+pub least_false : (net : Graph) (a : ℕ) → AreBelow net.nodes net.pairs → a < net.nodes → (least_joined net a ≡ a → ⊥) → is_least (places net.nodes) net.pairs a ≡ false
+unfolding joined_in
+least_false net a fit lt other =
+    let l : ℕ = least_joined net a in
+    let less : l < a = omega (arith, least_le net a fit lt, other) in
+    elim (cases_Bool (is_least (places net.nodes) net.pairs a)) [
+      | inl h ↦ absurd (both_ways _ (least_apart_from (places net.nodes) net.pairs a l h (In_places l net.nodes (omega (arith, less, lt))) less) (least_is_least net a fit lt).reached)
+      | inr h ↦ h
+    ]

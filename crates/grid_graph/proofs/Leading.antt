@@ -106,7 +106,8 @@ unfolding is_least
 least_apart_from nodes pairs a b least i lt =
     and_false (nat_lt b a) (joined nodes pairs a b) (none_of (λ c. nat_lt c a && joined nodes pairs a c) nodes b (not_any _ least) i) (lt-ltb b a lt)
 
-none_joined : (nodes : List ℕ) (pairs : List (ℕ × ℕ)) (a : ℕ) → ((c : ℕ) → In c nodes → joined nodes pairs a c ≡ true → a ≤ c) → is_least nodes pairs a ≡ true
+-- what is joined to no lesser node is a least node
+pub none_joined : (nodes : List ℕ) (pairs : List (ℕ × ℕ)) (a : ℕ) → ((c : ℕ) → In c nodes → joined nodes pairs a c ≡ true → a ≤ c) → is_least nodes pairs a ≡ true
 unfolding is_least
 none_joined nodes pairs a least = elim (cases_Bool (list_any (λ c. nat_lt c a && joined nodes pairs a c) nodes)) [
   | inl h ↦ (let r = any_from (λ c. nat_lt c a && joined nodes pairs a c) nodes h in

@@ -12,12 +12,16 @@ use std::alloc::Global;
 /// Pairs of nodes, by their indices.
 type Pairs = Seq<(u32, u32)>;
 
-/// The index of a node of the level.
-#[tactic(auto, using(crate::proofs::Indices::among_In, crate::proofs::Indices::index_is_first))]
+/// The index of a node of the level. Where the nodes are counted from 0 without a gap, it is the node's number.
 pub(crate) fn index_of(level: &Level, node: u16) -> u32
     requires { IsTrue (among (nodes level.now) node) }
     ensures { result ≡ index_in (nodes level.now) node }
 {
+    level.keeps();
+    let number = u32::from(node);
+    if number < level.node_count() && level.node_at(number) == node {
+        return number;
+    }
     level.index_of(node).unwrap()
 }
 

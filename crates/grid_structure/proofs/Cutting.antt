@@ -26,7 +26,7 @@ map_drop f zero ls = refl
 map_drop f (suc n) [] = refl
 map_drop f (suc n) (l ∷ ls) = map_drop f n ls
 
-cut_map : (f : VoltageLevel → VoltageLevel) (heads : List Head) (ls : List VoltageLevel) (ts : List NamedBranch) → map (substation_with_levels f) (cut heads ls ts) ≡ cut heads (map f ls) ts
+pub cut_map : (f : VoltageLevel → VoltageLevel) (heads : List Head) (ls : List VoltageLevel) (ts : List NamedBranch) → map (substation_with_levels f) (cut heads ls ts) ≡ cut heads (map f ls) ts
 unfolding cut substation_with_levels
 cut_map f [] ls ts = refl
 cut_map f (h ∷ heads) ls ts = rw (map_take f h.levels ls, cut_map f heads (drop h.levels ls) (drop h.transformers ts), map_drop f h.levels ls) refl

@@ -13,3 +13,13 @@ pub mod ListOfLevels
 pub mod Places
 pub mod Cutting
 pub mod Starting
+pub mod Found
+pub mod Flat
+pub mod Changing
+pub mod Internals
+pub mod Gaining
+pub mod Heading
+pub mod Losing
+pub mod Singles
+pub mod Inserting
+pub mod LevelMore

@@ -129,3 +129,8 @@ pub any_set_new : {X : Type 0} (p : X → Bool) (xs : List X) (k : ℕ) (y : X) 
 any_set_new p [] k y l h = absurd (omega arith)
 any_set_new p (z ∷ xs) zero y l h = rw h refl
 any_set_new p (z ∷ xs) (suc k) y l h = or_right (p z) _ (any_set_new p xs k y (omega arith) h)
+
+pub set_itself : {X : Type 0} (xs : List X) (k : ℕ) (x y : X) → slice_get xs k ≡ Some x → y ≡ x → slice_set xs k y ≡ xs
+set_itself [] k x y e h = cc
+set_itself (z ∷ xs) zero x y e h = let same : z ≡ x = cc in ap (λ w. w ∷ xs) (h ∙ sym same)
+set_itself (z ∷ xs) (suc k) x y e h = ap (λ w. z ∷ w) (set_itself xs k x y e h)

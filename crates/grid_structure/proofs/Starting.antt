@@ -26,5 +26,6 @@ empty_kept id look none = record {
     terminals = λ q side. rw none refl;
     within = λ q. rw none refl;
     each_level = refl;
+    places_below = refl;
   };
 }

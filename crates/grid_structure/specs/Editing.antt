@@ -1,9 +1,11 @@
 -- What each edit makes of a network, or the first refusal that holds.
-use Rattle.std.specs.Prelude.{ℕ, ◌+◌, Bool, true, not, ◌&&◌, nat_le, if◌then◌else◌, Option, Some, None, Result, Ok, List, [], ◌∷◌, ◌++◌, length, map, filter}
+use Rattle.std.specs.Prelude.{◌≡◌, ℕ, ℤ, ◌+◌, Bool, true, not, ◌&&◌, nat_le, if◌then◌else◌, Option, Some, None, Result, Ok, Err, List, [], ◌∷◌, ◌++◌, length, map, filter}
 use Rattle.std.specs.List.{list_any}
 use Rattle.grid_ids.specs.Name.{same_id, has_id}
 use Rattle.grid_ids.specs.Refusing.{◌>>=◌, refuse_if, refuse_by, found_or, map_fault}
+use Rattle.grid_kinds.specs.declared.CheckFault.{CheckFault}
 use Rattle.grid_kinds.specs.Records.{level_fault, injection_fault, rated_fault}
+use Rattle.grid_level.specs.declared.Stand.{Stand}
 use Rattle.grid_level.specs.declared.Stand.TheVariants.{Busbar, Feeder, BranchEnd}
 use Rattle.grid_level.specs.VoltageLevel.{VoltageLevel}
 use Rattle.grid_level.specs.LevelEdits.{Unfit, node_range, node_taken, same_node, no_edge, too_many_nodes, too_many_edges, level_with_switch, level_with_internal, level_without_internal, level_with_terminal, level_without_equipment}
@@ -15,6 +17,10 @@ use Rattle.grid_structure.specs.declared.Edit.{Edit}
 use Rattle.grid_structure.specs.declared.Edit.TheVariants as edits
 use Rattle.grid_structure.specs.declared.EditFault.{EditFault}
 use Rattle.grid_structure.specs.declared.EditFault.TheVariants as faults
+use Rattle.grid_structure.specs.declared.ApplyFault.{ApplyFault}
+use Rattle.grid_structure.specs.declared.ApplyFault.TheVariants.{Refused, Memory}
+use Rattle.grid_level.specs.declared.LevelFault.{LevelFault}
+use Rattle.grid_level.specs.declared.LevelFault.TheVariants as level_faults
 use Rattle.grid_structure.specs.Network.{Network, Substation}
 use Rattle.grid_structure.specs.Sites.{levels, switches, level_named, substation_named, switch_ids, equipment_ids, taken, branch_ends, home_of}
 
@@ -55,6 +61,23 @@ substation_without id s = record s { transformers = without_branch id s.transfor
 
 unfoldable pub level_without_switch : List ℕ → VoltageLevel → VoltageLevel
 level_without_switch id l = record l { switches = filter (λ s. not (same_id id s.id)) l.switches }
+
+-- ---- a new busbar section or injection
+
+-- the fault of what is to stand at a node
+unfoldable pub stand_fault : Stand → Option CheckFault
+stand_fault Busbar = None
+stand_fault (Feeder item) = injection_fault item
+stand_fault BranchEnd = None
+
+-- what the edits that add one have in common
+unfoldable pub with_single : Network → List ℕ → List ℕ → ℤ → Stand → Result Network EditFault
+with_single net id level node stand = do
+  _ ← refuse_if (taken net id) faults.IdTaken
+  old ← found_or (level_named net level) faults.NoLevel
+  _ ← refuse_by faults.Check (stand_fault stand)
+  new ← map_fault edit_fault (level_with_terminal old node (record { equipment = id; side = 1 }) stand)
+  Ok (with_level new net)
 
 -- ---- the ends of a new branch
 
@@ -143,3 +166,25 @@ apply net (edits.RemoveEquipment id) = do
     substations = map (substation_without id) cleared.substations;
     lines = without_branch id cleared.lines;
   })
+
+-- ---- what a call answers
+
+-- the fault of a call is the refusal of the definition, or want of memory
+abbrev pub IsTold : Result Network EditFault → ApplyFault → Type 0
+IsTold result (Refused fault) = result ≡ Err fault
+IsTold result Memory = Unit {0}
+
+-- no want of memory
+abbrev pub IsRefused : ApplyFault → Type 0
+IsRefused (Refused fault) = Unit {0}
+IsRefused Memory = ⊥
+
+-- a level's fault, told of the structure
+abbrev pub told_of : LevelFault → ApplyFault
+told_of (level_faults.NodeRange node) = Refused (faults.NodeRange node)
+told_of (level_faults.SameNode node) = Refused (faults.SameNode node)
+told_of (level_faults.NodeTaken terminal) = Refused (faults.NodeTaken terminal)
+told_of level_faults.NoEdge = Refused faults.NoEdge
+told_of level_faults.TooManyEdges = Refused faults.TooManyEdges
+told_of level_faults.TooManyNodes = Refused faults.TooManyNodes
+told_of level_faults.Memory = Memory

@@ -9,6 +9,8 @@ use Rattle.grid_structure.specs.declared.NamedBranch.{NamedBranch}
 use Rattle.grid_structure.specs.declared.Branch.{Branch}
 use Rattle.grid_structure.specs.declared.Branch.TheVariants.{Line, TwoWindings, ThreeWindings}
 use Rattle.grid_structure.specs.declared.End.{End}
+use Rattle.grid_structure.specs.declared.SwitchAt.{SwitchAt}
+use Rattle.grid_structure.specs.declared.Site.{Site}
 use Rattle.grid_structure.specs.Network.{Network, Substation}
 
 -- the substations' levels, one list after the other; a level's place is its position there
@@ -101,3 +103,10 @@ unfoldable pub sides : Network → List ℕ → Option ℕ
 sides net id =
     if has_id (single_ids net) id then Some 1
     else option_map (λ b. length (branch_ends b.shape)) (branch_named net id)
+
+-- a pair of places, and of a place and a node, as the readers give them
+abbrev pub switch_spot : ℕ × ℕ → SwitchAt
+switch_spot pair = record { level = pair.0; place = pair.1 }
+
+abbrev pub terminal_spot : ℕ × ℕ → Site
+terminal_spot pair = record { level = pair.0; node = pair.1 }

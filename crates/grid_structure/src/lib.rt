@@ -2,6 +2,8 @@
 //! and stays sound.
 #![tactic(auto)]
 
+mod edits;
+mod finding;
 mod laws;
 mod parts;
 mod readers;
