@@ -30,24 +30,35 @@ use Rattle.grid_json.specs.Kinds.{switch_kind_at, injection_kind_at, windings_ki
 
 -- ---- arrays of two and of three
 
-unfoldable pub two_of : {A : Type 0} → (Data → Result A Fault) → Items → Result (Two A) Fault
-two_of read (item a (item b no_items)) = do
-  first ← under (codes "0") (read a)
-  second ← under (codes "1") (read b)
+unfoldable pub both : {A : Type 0} → (Data → Result A Fault) → Data → Data → Result (Two A) Fault
+both read a b = do
+  first ← under (decimal 0) (read a)
+  second ← under (decimal 1) (read b)
   Ok (record { first = first; second = second })
-two_of read other = Err (here WrongKind)
+
+unfoldable pub two_of : {A : Type 0} → (Data → Result A Fault) → Items → Result (Two A) Fault
+two_of read no_items = Err (here WrongKind)
+two_of read (item a no_items) = Err (here WrongKind)
+two_of read (item a (item b no_items)) = both read a b
+two_of read (item a (item b (item c rest))) = Err (here WrongKind)
 
 -- an array of two items; another length is of the wrong kind, before its items are looked at
 abbrev pub two_at : {A : Type 0} → (Data → Result A Fault) → Data → Result (Two A) Fault
 two_at read d = or_fault WrongKind (as_array d) >>= two_of read
 
-unfoldable pub three_of : {A : Type 0} → (Data → Result A Fault) → Items → Result (Three A) Fault
-three_of read (item a (item b (item c no_items))) = do
-  first ← under (codes "0") (read a)
-  second ← under (codes "1") (read b)
-  third ← under (codes "2") (read c)
+unfoldable pub all_three : {A : Type 0} → (Data → Result A Fault) → Data → Data → Data → Result (Three A) Fault
+all_three read a b c = do
+  first ← under (decimal 0) (read a)
+  second ← under (decimal 1) (read b)
+  third ← under (decimal 2) (read c)
   Ok (record { first = first; second = second; third = third })
-three_of read other = Err (here WrongKind)
+
+unfoldable pub three_of : {A : Type 0} → (Data → Result A Fault) → Items → Result (Three A) Fault
+three_of read no_items = Err (here WrongKind)
+three_of read (item a no_items) = Err (here WrongKind)
+three_of read (item a (item b no_items)) = Err (here WrongKind)
+three_of read (item a (item b (item c no_items))) = all_three read a b c
+three_of read (item a (item b (item c (item d rest)))) = Err (here WrongKind)
 
 abbrev pub three_at : {A : Type 0} → (Data → Result A Fault) → Data → Result (Three A) Fault
 three_at read d = or_fault WrongKind (as_array d) >>= three_of read

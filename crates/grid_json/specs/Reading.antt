@@ -128,7 +128,3 @@ word_at words d = or_fault WrongKind (as_str d) >>= word_among words
 abbrev pub items_len : Items → ℕ
 items_len no_items = 0
 items_len (item d ds) = suc (items_len ds)
-
--- an array of this many items
-abbrev pub sized_at : {A : Type 0} → ℕ → (Data → Result A Fault) → Data → Result (List A) Fault
-sized_at n read d = or_fault WrongKind (as_array d) >>= λ ds. if items_len ds == n then items_at read 0 ds else Err (here WrongKind)

@@ -338,7 +338,12 @@ pub fn three_windings(substation: Id, ends: Three<End>, rated: &Three<i64>) -> B
 
 /// The branch of a kind.
 #[tactic(auto, unfolding(crate::specs::Command::shape_at))]
-fn shape_of(alloc: Global, format: Format, kind: BranchKind, value: &Value) -> Result<Branch, ReadError>
+fn shape_of(
+    alloc: Global,
+    format: Format,
+    kind: BranchKind,
+    value: &Value,
+) -> Result<Branch, ReadError>
     ensures { Gives result (shape_at kind (view value.now)) }
 {
     match kind {
@@ -425,7 +430,12 @@ fn edit_of(alloc: Global, format: Format, verb: EditVerb, value: &Value) -> Resu
 
 /// The request of a verb.
 #[tactic(auto, unfolding(crate::specs::Command::request_at, crate::specs::Command::named_at, crate::specs::Command::sided_at))]
-fn request_of(alloc: Global, format: Format, verb: Verb, value: &Value) -> Result<Request, ReadError>
+fn request_of(
+    alloc: Global,
+    format: Format,
+    verb: Verb,
+    value: &Value,
+) -> Result<Request, ReadError>
     ensures { Gives result (request_at format verb (view value.now)) }
 {
     match verb {

@@ -2,7 +2,7 @@
 ghost use Rattle.std.specs.Prelude.{◌≡◌, decimal};
 ghost use Rattle.serde_json.specs.View.{view};
 ghost use Rattle.grid_json.specs.Reading.{Gives, under};
-ghost use Rattle.grid_json.specs.Network.{two_at, three_at};
+ghost use Rattle.grid_json.specs.Network.{two_at, three_at, both, all_three};
 
 use crate::format::Format;
 use crate::read::{FromJson, member, only};
@@ -27,7 +27,12 @@ pub struct Three<T> {
 }
 
 /// An item of an array, under its position.
-fn item<T: FromJson>(alloc: Global, format: Format, value: &Value, position: usize) -> Result<T, ReadError>
+fn item<T: FromJson>(
+    alloc: Global,
+    format: Format,
+    value: &Value,
+    position: usize,
+) -> Result<T, ReadError>
     ensures { Gives result (under (decimal position) (T.reads format (view value.now))) }
 {
     match T::from_json(alloc, format, value) {
@@ -36,40 +41,65 @@ fn item<T: FromJson>(alloc: Global, format: Format, value: &Value, position: usi
     }
 }
 
+/// Two items of an array of two.
+#[tactic(auto, unfolding(crate::specs::Network::both))]
+fn two_of<T: FromJson>(
+    alloc: Global,
+    format: Format,
+    first: &Value,
+    second: &Value,
+) -> Result<Two<T>, ReadError>
+    ensures { Gives result (both (T.reads format) (view first.now) (view second.now)) }
+{
+    let first = item(alloc, format, first, 0)?;
+    let second = item(alloc, format, second, 1)?;
+    Ok(Two { first, second })
+}
+
 impl<T: FromJson> FromJson for Two<T> {
     ghost reads = { λ format. two_at (T.reads format) };
-
-    #[tactic(auto, unfolding(crate::specs::Network::two_of))]
     fn from_json(alloc: Global, format: Format, value: &Value) -> Result<Two<T>, ReadError> {
         let Some(items) = value.as_array() else {
             return Err(ReadError::here(alloc, Reason::WrongKind));
         };
-        match items.as_slice() {
-            [first, second] => Ok(Two {
-                first: item(alloc, format, first, 0)?,
-                second: item(alloc, format, second, 1)?,
-            }),
-            _ => Err(ReadError::here(alloc, Reason::WrongKind)),
+        if items.len() != 2 {
+            return Err(ReadError::here(alloc, Reason::WrongKind));
         }
+        two_of(alloc, format, &items[0], &items[1])
     }
+}
+
+/// Three items of an array of three.
+#[tactic(auto, unfolding(crate::specs::Network::all_three))]
+fn three_of<T: FromJson>(
+    alloc: Global,
+    format: Format,
+    first: &Value,
+    second: &Value,
+    third: &Value,
+) -> Result<Three<T>, ReadError>
+    ensures { Gives result (all_three (T.reads format) (view first.now) (view second.now) (view third.now)) }
+{
+    let first = item(alloc, format, first, 0)?;
+    let second = item(alloc, format, second, 1)?;
+    let third = item(alloc, format, third, 2)?;
+    Ok(Three {
+        first,
+        second,
+        third,
+    })
 }
 
 impl<T: FromJson> FromJson for Three<T> {
     ghost reads = { λ format. three_at (T.reads format) };
-
-    #[tactic(auto, unfolding(crate::specs::Network::three_of))]
     fn from_json(alloc: Global, format: Format, value: &Value) -> Result<Three<T>, ReadError> {
         let Some(items) = value.as_array() else {
             return Err(ReadError::here(alloc, Reason::WrongKind));
         };
-        match items.as_slice() {
-            [first, second, third] => Ok(Three {
-                first: item(alloc, format, first, 0)?,
-                second: item(alloc, format, second, 1)?,
-                third: item(alloc, format, third, 2)?,
-            }),
-            _ => Err(ReadError::here(alloc, Reason::WrongKind)),
+        if items.len() != 3 {
+            return Err(ReadError::here(alloc, Reason::WrongKind));
         }
+        three_of(alloc, format, &items[0], &items[1], &items[2])
     }
 }
 

@@ -64,7 +64,11 @@ impl FromJson for InjectionKind {
 
     ghost reads = { injection_kind_at };
 
-    fn from_json(alloc: Global, _format: Format, value: &Value) -> Result<InjectionKind, ReadError> {
+    fn from_json(
+        alloc: Global,
+        _format: Format,
+        value: &Value,
+    ) -> Result<InjectionKind, ReadError> {
         let Some(word) = value.as_str() else {
             return Err(ReadError::here(alloc, Reason::WrongKind));
         };

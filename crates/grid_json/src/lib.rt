@@ -1,13 +1,20 @@
-//! Jobs from JSON: values read with the first fault and its place.
+//! Jobs from JSON: each value read with the first fault and its place.
 #![tactic(auto)]
 
+mod command;
+mod ends;
 mod fault;
+mod format;
+mod job;
 mod kinds;
+mod network;
 mod place;
 mod read;
 mod value;
 
 pub use fault::{Fault, ReadError, Reason};
+pub use format::Format;
+pub use job::JobDraft;
 pub use place::Place;
-pub use read::{FromJson, member, member_otherwise, object, only, optional, sized_member};
+pub use read::{FromJson, member, member_otherwise, object, only, optional};
 pub use value::{ByteFault, value_of};

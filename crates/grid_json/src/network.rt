@@ -4,11 +4,11 @@ ghost use Rattle.serde_json.specs.View.{view};
 ghost use Rattle.grid_json.specs.Reading.{Gives, texts};
 ghost use Rattle.grid_json.specs.Network.{injection_names, item_at, windings_at};
 
+use crate::ReadError;
 use crate::ends::{Three, Two};
 use crate::format::Format;
 use crate::kinds::{InjectionKind, WindingsKind};
 use crate::read::{FromJson, member, member_otherwise, object, only, optional};
-use crate::ReadError;
 use grid_ids::{Id, Seq};
 use grid_kinds::{Injection, SwitchKind};
 use grid_structure::End;
@@ -65,8 +65,14 @@ pub struct LevelDraft {
 /// The windings of a transformer: where each stands, and its rated voltage in volts.
 #[derive(Drop)]
 pub enum Windings {
-    Two { ends: Two<End>, rated_u: Two<i64> },
-    Three { ends: Three<End>, rated_u: Three<i64> },
+    Two {
+        ends: Two<End>,
+        rated_u: Two<i64>,
+    },
+    Three {
+        ends: Three<End>,
+        rated_u: Three<i64>,
+    },
 }
 
 /// A transformer of a substation.
@@ -123,7 +129,15 @@ impl FromJson for SwitchDraft {
         only(
             alloc,
             value,
-            &["id", "kind", "node1", "node2", "open", "retained", "fictitious"],
+            &[
+                "id",
+                "kind",
+                "node1",
+                "node2",
+                "open",
+                "retained",
+                "fictitious",
+            ],
         )?;
         let id = member(alloc, format, value, "id")?;
         let kind = member(alloc, format, value, "kind")?;
@@ -238,7 +252,11 @@ impl FromJson for InjectionDraft {
     ghost reads = { injection_at };
 
     #[tactic(auto, unfolding(crate::specs::Network::injection_at))]
-    fn from_json(alloc: Global, format: Format, value: &Value) -> Result<InjectionDraft, ReadError> {
+    fn from_json(
+        alloc: Global,
+        format: Format,
+        value: &Value,
+    ) -> Result<InjectionDraft, ReadError> {
         object(alloc, value)?;
         let kind = member(alloc, format, value, "kind")?;
         only(alloc, value, names_of_injection(kind))?;
@@ -260,7 +278,13 @@ impl FromJson for LevelDraft {
             alloc,
             value,
             &[
-                "id", "nominal_v", "low_v", "high_v", "busbars", "switches", "internal",
+                "id",
+                "nominal_v",
+                "low_v",
+                "high_v",
+                "busbars",
+                "switches",
+                "internal",
                 "injections",
             ],
         )?;
@@ -315,7 +339,11 @@ impl FromJson for TransformerDraft {
     ghost reads = { transformer_at };
 
     #[tactic(auto, unfolding(crate::specs::Network::transformer_at))]
-    fn from_json(alloc: Global, format: Format, value: &Value) -> Result<TransformerDraft, ReadError> {
+    fn from_json(
+        alloc: Global,
+        format: Format,
+        value: &Value,
+    ) -> Result<TransformerDraft, ReadError> {
         object(alloc, value)?;
         let kind = member(alloc, format, value, "kind")?;
         only(alloc, value, &["kind", "id", "ends", "rated_u"])?;
@@ -345,12 +373,21 @@ impl FromJson for SubstationDraft {
     ghost reads = { substation_at };
 
     #[tactic(auto, unfolding(crate::specs::Network::substation_at))]
-    fn from_json(alloc: Global, format: Format, value: &Value) -> Result<SubstationDraft, ReadError> {
+    fn from_json(
+        alloc: Global,
+        format: Format,
+        value: &Value,
+    ) -> Result<SubstationDraft, ReadError> {
         only(alloc, value, &["id", "levels", "transformers"])?;
         let id = member(alloc, format, value, "id")?;
         let levels = member_otherwise(alloc, format, value, "levels", Seq::empty(alloc))?;
-        let transformers =
-            member_otherwise(alloc, format, value, "transformers", Seq::empty(alloc))?;
+        let transformers = member_otherwise(
+            alloc,
+            format,
+            value,
+            "transformers",
+            Seq::empty(alloc),
+        )?;
         Ok(SubstationDraft {
             id,
             levels,

@@ -65,7 +65,12 @@ impl FromJson for Id {
 }
 
 /// A member that must be there.
-pub fn member<T: FromJson>(alloc: Global, format: Format, value: &Value, name: &str) -> Result<T, ReadError>
+pub fn member<T: FromJson>(
+    alloc: Global,
+    format: Format,
+    value: &Value,
+    name: &str,
+) -> Result<T, ReadError>
     ensures { Gives result (member_at (T.reads format) name.now (view value.now)) }
 {
     match value.get(name) {
@@ -166,7 +171,11 @@ impl<T: FromJson> FromJson for Seq<T> {
 }
 
 /// Each item, under its position.
-fn read_items<T: FromJson>(alloc: Global, format: Format, items: &[Value]) -> Result<Seq<T>, ReadError>
+pub fn read_items<T: FromJson>(
+    alloc: Global,
+    format: Format,
+    items: &[Value],
+) -> Result<Seq<T>, ReadError>
     ensures { Gives result (items_at (T.reads format) 0 (items_view items.now)) }
 {
     let mut list = Seq::empty(alloc);

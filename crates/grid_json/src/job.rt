@@ -1,0 +1,168 @@
+// The whole job: the first pass over its value.
+ghost use Rattle.std.specs.Prelude.{◌≡◌, nat_lt};
+ghost use Rattle.serde_json.specs.View.{view};
+ghost use Rattle.grid_json.specs.Reading.{Gives};
+ghost use Rattle.grid_json.specs.Job.{same_kind, has_kind, listeners_at, workers_at, command_total, max_commands, few_at};
+
+use crate::format::Format;
+use crate::kinds::EventKind;
+use crate::network::NetworkDraft;
+use crate::read::{FromJson, member, member_otherwise, only, optional, read_items};
+use crate::{ReadError, Reason};
+use grid_core::{Script, Scripts};
+use grid_events::{Filter, Filters};
+use grid_ids::Seq;
+use serde_json::Value;
+use std::alloc::Global;
+use std::marker::Model;
+
+/// The order of the workers' steps, by their numbers.
+pub type Order = Seq<u32>;
+
+/// A job as it is written, read and not yet loaded.
+#[derive(Drop)]
+pub struct JobDraft {
+    pub network: NetworkDraft,
+    pub filters: Filters,
+    pub scripts: Scripts,
+    pub order: Option<Order>,
+}
+
+/// The most listeners that a job may have.
+const MOST_LISTENERS: usize = 16;
+
+/// The most workers that a job may have.
+const MOST_WORKERS: usize = 32;
+
+/// The most commands that all scripts of a job may have.
+const MOST_COMMANDS: usize = 20_000;
+
+/// An array of at most so many items; the limit is looked at before them.
+#[tactic(auto, using(crate::proofs::Items::items_len_is))]
+fn few<T: FromJson>(
+    alloc: Global,
+    format: Format,
+    value: &Value,
+    most: usize,
+    reason: Reason,
+) -> Result<Seq<T>, ReadError>
+    ensures { Gives result (few_at most reason (T.reads format) (view value.now)) }
+{
+    let Some(items) = value.as_array() else {
+        return Err(ReadError::here(alloc, Reason::WrongKind));
+    };
+    if items.len() > most {
+        return Err(ReadError::here(alloc, reason));
+    }
+    read_items(alloc, format, items.as_slice())
+}
+
+// Whether a kind is the other one.
+fn is_kind(kind: EventKind, other: EventKind) -> bool
+    ensures { result ≡ same_kind kind other }
+{
+    kind == other
+}
+
+// Whether a kind is among those listed.
+#[tactic(auto, unfolding(crate::specs::Job::has_kind))]
+fn lists(listed: &[EventKind], kind: EventKind) -> bool
+    ensures { result ≡ has_kind listed.now kind }
+{
+    listed.iter().any(|other| is_kind(kind, *other))
+}
+
+impl FromJson for Filter {
+    ghost use Rattle.grid_json.specs.Job.{listener_at};
+
+    ghost reads = { listener_at };
+
+    #[tactic(auto, unfolding(crate::specs::Job::listener_at, crate::specs::Job::filter_of))]
+    fn from_json(alloc: Global, format: Format, value: &Value) -> Result<Filter, ReadError> {
+        only(alloc, value, &["kinds", "variant"])?;
+        let kinds: Seq<EventKind> = member(alloc, format, value, "kinds")?;
+        let variant = optional(alloc, format, value, "variant")?;
+        let listed = kinds.slice();
+        Ok(Filter {
+            created: lists(listed, EventKind::Created),
+            removed: lists(listed, EventKind::Removed),
+            updated: lists(listed, EventKind::Updated),
+            variant_created: lists(listed, EventKind::VariantCreated),
+            variant_overwritten: lists(listed, EventKind::VariantOverwritten),
+            variant_removed: lists(listed, EventKind::VariantRemoved),
+            variant,
+        })
+    }
+}
+
+/// The listeners of a job.
+#[derive(Drop)]
+struct Listeners {
+    filters: Filters,
+}
+
+impl Model for Listeners {
+    ghost use Rattle.std.specs.Prelude.{List};
+    ghost use Rattle.grid_events.specs.declared.filter.Filter.{Filter};
+
+    ghost Value = { List Filter };
+
+    ghost view = { λ l. l.filters };
+}
+
+impl FromJson for Listeners {
+    ghost reads = { listeners_at };
+
+    fn from_json(alloc: Global, format: Format, value: &Value) -> Result<Listeners, ReadError> {
+        let filters = few(
+            alloc,
+            format,
+            value,
+            MOST_LISTENERS,
+            Reason::TooManyListeners,
+        )?;
+        Ok(Listeners { filters })
+    }
+}
+
+// How many commands the scripts have, where they are at most 32.
+#[tactic(auto, unfolding(crate::specs::Job::command_total))]
+fn are_too_many(scripts: &[Script]) -> bool
+    ensures { result ≡ nat_lt max_commands (command_total scripts.now) }
+{
+    let mut left = MOST_COMMANDS;
+    for script in scripts {
+        if script.len() > left {
+            return true;
+        }
+        left -= script.len();
+    }
+    false
+}
+
+/// The scripts of a job.
+#[derive(Drop)]
+struct Workers {
+    scripts: Scripts,
+}
+
+impl Model for Workers {
+    ghost use Rattle.std.specs.Prelude.{List};
+    ghost use Rattle.grid_core.specs.declared.request.Request.{Request};
+
+    ghost Value = { List (List Request) };
+
+    ghost view = { λ w. w.scripts };
+}
+
+impl FromJson for Workers {
+    ghost reads = { workers_at };
+
+    fn from_json(alloc: Global, format: Format, value: &Value) -> Result<Workers, ReadError> {
+        let scripts: Scripts = few(alloc, format, value, MOST_WORKERS, Reason::TooManyWorkers)?;
+        if are_too_many(scripts.slice()) {
+            return Err(ReadError::here(alloc, Reason::TooManyCommands));
+        }
+        Ok(Workers { scripts })
+    }
+}
