@@ -426,3 +426,6 @@ fn take_two(uses: &mut Uses, a: u16, b: u16)
     uses.take(a);
     uses.take(b);
 }
+
+#[cfg(test)]
+mod tests;

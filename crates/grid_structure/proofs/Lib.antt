@@ -23,3 +23,4 @@ pub mod Losing
 pub mod Singles
 pub mod Inserting
 pub mod LevelMore
+pub mod Comparing

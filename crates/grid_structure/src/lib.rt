@@ -171,3 +171,6 @@ pub struct BranchSites {
     pub end2: Site,
     pub end3: Option<Site>,
 }
+
+#[cfg(test)]
+mod tests;

@@ -1,18 +1,17 @@
 // A structure over flat lists, with a table that finds what has an id.
-ghost use Rattle.std.specs.Prelude.{◌≡◌};
-ghost use Rattle.std.specs.Str.{bytes_eq};
-ghost use Rattle.std.specs.HashMap.{get};
+ghost use Rattle.std.specs.Prelude.{◌≡◌, IfOk};
+ghost use Rattle.std.proofs.Common.{rules};
 ghost use Rattle.grid_structure.specs.Network.{empty_of};
 
 use crate::NamedBranch;
-use grid_ids::Id;
+use grid_ids::{Duplicate, Id, Same, clone_items, same_items};
 use grid_level::Level;
-use std::alloc::Global;
+use std::alloc::{AllocError, Global};
 use std::collections::HashMap;
 use std::marker::Model;
 
 /// A substation, with how many levels and transformers are its own.
-#[derive(Drop)]
+#[derive(Clone, Drop)]
 pub struct Head {
     pub id: Id,
     pub levels: u32,
@@ -76,5 +75,64 @@ impl Structure {
             table: HashMap::new(alloc),
             places: Vec::new(alloc),
         }
+    }
+}
+
+impl Duplicate for Head {
+    ghost clone_equals = { Prim.search rules };
+}
+
+// A table of equal entries.
+fn clone_table(table: &HashMap<Id, Entry>) -> Result<HashMap<Id, Entry>, AllocError>
+    ensures { IfOk result (λ copy. copy.entries ≡ table.now.entries) }
+{
+    table.clone()
+}
+
+impl Clone for Structure {
+    ghost is_clone = { λ x y. y ≡ x };
+
+    fn clone(&self) -> Result<Structure, AllocError> {
+        Ok(Structure {
+            id: self.id.clone()?,
+            heads: clone_items(&self.heads)?,
+            levels: clone_items(&self.levels)?,
+            transformers: clone_items(&self.transformers)?,
+            lines: clone_items(&self.lines)?,
+            switches: self.switches,
+            table: clone_table(&self.table)?,
+            places: clone_items(&self.places)?,
+        })
+    }
+}
+
+impl Duplicate for Structure {
+    ghost clone_equals = { Prim.search rules };
+}
+
+impl Same for Head {
+    fn same(&self, other: &Head) -> bool {
+        self.id.same(&other.id)
+            && self.levels == other.levels
+            && self.transformers == other.transformers
+    }
+}
+
+/// Whether two structures are seen as equal.
+impl Same for Structure {
+    fn same(&self, other: &Structure) -> bool {
+        if !self.id.same(&other.id) {
+            return false;
+        }
+        if !same_items(self.heads.as_slice(), other.heads.as_slice()) {
+            return false;
+        }
+        if !same_items(self.levels.as_slice(), other.levels.as_slice()) {
+            return false;
+        }
+        if !same_items(self.transformers.as_slice(), other.transformers.as_slice()) {
+            return false;
+        }
+        same_items(self.lines.as_slice(), other.lines.as_slice())
     }
 }
