@@ -58,6 +58,7 @@ fn two_of<T: FromJson>(
 
 impl<T: FromJson> FromJson for Two<T> {
     ghost reads = { λ format. two_at (T.reads format) };
+
     fn from_json(alloc: Global, format: Format, value: &Value) -> Result<Two<T>, ReadError> {
         let Some(items) = value.as_array() else {
             return Err(ReadError::here(alloc, Reason::WrongKind));
@@ -92,6 +93,7 @@ fn three_of<T: FromJson>(
 
 impl<T: FromJson> FromJson for Three<T> {
     ghost reads = { λ format. three_at (T.reads format) };
+
     fn from_json(alloc: Global, format: Format, value: &Value) -> Result<Three<T>, ReadError> {
         let Some(items) = value.as_array() else {
             return Err(ReadError::here(alloc, Reason::WrongKind));

@@ -1,6 +1,7 @@
 // Why bytes are no job, and where that shows.
 use crate::Place;
 use grid_ids::{IdFault, Memory};
+use grid_structure::EditFault;
 use std::alloc::Global;
 
 /// What is wrong at a place of a job. The rules and their order are this project's own.
@@ -24,6 +25,8 @@ pub enum Reason {
     TooManyListeners,
     /// A text that must be an id is none.
     Name(IdFault),
+    /// An edit that loads the network is refused.
+    Load(EditFault),
 }
 
 /// A reason at its place.

@@ -1,12 +1,13 @@
 // The whole job: the first pass over its value.
-ghost use Rattle.std.specs.Prelude.{◌≡◌, nat_lt};
+ghost use Rattle.std.specs.Prelude.{◌≡◌, ◌≤◌, [], nat_lt, length, IfOk, codes};
 ghost use Rattle.serde_json.specs.View.{view};
-ghost use Rattle.grid_json.specs.Reading.{Gives};
-ghost use Rattle.grid_json.specs.Job.{same_kind, has_kind, listeners_at, workers_at, command_total, max_commands, few_at};
+ghost use Rattle.grid_json.specs.Reading.{Gives, member_or, optional_at};
+ghost use Rattle.grid_json.specs.Job.{same_kind, has_kind, listeners_at, workers_at, command_total, max_commands, few_at, order_at, draft_at};
 
 use crate::format::Format;
 use crate::kinds::EventKind;
 use crate::network::NetworkDraft;
+use crate::order::order_of;
 use crate::read::{FromJson, member, member_otherwise, only, optional, read_items};
 use crate::{ReadError, Reason};
 use grid_core::{Script, Scripts};
@@ -46,7 +47,8 @@ fn few<T: FromJson>(
     most: usize,
     reason: Reason,
 ) -> Result<Seq<T>, ReadError>
-    ensures { Gives result (few_at most reason (T.reads format) (view value.now)) }
+    ensures items { Gives result (few_at most reason (T.reads format) (view value.now)) }
+    ensures few { IfOk result (λ items. length items ≤ most) }
 {
     let Some(items) = value.as_array() else {
         return Err(ReadError::here(alloc, Reason::WrongKind));
@@ -147,12 +149,14 @@ struct Workers {
 }
 
 impl Model for Workers {
-    ghost use Rattle.std.specs.Prelude.{List};
+    ghost use Rattle.std.specs.Prelude.{List, ◌≤◌, length};
     ghost use Rattle.grid_core.specs.declared.request.Request.{Request};
 
     ghost Value = { List (List Request) };
 
     ghost view = { λ w. w.scripts };
+
+    ghost invariant = { λ w. length w.scripts ≤ 32 };
 }
 
 impl FromJson for Workers {
@@ -165,4 +169,69 @@ impl FromJson for Workers {
         }
         Ok(Workers { scripts })
     }
+}
+
+/// The order, where there is one.
+fn optional_order(
+    alloc: Global,
+    format: Format,
+    value: &Value,
+    scripts: &[Script],
+) -> Result<Option<Order>, ReadError>
+    requires { length scripts.now ≤ 32 }
+    ensures { Gives result (optional_at (order_at scripts.now) (codes "order") (view value.now)) }
+{
+    match value.get("order") {
+        None => Ok(None),
+        Some(found) => match order_of(alloc, format, found, scripts) {
+            Ok(order) => Ok(Some(order)),
+            Err(e) => Err(e.under(alloc, "order")),
+        },
+    }
+}
+
+// The listeners, or none.
+fn listeners_of(alloc: Global, format: Format, value: &Value) -> Result<Filters, ReadError>
+    ensures { Gives result (member_or [] (listeners_at format) (codes "listeners") (view value.now)) }
+{
+    let none = Listeners {
+        filters: Seq::empty(alloc),
+    };
+    let listeners = member_otherwise(alloc, format, value, "listeners", none)?;
+    Ok(listeners.filters)
+}
+
+// The scripts, or none.
+fn scripts_of(alloc: Global, format: Format, value: &Value) -> Result<Scripts, ReadError>
+    ensures scripts { Gives result (member_or [] (workers_at format) (codes "workers") (view value.now)) }
+    ensures few { IfOk result (λ scripts. length scripts ≤ 32) }
+{
+    let none = Workers {
+        scripts: Seq::empty(alloc),
+    };
+    let workers = member_otherwise(alloc, format, value, "workers", none)?;
+    Ok(workers.scripts)
+}
+
+/// The first pass over a job: each member in its order.
+#[tactic(auto, unfolding(crate::specs::Job::draft_at))]
+pub fn read_draft(alloc: Global, value: &Value) -> Result<JobDraft, ReadError>
+    ensures { Gives result (draft_at (view value.now)) }
+{
+    only(
+        alloc,
+        value,
+        &["format", "network", "listeners", "workers", "order"],
+    )?;
+    let format: Format = member(alloc, Format::One, value, "format")?;
+    let network = member(alloc, format, value, "network")?;
+    let filters = listeners_of(alloc, format, value)?;
+    let scripts = scripts_of(alloc, format, value)?;
+    let order = optional_order(alloc, format, value, scripts.slice())?;
+    Ok(JobDraft {
+        network,
+        filters,
+        scripts,
+        order,
+    })
 }

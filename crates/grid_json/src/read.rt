@@ -1,5 +1,5 @@
 // Reading values from JSON, each with the first fault and its place.
-ghost use Rattle.std.specs.Prelude.{◌≡◌, ℕ, Result, map, string_bytes};
+ghost use Rattle.std.specs.Prelude.{◌≡◌, ℕ, Result, IfOk, length, string_bytes};
 ghost use Rattle.std.specs.List.{list_any, list_all};
 ghost use Rattle.std.specs.Str.{bytes_eq};
 ghost use Rattle.std.specs.BTreeMap.{keys};
@@ -176,7 +176,8 @@ pub fn read_items<T: FromJson>(
     format: Format,
     items: &[Value],
 ) -> Result<Seq<T>, ReadError>
-    ensures { Gives result (items_at (T.reads format) 0 (items_view items.now)) }
+    ensures items { Gives result (items_at (T.reads format) 0 (items_view items.now)) }
+    ensures count { IfOk result (λ list. length list ≡ length items.now) }
 {
     let mut list = Seq::empty(alloc);
     for (i, item) in items.iter().enumerate() {
