@@ -8,6 +8,7 @@ use Rattle.grid_kinds.specs.declared.Injection.TheVariants as injections
 use Rattle.grid_json.specs.declared.fault.Fault.{Fault}
 use Rattle.grid_json.specs.declared.fault.Reason.TheVariants.{Unknown}
 use Rattle.grid_json.specs.Reading.{◌>>=◌, here, whole_at, flag_at, id_at, array_at, member_at, only_at, object_at, word_at}
+use Rattle.grid_json.specs.declared.format.Format.TheVariants as formats
 use Rattle.grid_json.specs.Kinds.{switch_kind_at}
 use Rattle.grid_cli.specs.declared.draft.BusbarDraft.{BusbarDraft}
 use Rattle.grid_cli.specs.declared.draft.SwitchDraft.{SwitchDraft}
@@ -19,8 +20,8 @@ use Rattle.grid_cli.specs.declared.draft.LevelDraft.{LevelDraft}
 use Rattle.grid_cli.specs.declared.draft.SubstationDraft.{SubstationDraft}
 use Rattle.grid_cli.specs.declared.draft.NetworkDraft.{NetworkDraft}
 use Rattle.grid_cli.specs.declared.draft.JobDraft.{JobDraft}
-use Rattle.grid_cli.specs.declared.draft.Format.{Format}
-use Rattle.grid_cli.specs.declared.draft.Format.TheVariants.{One}
+use Rattle.grid_cli.specs.declared.draft.FirstFormat.{FirstFormat}
+use Rattle.grid_cli.specs.declared.draft.FirstFormat.TheVariants.{One}
 use Rattle.grid_cli.specs.declared.draft.Verb.{Verb}
 use Rattle.grid_cli.specs.declared.draft.Verb.TheVariants as verbs
 use Rattle.grid_cli.specs.declared.draft.Command.{Command}
@@ -42,7 +43,7 @@ unfoldable pub switch_at : Data → Result SwitchDraft Fault
 switch_at d = do
   _ ← only_at switch_names d
   id ← member_at id_at (codes "id") d
-  kind ← member_at switch_kind_at (codes "kind") d
+  kind ← member_at (switch_kind_at (formats.One)) (codes "kind") d
   node1 ← member_at whole_at (codes "node1") d
   node2 ← member_at whole_at (codes "node2") d
   opened ← member_at flag_at (codes "open") d
@@ -146,10 +147,10 @@ command_at d = do
 
 -- ---- the job
 
-abbrev pub only_one : ℤ → Result Format Fault
+abbrev pub only_one : ℤ → Result FirstFormat Fault
 only_one number = if int_eq number (pos 1) then Ok One else Err (here Unknown)
 
-abbrev pub format_at : Data → Result Format Fault
+abbrev pub format_at : Data → Result FirstFormat Fault
 format_at d = whole_at d >>= only_one
 
 unfoldable pub draft_at : Data → Result JobDraft Fault

@@ -6,7 +6,7 @@ ghost use Rattle.grid_json.specs.Reading.{Gives, texts};
 ghost use Rattle.grid_cli.specs.Draft.{injection_names, item_at, command_names, command_of};
 
 use grid_ids::{Duplicate, Id, Seq};
-use grid_json::{FromJson, ReadError, Reason, member, object, only};
+use grid_json::{Format, FromJson, ReadError, Reason, member, object, only};
 use grid_kinds::{Injection, SwitchKind};
 use serde_json::Value;
 use std::alloc::Global;
@@ -107,22 +107,22 @@ pub struct JobDraft {
     pub scripts: Seq<Seq<Command>>,
 }
 
-/// The format 1, the one that there is.
+/// The number of the first format, the one that small jobs have.
 #[derive(Clone, Copy, Debug, PartialEq, Eq)]
-pub enum Format {
+pub enum FirstFormat {
     One,
 }
 
 impl FromJson for BusbarDraft {
     ghost use Rattle.grid_cli.specs.Draft.{busbar_at};
 
-    ghost reads = { busbar_at };
+    ghost reads = { λ _. busbar_at };
 
     #[tactic(auto, unfolding(crate::specs::Draft::busbar_at))]
-    fn from_json(alloc: Global, value: &Value) -> Result<BusbarDraft, ReadError> {
+    fn from_json(alloc: Global, format: Format, value: &Value) -> Result<BusbarDraft, ReadError> {
         only(alloc, value, &["id", "node"])?;
-        let id = member(alloc, value, "id")?;
-        let node = member(alloc, value, "node")?;
+        let id = member(alloc, format, value, "id")?;
+        let node = member(alloc, format, value, "node")?;
         Ok(BusbarDraft { id, node })
     }
 }
@@ -130,10 +130,10 @@ impl FromJson for BusbarDraft {
 impl FromJson for SwitchDraft {
     ghost use Rattle.grid_cli.specs.Draft.{switch_at};
 
-    ghost reads = { switch_at };
+    ghost reads = { λ _. switch_at };
 
     #[tactic(auto, unfolding(crate::specs::Draft::switch_at))]
-    fn from_json(alloc: Global, value: &Value) -> Result<SwitchDraft, ReadError> {
+    fn from_json(alloc: Global, format: Format, value: &Value) -> Result<SwitchDraft, ReadError> {
         only(
             alloc,
             value,
@@ -147,13 +147,13 @@ impl FromJson for SwitchDraft {
                 "fictitious",
             ],
         )?;
-        let id = member(alloc, value, "id")?;
-        let kind = member(alloc, value, "kind")?;
-        let node1 = member(alloc, value, "node1")?;
-        let node2 = member(alloc, value, "node2")?;
-        let opened = member(alloc, value, "open")?;
-        let retained = member(alloc, value, "retained")?;
-        let fictitious = member(alloc, value, "fictitious")?;
+        let id = member(alloc, format, value, "id")?;
+        let kind = member(alloc, format, value, "kind")?;
+        let node1 = member(alloc, format, value, "node1")?;
+        let node2 = member(alloc, format, value, "node2")?;
+        let opened = member(alloc, format, value, "open")?;
+        let retained = member(alloc, format, value, "retained")?;
+        let fictitious = member(alloc, format, value, "fictitious")?;
         Ok(SwitchDraft {
             id,
             kind,
@@ -169,13 +169,13 @@ impl FromJson for SwitchDraft {
 impl FromJson for InternalDraft {
     ghost use Rattle.grid_cli.specs.Draft.{internal_at};
 
-    ghost reads = { internal_at };
+    ghost reads = { λ _. internal_at };
 
     #[tactic(auto, unfolding(crate::specs::Draft::internal_at))]
-    fn from_json(alloc: Global, value: &Value) -> Result<InternalDraft, ReadError> {
+    fn from_json(alloc: Global, format: Format, value: &Value) -> Result<InternalDraft, ReadError> {
         only(alloc, value, &["node1", "node2"])?;
-        let node1 = member(alloc, value, "node1")?;
-        let node2 = member(alloc, value, "node2")?;
+        let node1 = member(alloc, format, value, "node1")?;
+        let node2 = member(alloc, format, value, "node2")?;
         Ok(InternalDraft { node1, node2 })
     }
 }
@@ -183,9 +183,13 @@ impl FromJson for InternalDraft {
 impl FromJson for InjectionKind {
     ghost use Rattle.grid_cli.specs.Draft.{injection_kind_at};
 
-    ghost reads = { injection_kind_at };
+    ghost reads = { λ _. injection_kind_at };
 
-    fn from_json(alloc: Global, value: &Value) -> Result<InjectionKind, ReadError> {
+    fn from_json(
+        alloc: Global,
+        _format: Format,
+        value: &Value,
+    ) -> Result<InjectionKind, ReadError> {
         let Some(word) = value.as_str() else {
             return Err(ReadError::here(alloc, Reason::WrongKind));
         };
@@ -210,20 +214,25 @@ fn names_of_injection(kind: InjectionKind) -> &'static [&'static str]
 }
 
 /// The record of an injection of a kind.
-fn item_of(alloc: Global, kind: InjectionKind, value: &Value) -> Result<Injection, ReadError>
+fn item_of(
+    alloc: Global,
+    format: Format,
+    kind: InjectionKind,
+    value: &Value,
+) -> Result<Injection, ReadError>
     ensures { Gives result (item_at kind (view value.now)) }
 {
     match kind {
         InjectionKind::Load => {
-            let p0 = member(alloc, value, "p0")?;
-            let q0 = member(alloc, value, "q0")?;
+            let p0 = member(alloc, format, value, "p0")?;
+            let q0 = member(alloc, format, value, "q0")?;
             Ok(Injection::Load { p0, q0 })
         }
         InjectionKind::Generator => {
-            let target_p = member(alloc, value, "target_p")?;
-            let target_v = member(alloc, value, "target_v")?;
-            let min_p = member(alloc, value, "min_p")?;
-            let max_p = member(alloc, value, "max_p")?;
+            let target_p = member(alloc, format, value, "target_p")?;
+            let target_v = member(alloc, format, value, "target_v")?;
+            let min_p = member(alloc, format, value, "min_p")?;
+            let max_p = member(alloc, format, value, "max_p")?;
             Ok(Injection::Generator {
                 target_p,
                 target_v,
@@ -237,16 +246,20 @@ fn item_of(alloc: Global, kind: InjectionKind, value: &Value) -> Result<Injectio
 impl FromJson for InjectionDraft {
     ghost use Rattle.grid_cli.specs.Draft.{injection_at};
 
-    ghost reads = { injection_at };
+    ghost reads = { λ _. injection_at };
 
     #[tactic(auto, unfolding(crate::specs::Draft::injection_at))]
-    fn from_json(alloc: Global, value: &Value) -> Result<InjectionDraft, ReadError> {
+    fn from_json(
+        alloc: Global,
+        format: Format,
+        value: &Value,
+    ) -> Result<InjectionDraft, ReadError> {
         object(alloc, value)?;
-        let kind = member(alloc, value, "kind")?;
+        let kind = member(alloc, format, value, "kind")?;
         only(alloc, value, names_of_injection(kind))?;
-        let id = member(alloc, value, "id")?;
-        let node = member(alloc, value, "node")?;
-        let item = item_of(alloc, kind, value)?;
+        let id = member(alloc, format, value, "id")?;
+        let node = member(alloc, format, value, "node")?;
+        let item = item_of(alloc, format, kind, value)?;
         Ok(InjectionDraft { id, node, item })
     }
 }
@@ -254,10 +267,10 @@ impl FromJson for InjectionDraft {
 impl FromJson for LevelDraft {
     ghost use Rattle.grid_cli.specs.Draft.{level_at};
 
-    ghost reads = { level_at };
+    ghost reads = { λ _. level_at };
 
     #[tactic(auto, unfolding(crate::specs::Draft::level_at))]
-    fn from_json(alloc: Global, value: &Value) -> Result<LevelDraft, ReadError> {
+    fn from_json(alloc: Global, format: Format, value: &Value) -> Result<LevelDraft, ReadError> {
         only(
             alloc,
             value,
@@ -270,12 +283,12 @@ impl FromJson for LevelDraft {
                 "injections",
             ],
         )?;
-        let id = member(alloc, value, "id")?;
-        let nominal_v = member(alloc, value, "nominal_v")?;
-        let busbars = member(alloc, value, "busbars")?;
-        let switches = member(alloc, value, "switches")?;
-        let internals = member(alloc, value, "internal")?;
-        let injections = member(alloc, value, "injections")?;
+        let id = member(alloc, format, value, "id")?;
+        let nominal_v = member(alloc, format, value, "nominal_v")?;
+        let busbars = member(alloc, format, value, "busbars")?;
+        let switches = member(alloc, format, value, "switches")?;
+        let internals = member(alloc, format, value, "internal")?;
+        let injections = member(alloc, format, value, "injections")?;
         Ok(LevelDraft {
             id,
             nominal_v,
@@ -290,13 +303,17 @@ impl FromJson for LevelDraft {
 impl FromJson for SubstationDraft {
     ghost use Rattle.grid_cli.specs.Draft.{substation_at};
 
-    ghost reads = { substation_at };
+    ghost reads = { λ _. substation_at };
 
     #[tactic(auto, unfolding(crate::specs::Draft::substation_at))]
-    fn from_json(alloc: Global, value: &Value) -> Result<SubstationDraft, ReadError> {
+    fn from_json(
+        alloc: Global,
+        format: Format,
+        value: &Value,
+    ) -> Result<SubstationDraft, ReadError> {
         only(alloc, value, &["id", "levels"])?;
-        let id = member(alloc, value, "id")?;
-        let levels = member(alloc, value, "levels")?;
+        let id = member(alloc, format, value, "id")?;
+        let levels = member(alloc, format, value, "levels")?;
         Ok(SubstationDraft { id, levels })
     }
 }
@@ -304,13 +321,13 @@ impl FromJson for SubstationDraft {
 impl FromJson for NetworkDraft {
     ghost use Rattle.grid_cli.specs.Draft.{network_at};
 
-    ghost reads = { network_at };
+    ghost reads = { λ _. network_at };
 
     #[tactic(auto, unfolding(crate::specs::Draft::network_at))]
-    fn from_json(alloc: Global, value: &Value) -> Result<NetworkDraft, ReadError> {
+    fn from_json(alloc: Global, format: Format, value: &Value) -> Result<NetworkDraft, ReadError> {
         only(alloc, value, &["id", "substations"])?;
-        let id = member(alloc, value, "id")?;
-        let substations = member(alloc, value, "substations")?;
+        let id = member(alloc, format, value, "id")?;
+        let substations = member(alloc, format, value, "substations")?;
         Ok(NetworkDraft { id, substations })
     }
 }
@@ -318,9 +335,9 @@ impl FromJson for NetworkDraft {
 impl FromJson for Verb {
     ghost use Rattle.grid_cli.specs.Draft.{verb_at};
 
-    ghost reads = { verb_at };
+    ghost reads = { λ _. verb_at };
 
-    fn from_json(alloc: Global, value: &Value) -> Result<Verb, ReadError> {
+    fn from_json(alloc: Global, _format: Format, value: &Value) -> Result<Verb, ReadError> {
         let Some(word) = value.as_str() else {
             return Err(ReadError::here(alloc, Reason::WrongKind));
         };
@@ -344,20 +361,25 @@ fn names_of_command(verb: Verb) -> &'static [&'static str]
 }
 
 /// The command of a verb.
-fn command_by(alloc: Global, verb: Verb, value: &Value) -> Result<Command, ReadError>
+fn command_by(
+    alloc: Global,
+    format: Format,
+    verb: Verb,
+    value: &Value,
+) -> Result<Command, ReadError>
     ensures { Gives result (command_of verb (view value.now)) }
 {
     match verb {
         Verb::Open => {
-            let switch = member(alloc, value, "switch")?;
+            let switch = member(alloc, format, value, "switch")?;
             Ok(Command::Open { switch })
         }
         Verb::Close => {
-            let switch = member(alloc, value, "switch")?;
+            let switch = member(alloc, format, value, "switch")?;
             Ok(Command::Close { switch })
         }
         Verb::BusView => {
-            let level = member(alloc, value, "level")?;
+            let level = member(alloc, format, value, "level")?;
             Ok(Command::BusView { level })
         }
     }
@@ -366,25 +388,25 @@ fn command_by(alloc: Global, verb: Verb, value: &Value) -> Result<Command, ReadE
 impl FromJson for Command {
     ghost use Rattle.grid_cli.specs.Draft.{command_at};
 
-    ghost reads = { command_at };
+    ghost reads = { λ _. command_at };
 
     #[tactic(auto, unfolding(crate::specs::Draft::command_at))]
-    fn from_json(alloc: Global, value: &Value) -> Result<Command, ReadError> {
+    fn from_json(alloc: Global, format: Format, value: &Value) -> Result<Command, ReadError> {
         object(alloc, value)?;
-        let verb = member(alloc, value, "do")?;
+        let verb = member(alloc, format, value, "do")?;
         only(alloc, value, names_of_command(verb))?;
-        command_by(alloc, verb, value)
+        command_by(alloc, format, verb, value)
     }
 }
 
-impl FromJson for Format {
+impl FromJson for FirstFormat {
     ghost use Rattle.grid_cli.specs.Draft.{format_at};
 
-    ghost reads = { format_at };
+    ghost reads = { λ _. format_at };
 
-    fn from_json(alloc: Global, value: &Value) -> Result<Format, ReadError> {
-        match i64::from_json(alloc, value)? {
-            1 => Ok(Format::One),
+    fn from_json(alloc: Global, format: Format, value: &Value) -> Result<FirstFormat, ReadError> {
+        match i64::from_json(alloc, format, value)? {
+            1 => Ok(FirstFormat::One),
             _ => Err(ReadError::here(alloc, Reason::Unknown)),
         }
     }
@@ -393,14 +415,14 @@ impl FromJson for Format {
 impl FromJson for JobDraft {
     ghost use Rattle.grid_cli.specs.Draft.{draft_at};
 
-    ghost reads = { draft_at };
+    ghost reads = { λ _. draft_at };
 
     #[tactic(auto, unfolding(crate::specs::Draft::draft_at))]
-    fn from_json(alloc: Global, value: &Value) -> Result<JobDraft, ReadError> {
+    fn from_json(alloc: Global, format: Format, value: &Value) -> Result<JobDraft, ReadError> {
         only(alloc, value, &["format", "network", "workers"])?;
-        let _format: Format = member(alloc, value, "format")?;
-        let network = member(alloc, value, "network")?;
-        let scripts = member(alloc, value, "workers")?;
+        let _first: FirstFormat = member(alloc, format, value, "format")?;
+        let network = member(alloc, format, value, "network")?;
+        let scripts = member(alloc, format, value, "workers")?;
         Ok(JobDraft { network, scripts })
     }
 }

@@ -14,7 +14,7 @@ use crate::draft::{
     SwitchDraft,
 };
 use grid_ids::{AddFault, Duplicate, Id, IdTable, Memory, Seq};
-use grid_json::{ByteFault, FromJson, ReadError, value_of};
+use grid_json::{ByteFault, Format, FromJson, ReadError, value_of};
 use grid_kinds::check_injection;
 use grid_level::{Level, LevelFault, Stand, Terminal};
 use std::alloc::Global;
@@ -354,7 +354,7 @@ pub fn read_job(alloc: Global, bytes: &[u8]) -> Result<SmallJob, JobFault>
         Err(ByteFault::NotJson) => return Err(JobFault::BadJson),
         Err(ByteFault::Memory) => return Err(JobFault::Memory),
     };
-    match JobDraft::from_json(alloc, &value) {
+    match JobDraft::from_json(alloc, Format::One, &value) {
         Ok(draft) => job_of_draft(alloc, draft),
         Err(ReadError::Fault(_)) => Err(JobFault::NotBuilt),
         Err(ReadError::Memory) => Err(JobFault::Memory),

@@ -2,6 +2,4 @@ pub mod Objects
 pub mod Items
 pub mod Texts
 pub mod Lengths
-pub mod Loading
-pub mod Edited
 pub mod Counts
