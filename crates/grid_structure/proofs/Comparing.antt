@@ -1,7 +1,6 @@
 -- Networks that are equal have equal flat lists.
-use Rattle.std.proofs.Common.{◌≡◌, refl, sym, ap, ◌∙◌, ℕ, suc, zero, ◌+◌, ◌-◌, ◌≤◌, List, [], ◌∷◌, ◌++◌, length, arith, Option, take, drop}
+use Rattle.std.proofs.Common.{◌≡◌, refl, sym, ap, ◌∙◌, ℕ, suc, zero, ◌≤◌, List, [], ◌∷◌, length, arith, Option, take, drop}
 use Rattle.std.specs.Prelude.{map, flat_map}
-use Rattle.std.specs.Option.{option_map}
 use Rattle.grid_level.specs.VoltageLevel.{VoltageLevel}
 use Rattle.grid_structure.specs.declared.NamedBranch.{NamedBranch}
 use Rattle.grid_structure.specs.declared.structure.Entry.{Entry}

@@ -1,11 +1,10 @@
 -- A level put in among the others: the places behind it move up.
-use Rattle.std.proofs.Common.{◌≡◌, refl, sym, ap, ◌∙◌, subst, ℕ, ℤ, suc, zero, ◌+◌, ◌-◌, ◌<◌, ◌≤◌, Bool, true, false, cond, not, ◌&&◌, ◌||◌, List, [], ◌∷◌, ◌++◌, length, arith, Option, Some, None, take, drop}
-use Rattle.std.specs.Prelude.{map, filter, position, find, slice_get, slice_set, insert, ◌==◌, nat_lt, nat_le, Result, Ok, Err}
+use Rattle.std.proofs.Common.{◌≡◌, refl, sym, ap, ◌∙◌, ℕ, ℤ, suc, zero, ◌+◌, ◌-◌, ◌<◌, ◌≤◌, Bool, true, false, cond, ◌&&◌, ◌||◌, List, [], ◌∷◌, ◌++◌, length, arith, Option, Some, None, take, drop}
+use Rattle.std.specs.Prelude.{map, position, find, slice_get, slice_set, insert, ◌==◌, nat_lt}
 use Rattle.std.specs.Option.{option_map}
 use Rattle.std.specs.List.{list_any, list_all}
 use Rattle.std.specs.Str.{bytes_eq}
-use Rattle.std.proofs.lemmas.Bool.{and_parts, and_from, lt-ltb, le-ltb, ltb-true, ltb-false, true≢false, false≢true}
-use Rattle.std.proofs.lemmas.List.{length-append}
+use Rattle.std.proofs.lemmas.Bool.{and_parts, and_from, lt-ltb, le-ltb, ltb-true, ltb-false}
 use Rattle.grid_ids.specs.Name.{same_id, has_id}
 use Rattle.grid_level.specs.VoltageLevel.{VoltageLevel}
 use Rattle.grid_structure.specs.declared.NamedBranch.{NamedBranch}
@@ -14,7 +13,7 @@ use Rattle.grid_structure.specs.declared.structure.Entry.TheVariants as entries
 use Rattle.grid_structure.specs.declared.structure.Head.{Head}
 use Rattle.grid_structure.specs.Network.{Substation}
 use Rattle.grid_structure.specs.Sites.{branch_ends}
-use Rattle.grid_structure.specs.Cutting.{cut, level_total, transformer_total}
+use Rattle.grid_structure.specs.Cutting.{cut, level_total}
 use Rattle.grid_structure.specs.Indexed.{substation_at, level_at, switch_at, sides_at, terminal_at, is_within, has_switch, has_terminal, moved}
 use Rattle.grid_structure.proofs.Counts.{times}
 use Rattle.grid_structure.proofs.Framing.{is_same}
@@ -163,15 +162,23 @@ terminal_moved at places side (Some (entries.Single key)) h =
     rw (chosen (moved at) (side == 1) (slice_get places key) None, got_moved at places (at ∷ []) key (ltb-true key (length places) h)) refl
 terminal_moved at places side (Some (entries.TwoEnded key1 key2)) h =
     let parts = and_parts (nat_lt key1 (length places)) (nat_lt key2 (length places)) h in
-    rw (chosen (moved at) (side == 1) (slice_get places key1) (cond (side == 2) (slice_get places key2) None), chosen (moved at) (side == 2) (slice_get places key2) None,
-        got_moved at places (at ∷ []) key1 (ltb-true key1 (length places) parts.0), got_moved at places (at ∷ []) key2 (ltb-true key2 (length places) parts.1)) refl
+    rw (
+      chosen (moved at) (side == 1) (slice_get places key1) (cond (side == 2) (slice_get places key2) None),
+      chosen (moved at) (side == 2) (slice_get places key2) None,
+      got_moved at places (at ∷ []) key1 (ltb-true key1 (length places) parts.0),
+      got_moved at places (at ∷ []) key2 (ltb-true key2 (length places) parts.1),
+    ) refl
 terminal_moved at places side (Some (entries.ThreeEnded key1 key2 key3)) h =
     let parts = and_parts (nat_lt key1 (length places)) (nat_lt key2 (length places) && nat_lt key3 (length places)) h in
     let more = and_parts (nat_lt key2 (length places)) (nat_lt key3 (length places)) parts.1 in
-    rw (chosen (moved at) (side == 1) (slice_get places key1) (cond (side == 2) (slice_get places key2) (cond (side == 3) (slice_get places key3) None)),
-        chosen (moved at) (side == 2) (slice_get places key2) (cond (side == 3) (slice_get places key3) None), chosen (moved at) (side == 3) (slice_get places key3) None,
-        got_moved at places (at ∷ []) key1 (ltb-true key1 (length places) parts.0), got_moved at places (at ∷ []) key2 (ltb-true key2 (length places) more.0),
-        got_moved at places (at ∷ []) key3 (ltb-true key3 (length places) more.1)) refl
+    rw (
+      chosen (moved at) (side == 1) (slice_get places key1) (cond (side == 2) (slice_get places key2) (cond (side == 3) (slice_get places key3) None)),
+      chosen (moved at) (side == 2) (slice_get places key2) (cond (side == 3) (slice_get places key3) None),
+      chosen (moved at) (side == 3) (slice_get places key3) None,
+      got_moved at places (at ∷ []) key1 (ltb-true key1 (length places) parts.0),
+      got_moved at places (at ∷ []) key2 (ltb-true key2 (length places) more.0),
+      got_moved at places (at ∷ []) key3 (ltb-true key3 (length places) more.1),
+    ) refl
 
 within_more : (n : ℕ) (o : Option Entry) → is_within n o ≡ true → is_within (n + 1) o ≡ true
 within_more n None h = refl
