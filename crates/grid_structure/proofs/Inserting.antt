@@ -1,5 +1,5 @@
 -- A level put in among the others: the places behind it move up.
-use Rattle.std.proofs.Common.{◌≡◌, refl, sym, ap, ◌∙◌, ℕ, ℤ, suc, zero, ◌+◌, ◌-◌, ◌<◌, ◌≤◌, Bool, true, false, cond, ◌&&◌, ◌||◌, List, [], ◌∷◌, ◌++◌, length, arith, Option, Some, None, take, drop}
+use Rattle.std.proofs.Common.{◌≡◌, refl, sym, ap, ◌∙◌, ℕ, ℤ, suc, zero, ◌+◌, ◌<◌, ◌≤◌, Bool, true, false, cond, ◌&&◌, ◌||◌, List, [], ◌∷◌, ◌++◌, length, arith, Option, Some, None, take, drop}
 use Rattle.std.specs.Prelude.{map, position, find, slice_get, slice_set, insert, ◌==◌, nat_lt}
 use Rattle.std.specs.Option.{option_map}
 use Rattle.std.specs.List.{list_any, list_all}
@@ -19,6 +19,7 @@ use Rattle.grid_structure.proofs.Counts.{times}
 use Rattle.grid_structure.proofs.Framing.{is_same}
 use Rattle.grid_structure.proofs.Substations.{changed, with_one}
 use Rattle.grid_structure.proofs.Places.{position-cons}
+use Rattle.grid_structure.proofs.Cutting.{length_drop}
 use Rattle.grid_structure.proofs.Flat.{IsFlat, turned, has_single, sides_over}
 use Rattle.grid_structure.proofs.Gaining.{same_swap}
 
@@ -48,11 +49,6 @@ drop_at : {X : Type 0} (n : ℕ) (xs : List X) (x : X) → n ≤ length xs → d
 drop_at zero xs x l = refl
 drop_at (suc n) [] x l = absurd (omega arith)
 drop_at (suc n) (y ∷ xs) x l = drop_at n xs x (omega arith)
-
-length_less : {X : Type 0} (n : ℕ) (xs : List X) → length (drop n xs) ≡ length xs - n
-length_less zero xs = omega arith
-length_less (suc n) [] = omega arith
-length_less (suc n) (x ∷ xs) = omega (arith, length_less n xs)
 
 -- ---- where a test passes first
 
@@ -285,7 +281,7 @@ cut_insert sub l (x ∷ heads) ls ts (suc j) h at is few once =
     let total = level_total (take (suc j) heads) in
     let room : x.levels ≤ length ls = omega (arith, few) in
     let other : same_id sub x.id ≡ false = apart (same_id sub x.id) once in
-    let again = cut_insert sub l heads (drop x.levels ls) (drop x.transformers ts) j h at is (omega (arith, few, length_less x.levels ls)) (omega (arith, once)) in
+    let again = cut_insert sub l heads (drop x.levels ls) (drop x.transformers ts) j h at is (omega (arith, few, length_drop x.levels ls)) (omega (arith, once)) in
     rw (other, take_front x.levels total ls l room, drop_front x.levels total ls l room, again) refl
   where
     in_tail : (hs : List Head) (n : ℕ) → slice_get hs n ≡ Some h → 1 ≤ times sub (map (λ (h : Head). h.id) hs)
