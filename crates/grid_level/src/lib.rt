@@ -278,6 +278,7 @@ impl Level {
         ensures done { OnOk result (edits.level_without_internal self.old node1 node2 ≡ Ok self.new) }
         ensures same { OnErr result (self.new ≡ self.old) }
         ensures refused { IfErr result (λ fault. fault ≡ refusal_of (edits.level_without_internal self.old node1 node2)) }
+        ensures sure { IfErr result (λ fault. fault ≡ LevelFault.NoEdge) }
     {
         let place = match place_of_joining(self.internals.as_slice(), node1, node2) {
             Some(place) => place,

@@ -15,12 +15,17 @@ fn edits_are_made(rt: HostRuntime) -> Result<(), Fail> {
         side: 1,
     };
     level.place_terminal(2, terminal, Stand::Busbar)?;
-    assert_eq!(rt; (level.edge_count(), level.node_count(), level.index_of(4)), (2, 3, Some(2)));
+    assert_eq!(rt;
+        (level.edge_count(), level.node_count(), level.index_of(4)),
+        (2, 3, Some(2))
+    );
     let mut other = level.copy()?;
     assert!(rt; other.same(&level));
     other.remove_internal(4, 3)?;
     assert!(rt; !other.same(&level));
     assert_eq!(rt; (other.node_count(), other.index_of(4)), (2, None));
-    assert!(rt; level.switch(0).copy()?.same(level.switch(0)));
+    for switch in level.switches() {
+        assert!(rt; switch.copy()?.same(switch));
+    }
     Ok(())
 }

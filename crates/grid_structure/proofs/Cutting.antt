@@ -1,5 +1,5 @@
 -- Flat lists, and the network that they stand for.
-use Rattle.std.proofs.Common.{◌≡◌, refl, sym, ap, ◌∙◌, subst, ℕ, ℤ, zero, suc, ◌+◌, ◌-◌, ◌<◌, ◌≤◌, Bool, true, false, cond, List, [], ◌∷◌, ◌++◌, length, arith, Option, Some, None, take, drop, get_or}
+use Rattle.std.proofs.Common.{◌≡◌, refl, sym, ap, ◌∙◌, ℕ, zero, suc, ◌-◌, ◌<◌, ◌≤◌, List, [], ◌∷◌, ◌++◌, length, arith, Option, Some, take, drop, get_or}
 use Rattle.std.specs.Prelude.{map, flat_map, slice_get, slice_set}
 use Rattle.std.specs.Option.{option_map}
 use Rattle.grid_level.specs.VoltageLevel.{VoltageLevel}
@@ -7,7 +7,7 @@ use Rattle.grid_structure.specs.declared.NamedBranch.{NamedBranch}
 use Rattle.grid_structure.specs.declared.structure.Head.{Head}
 use Rattle.grid_structure.specs.declared.structure.Entry.{Entry}
 use Rattle.grid_structure.specs.Kept.{IsKept}
-use Rattle.grid_structure.specs.Network.{Network, Substation}
+use Rattle.grid_structure.specs.Network.{Substation}
 use Rattle.grid_structure.specs.Sites.{levels, branches, find_level, all_ids}
 use Rattle.grid_structure.specs.Editing.{with_level, with_levels, substation_with_levels}
 use Rattle.grid_structure.specs.Cutting.{cut, level_total, transformer_total, network_of}

@@ -1,11 +1,10 @@
 -- A level put in among the others: the places behind it move up.
-use Rattle.std.proofs.Common.{◌≡◌, refl, sym, ap, ◌∙◌, subst, ℕ, ℤ, suc, zero, ◌+◌, ◌-◌, ◌<◌, ◌≤◌, Bool, true, false, cond, not, ◌&&◌, ◌||◌, List, [], ◌∷◌, ◌++◌, length, arith, Option, Some, None, take, drop}
-use Rattle.std.specs.Prelude.{map, filter, position, find, slice_get, slice_set, insert, ◌==◌, nat_lt, nat_le, Result, Ok, Err}
+use Rattle.std.proofs.Common.{◌≡◌, refl, sym, ap, ◌∙◌, ℕ, ℤ, suc, zero, ◌+◌, ◌<◌, ◌≤◌, Bool, true, false, cond, ◌&&◌, ◌||◌, List, [], ◌∷◌, ◌++◌, length, arith, Option, Some, None, take, drop}
+use Rattle.std.specs.Prelude.{map, position, find, slice_get, slice_set, insert, ◌==◌, nat_lt}
 use Rattle.std.specs.Option.{option_map}
 use Rattle.std.specs.List.{list_any, list_all}
 use Rattle.std.specs.Str.{bytes_eq}
-use Rattle.std.proofs.lemmas.Bool.{and_parts, and_from, lt-ltb, le-ltb, ltb-true, ltb-false, true≢false, false≢true}
-use Rattle.std.proofs.lemmas.List.{length-append}
+use Rattle.std.proofs.lemmas.Bool.{and_parts, and_from, lt-ltb, le-ltb, ltb-true, ltb-false}
 use Rattle.grid_ids.specs.Name.{same_id, has_id}
 use Rattle.grid_level.specs.VoltageLevel.{VoltageLevel}
 use Rattle.grid_structure.specs.declared.NamedBranch.{NamedBranch}
@@ -14,12 +13,13 @@ use Rattle.grid_structure.specs.declared.structure.Entry.TheVariants as entries
 use Rattle.grid_structure.specs.declared.structure.Head.{Head}
 use Rattle.grid_structure.specs.Network.{Substation}
 use Rattle.grid_structure.specs.Sites.{branch_ends}
-use Rattle.grid_structure.specs.Cutting.{cut, level_total, transformer_total}
+use Rattle.grid_structure.specs.Cutting.{cut, level_total}
 use Rattle.grid_structure.specs.Indexed.{substation_at, level_at, switch_at, sides_at, terminal_at, is_within, has_switch, has_terminal, moved}
 use Rattle.grid_structure.proofs.Counts.{times}
 use Rattle.grid_structure.proofs.Framing.{is_same}
 use Rattle.grid_structure.proofs.Substations.{changed, with_one}
 use Rattle.grid_structure.proofs.Places.{position-cons}
+use Rattle.grid_structure.proofs.Cutting.{length_drop}
 use Rattle.grid_structure.proofs.Flat.{IsFlat, turned, has_single, sides_over}
 use Rattle.grid_structure.proofs.Gaining.{same_swap}
 
@@ -49,11 +49,6 @@ drop_at : {X : Type 0} (n : ℕ) (xs : List X) (x : X) → n ≤ length xs → d
 drop_at zero xs x l = refl
 drop_at (suc n) [] x l = absurd (omega arith)
 drop_at (suc n) (y ∷ xs) x l = drop_at n xs x (omega arith)
-
-length_less : {X : Type 0} (n : ℕ) (xs : List X) → length (drop n xs) ≡ length xs - n
-length_less zero xs = omega arith
-length_less (suc n) [] = omega arith
-length_less (suc n) (x ∷ xs) = omega (arith, length_less n xs)
 
 -- ---- where a test passes first
 
@@ -163,15 +158,23 @@ terminal_moved at places side (Some (entries.Single key)) h =
     rw (chosen (moved at) (side == 1) (slice_get places key) None, got_moved at places (at ∷ []) key (ltb-true key (length places) h)) refl
 terminal_moved at places side (Some (entries.TwoEnded key1 key2)) h =
     let parts = and_parts (nat_lt key1 (length places)) (nat_lt key2 (length places)) h in
-    rw (chosen (moved at) (side == 1) (slice_get places key1) (cond (side == 2) (slice_get places key2) None), chosen (moved at) (side == 2) (slice_get places key2) None,
-        got_moved at places (at ∷ []) key1 (ltb-true key1 (length places) parts.0), got_moved at places (at ∷ []) key2 (ltb-true key2 (length places) parts.1)) refl
+    rw (
+      chosen (moved at) (side == 1) (slice_get places key1) (cond (side == 2) (slice_get places key2) None),
+      chosen (moved at) (side == 2) (slice_get places key2) None,
+      got_moved at places (at ∷ []) key1 (ltb-true key1 (length places) parts.0),
+      got_moved at places (at ∷ []) key2 (ltb-true key2 (length places) parts.1),
+    ) refl
 terminal_moved at places side (Some (entries.ThreeEnded key1 key2 key3)) h =
     let parts = and_parts (nat_lt key1 (length places)) (nat_lt key2 (length places) && nat_lt key3 (length places)) h in
     let more = and_parts (nat_lt key2 (length places)) (nat_lt key3 (length places)) parts.1 in
-    rw (chosen (moved at) (side == 1) (slice_get places key1) (cond (side == 2) (slice_get places key2) (cond (side == 3) (slice_get places key3) None)),
-        chosen (moved at) (side == 2) (slice_get places key2) (cond (side == 3) (slice_get places key3) None), chosen (moved at) (side == 3) (slice_get places key3) None,
-        got_moved at places (at ∷ []) key1 (ltb-true key1 (length places) parts.0), got_moved at places (at ∷ []) key2 (ltb-true key2 (length places) more.0),
-        got_moved at places (at ∷ []) key3 (ltb-true key3 (length places) more.1)) refl
+    rw (
+      chosen (moved at) (side == 1) (slice_get places key1) (cond (side == 2) (slice_get places key2) (cond (side == 3) (slice_get places key3) None)),
+      chosen (moved at) (side == 2) (slice_get places key2) (cond (side == 3) (slice_get places key3) None),
+      chosen (moved at) (side == 3) (slice_get places key3) None,
+      got_moved at places (at ∷ []) key1 (ltb-true key1 (length places) parts.0),
+      got_moved at places (at ∷ []) key2 (ltb-true key2 (length places) more.0),
+      got_moved at places (at ∷ []) key3 (ltb-true key3 (length places) more.1),
+    ) refl
 
 within_more : (n : ℕ) (o : Option Entry) → is_within n o ≡ true → is_within (n + 1) o ≡ true
 within_more n None h = refl
@@ -278,7 +281,7 @@ cut_insert sub l (x ∷ heads) ls ts (suc j) h at is few once =
     let total = level_total (take (suc j) heads) in
     let room : x.levels ≤ length ls = omega (arith, few) in
     let other : same_id sub x.id ≡ false = apart (same_id sub x.id) once in
-    let again = cut_insert sub l heads (drop x.levels ls) (drop x.transformers ts) j h at is (omega (arith, few, length_less x.levels ls)) (omega (arith, once)) in
+    let again = cut_insert sub l heads (drop x.levels ls) (drop x.transformers ts) j h at is (omega (arith, few, length_drop x.levels ls)) (omega (arith, once)) in
     rw (other, take_front x.levels total ls l room, drop_front x.levels total ls l room, again) refl
   where
     in_tail : (hs : List Head) (n : ℕ) → slice_get hs n ≡ Some h → 1 ≤ times sub (map (λ (h : Head). h.id) hs)

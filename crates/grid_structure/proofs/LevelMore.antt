@@ -1,12 +1,10 @@
 -- A level more.
-use Rattle.std.proofs.Common.{◌≡◌, refl, sym, ap, ◌∙◌, subst, ℕ, ℤ, suc, zero, ◌+◌, ◌-◌, ◌<◌, ◌≤◌, ◌^◌, Bool, true, false, cond, List, [], ◌∷◌, ◌++◌, length, arith, Option, Some, None, take, drop, get_or, add-one}
-use Rattle.std.specs.Prelude.{map, find, position, slice_get, slice_set, insert, remove, is_some, nat_lt, nat_le, Result, Ok, Err}
-use Rattle.std.specs.Option.{option_map}
+use Rattle.std.proofs.Common.{◌≡◌, refl, sym, ap, ◌∙◌, ℕ, ℤ, suc, zero, ◌+◌, ◌<◌, ◌≤◌, true, false, cond, List, [], ◌∷◌, ◌++◌, length, arith, Option, Some, None, take, drop, get_or}
+use Rattle.std.specs.Prelude.{map, find, position, slice_get, slice_set, insert, remove, is_some, nat_lt, Ok, Err}
 use Rattle.std.specs.List.{list_all}
 use Rattle.std.specs.Str.{bytes_eq}
 use Rattle.std.proofs.lemmas.Bool.{le-leb, lt-leb, lt-ltb, and_parts, and_from, ltb-true, true≢false}
 use Rattle.grid_ids.specs.Name.{same_id}
-use Rattle.grid_ids.specs.Refusing.{◌>>=◌, refuse_if, refuse_by, found_or}
 use Rattle.grid_kinds.specs.declared.CheckFault.{CheckFault}
 use Rattle.grid_kinds.specs.Records.{level_fault}
 use Rattle.grid_level.specs.VoltageLevel.{VoltageLevel}
@@ -20,16 +18,16 @@ use Rattle.grid_structure.specs.Network.{Network, Substation}
 use Rattle.grid_structure.specs.Sites.{levels, switches, substation_named, taken, all_ids}
 use Rattle.grid_structure.specs.Editing.{apply, with_substation, max_levels}
 use Rattle.grid_structure.specs.Cutting.{cut, level_total, transformer_total, network_of}
-use Rattle.grid_structure.specs.Indexed.{find_substation, moved}
+use Rattle.grid_structure.specs.Indexed.{find_substation}
 use Rattle.grid_structure.specs.Kept.{IsKept}
 use Rattle.grid_structure.proofs.Soundly.{apply_sound}
 use Rattle.grid_structure.proofs.Counts.{times, differ-times}
 use Rattle.grid_structure.proofs.Framing.{same_is, switch_total, switches_counted}
-use Rattle.grid_structure.proofs.Substations.{changed, with_one, names, sub_ids_once}
-use Rattle.grid_structure.proofs.Places.{position_found, position_none, got_below, length-slice_set}
+use Rattle.grid_structure.proofs.Substations.{names, sub_ids_once}
+use Rattle.grid_structure.proofs.Places.{position_found, position_none, length-slice_set}
 use Rattle.grid_structure.proofs.Found.{some_find}
 use Rattle.grid_structure.proofs.Cutting.{kept_levels, levels-network_of}
-use Rattle.grid_structure.proofs.Flat.{IsFlat, from_flat, flat_substation}
+use Rattle.grid_structure.proofs.Flat.{from_flat, flat_substation}
 use Rattle.grid_structure.proofs.Changing.{find_at, kept_flat}
 use Rattle.grid_structure.proofs.Gaining.{finds_nothing}
 use Rattle.grid_structure.proofs.Inserting.{bare_level, longer, places_with, cut_insert, flat_inserted, length-insert}

@@ -24,3 +24,4 @@ pub mod Singles
 pub mod Inserting
 pub mod LevelMore
 pub mod Comparing
+pub mod Homes

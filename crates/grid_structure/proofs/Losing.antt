@@ -1,11 +1,10 @@
 -- A switch less.
-use Rattle.std.proofs.Common.{◌≡◌, refl, sym, ap, ◌∙◌, subst, ℕ, suc, zero, ◌+◌, ◌-◌, ◌<◌, ◌≤◌, Bool, true, false, cond, not, ◌||◌, List, [], ◌∷◌, ◌++◌, length, arith, Option, Some, None, take, drop}
-use Rattle.std.specs.Prelude.{map, filter, position, slice_get, slice_set, remove, is_some, Result, Ok, Err}
+use Rattle.std.proofs.Common.{◌≡◌, refl, sym, ap, ◌∙◌, subst, ℕ, suc, zero, ◌+◌, ◌-◌, ◌<◌, ◌≤◌, Bool, true, false, cond, not, ◌||◌, List, [], ◌∷◌, ◌++◌, length, arith, Option, Some, None}
+use Rattle.std.specs.Prelude.{map, filter, position, slice_get, slice_set, remove, is_some, Ok, Err}
 use Rattle.std.specs.Option.{option_map}
 use Rattle.std.specs.List.{list_any}
 use Rattle.std.specs.Str.{bytes_eq}
-use Rattle.std.proofs.lemmas.Bool.{true≢false, false≢true}
-use Rattle.std.proofs.lemmas.List.{length-append}
+use Rattle.std.proofs.lemmas.Bool.{false≢true}
 use Rattle.grid_ids.specs.Name.{same_id, has_id}
 use Rattle.grid_ids.specs.Refusing.{◌>>=◌, refuse_if}
 use Rattle.grid_level.specs.declared.Switch.{Switch}
@@ -18,18 +17,18 @@ use Rattle.grid_structure.specs.declared.Edit.TheVariants.{RemoveSwitch}
 use Rattle.grid_structure.specs.declared.EditFault.TheVariants as faults
 use Rattle.grid_structure.specs.Network.{Network, Substation}
 use Rattle.grid_structure.specs.declared.SwitchAt.{SwitchAt}
-use Rattle.grid_structure.specs.Sites.{levels, switches, switch_ids, all_ids, find_switch, switch_spot}
+use Rattle.grid_structure.specs.Sites.{levels, switch_ids, all_ids, find_switch, switch_spot}
 use Rattle.grid_structure.specs.Editing.{apply, with_levels, level_without_switch}
 use Rattle.grid_structure.specs.Cutting.{cut, network_of}
-use Rattle.grid_structure.specs.Indexed.{substation_at, level_at, switch_at, sides_at, terminal_at, is_within, has_switch, has_terminal, level_of_switch}
+use Rattle.grid_structure.specs.Indexed.{substation_at, level_at, switch_at, sides_at, terminal_at, has_switch, has_terminal, level_of_switch}
 use Rattle.grid_structure.specs.Kept.{IsKept}
 use Rattle.grid_structure.proofs.Soundly.{apply_sound}
 use Rattle.grid_structure.proofs.Counts.{times, differ-times}
 use Rattle.grid_structure.proofs.Framing.{same_is, locals, switch_ids_of, ids_counted, switch_total, switches_counted}
-use Rattle.grid_structure.proofs.Places.{position-cons, position_found, none_position, position_set_same, got_below, length-slice_set}
+use Rattle.grid_structure.proofs.Places.{position-cons, position_found, none_position, position_set_same}
 use Rattle.grid_structure.proofs.Cutting.{kept_levels, cut_map}
 use Rattle.grid_structure.proofs.Found.{switch_there, switch_nowhere, switch_somewhere, switch_test, switch_tested, switch_below, switch_has}
-use Rattle.grid_structure.proofs.Flat.{IsFlat, Turns, Others, flat_turned, sides_set, sides_over, has_single}
+use Rattle.grid_structure.proofs.Flat.{Turns, Others, flat_turned, sides_set, has_single}
 use Rattle.grid_structure.proofs.Changing.{level_kept, kept_flat}
 use Rattle.grid_structure.proofs.Gaining.{same_swap}
 

@@ -1,14 +1,13 @@
 -- A busbar section or an injection more.
-use Rattle.std.proofs.Common.{◌≡◌, ◌≢◌, refl, sym, ap, ◌∙◌, subst, ℕ, ℤ, suc, zero, ◌+◌, ◌<◌, ◌≤◌, Bool, true, false, cond, not, ◌&&◌, ◌||◌, List, [], ◌∷◌, ◌++◌, length, arith, Option, Some, None}
+use Rattle.std.proofs.Common.{◌≡◌, ◌≢◌, refl, sym, ap, ◌∙◌, subst, ℕ, ℤ, Bool, true, false, cond, not, ◌&&◌, ◌||◌, List, [], ◌∷◌, ◌++◌, length, Option, Some, None}
 use Rattle.std.specs.Prelude.{map, filter, position, slice_get, slice_set, ◌==◌, nat_lt, Result, Ok, Err}
 use Rattle.std.specs.List.{list_any}
 use Rattle.std.specs.Str.{bytes_eq}
 use Rattle.std.proofs.lemmas.Bool.{lt-ltb, eqb-true, eq-eqb, false≢true, true≢false}
-use Rattle.grid_ids.specs.Name.{same_id, has_id}
-use Rattle.grid_ids.specs.Refusing.{◌>>=◌, map_fault, found_or, refuse_if, refuse_by}
+use Rattle.grid_ids.specs.Name.{same_id}
+use Rattle.grid_ids.specs.Refusing.{◌>>=◌, map_fault}
 use Rattle.grid_kinds.specs.declared.CheckFault.{CheckFault}
 use Rattle.grid_kinds.specs.declared.Injection.{Injection}
-use Rattle.grid_kinds.specs.Records.{injection_fault}
 use Rattle.grid_level.specs.declared.LevelFault.{LevelFault}
 use Rattle.grid_level.specs.declared.LevelFault.TheVariants as level_faults
 use Rattle.grid_level.specs.declared.Placed.{Placed}
@@ -27,18 +26,17 @@ use Rattle.grid_structure.specs.declared.Edit.{Edit}
 use Rattle.grid_structure.specs.declared.Edit.TheVariants.{AddBusbar, AddInjection}
 use Rattle.grid_structure.specs.declared.EditFault.{EditFault}
 use Rattle.grid_structure.specs.declared.EditFault.TheVariants as faults
-use Rattle.grid_structure.specs.declared.ApplyFault.{ApplyFault}
 use Rattle.grid_structure.specs.Network.{Network}
-use Rattle.grid_structure.specs.Sites.{find_level, level_named, taken}
+use Rattle.grid_structure.specs.Sites.{find_level, taken}
 use Rattle.grid_structure.specs.Editing.{apply, with_level, with_single, stand_fault, edit_fault, IsTold, told_of}
 use Rattle.grid_structure.specs.Cutting.{network_of}
-use Rattle.grid_structure.specs.Indexed.{substation_at, level_at, switch_at, sides_at, terminal_at, is_within, has_switch, has_terminal}
+use Rattle.grid_structure.specs.Indexed.{switch_at, terminal_at, has_switch, has_terminal}
 use Rattle.grid_structure.specs.Kept.{IsKept}
 use Rattle.grid_structure.specs.Soundness.{IsSound}
 use Rattle.grid_structure.proofs.Soundly.{apply_sound}
 use Rattle.grid_structure.proofs.Framing.{is_same}
 use Rattle.grid_structure.proofs.Places.{position_set_new, position_set_same, any_set_new, got_below}
-use Rattle.grid_structure.proofs.Flat.{IsFlat, sides_one, Turns, Others, flat_turned, has_single, sides_over}
+use Rattle.grid_structure.proofs.Flat.{sides_one, Turns, Others, flat_turned, has_single}
 use Rattle.grid_structure.proofs.Changing.{some_level, level_there, level_nowhere, level_put, level_kept, kept_flat, told_refusal}
 use Rattle.grid_structure.proofs.Gaining.{finds_nothing, same_swap, Asked}
 
@@ -199,5 +197,5 @@ module _ {id : List ℕ} {heads : List Head} {ls : List VoltageLevel} {ts lines 
       let sound = apply_sound net (network_of id heads (slice_set ls k new) ts lines) way.edit (way.is ∙ done) kept.sound in
       subst (λ (z : VoltageLevel). IsKept id heads (slice_set ls k z) ts lines count other places) m.is
       (level_kept kept k old (placed_in old p) count other a.at (subst (λ (z : VoltageLevel). IsSound (network_of id heads (slice_set ls k z) ts lines)) (sym m.is) sound) refl
-          (flat_turned look other places heads ls (ts ++ lines) k old (placed_in old p) e (Some (entries.Single key)) a.at refl is (placed_others old p)
-              (single_turns p k key old (finds_nothing kept e a.free) refl alone a.at keyed) (kept_flat kept)))
+      (flat_turned look other places heads ls (ts ++ lines) k old (placed_in old p) e (Some (entries.Single key)) a.at refl is (placed_others old p)
+      (single_turns p k key old (finds_nothing kept e a.free) refl alone a.at keyed) (kept_flat kept)))

@@ -1,5 +1,5 @@
 -- What stands in a network, and where.
-use Rattle.std.specs.Prelude.{ℕ, ℤ, ◌+◌, Bool, not, ◌&&◌, ◌==◌, if◌then◌else◌, Option, Some, None, List, [], ◌∷◌, ◌++◌, length, map, filter, find, flat_map, option_map, position}
+use Rattle.std.specs.Prelude.{ℕ, ℤ, ◌+◌, Bool, not, ◌&&◌, ◌==◌, if◌then◌else◌, Option, Some, None, List, [], ◌∷◌, ◌++◌, length, map, filter, find, flat_map, option_map, position, ◌-◌, nat_lt}
 use Rattle.std.specs.List.{list_any}
 use Rattle.grid_ids.specs.Name.{same_id, has_id}
 use Rattle.grid_level.specs.declared.Switch.{Switch}
@@ -79,6 +79,11 @@ find_level net id = position (λ l. same_id id l.id) (levels net)
 -- the level's place, and the node at which the equipment's terminal of this side stands
 unfoldable pub site : Network → List ℕ → ℕ → Option (ℕ × ℕ)
 site net id side = first_found 0 (λ l. option_map (λ p. p.node) (find (λ p. same_id id p.terminal.equipment && (p.terminal.side == side)) l.placed)) (levels net)
+
+-- the place of the substation of the level at a place
+unfoldable pub home_place : List Substation → ℕ → ℕ
+home_place [] k = 0
+home_place (s ∷ subs) k = if nat_lt k (length s.levels) then 0 else home_place subs (k - length s.levels) + 1
 
 -- ---- branches
 

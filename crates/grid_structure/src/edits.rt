@@ -144,13 +144,7 @@ impl Structure {
     }
 
     // Puts a busbar section or an injection at its node.
-    fn add_single(
-        &mut self,
-        id: &Id,
-        level: &Id,
-        node: i64,
-        stand: Stand,
-    ) -> Result<(), ApplyFault>
+    fn add_single(&mut self, id: &Id, level: &Id, node: i64, stand: Stand) -> Result<(), ApplyFault>
         requires { IsFalse (is_branch_end stand) }
         ensures done { OnOk result (with_single self.old id.now level.now node stand ≡ Ok self.new) }
         ensures same { OnErr result (self.new ≡ self.old) }
@@ -260,9 +254,9 @@ impl Structure {
         let name = id.copy()?;
         let item = id.copy()?;
         make_room(&mut self.table)?;
-        match self.levels[found.place as usize]
-            .add_switch(item, kind, node1, node2, opened, retained, fictitious)
-        {
+        match self.levels[found.place as usize].add_switch(
+            item, kind, node1, node2, opened, retained, fictitious,
+        ) {
             Ok(_) => {}
             Err(fault) => return Err(told(fault)),
         }
@@ -305,11 +299,13 @@ impl Structure {
         Ok(())
     }
 
-    /// Takes the first internal connection of a level that joins the two nodes out.
+    /// Takes the first internal connection of a level that joins the two nodes, in either order, out. It takes no
+    /// memory.
     pub fn remove_internal(&mut self, level: &Id, node1: i64, node2: i64) -> Result<(), ApplyFault>
         ensures done { OnOk result (editing.apply self.old (Edit.RemoveInternal level.now node1 node2) ≡ Ok self.new) }
         ensures same { OnErr result (self.new ≡ self.old) }
         ensures refused { IfErr result (IsTold (editing.apply self.old (Edit.RemoveInternal level.now node1 node2))) }
+        ensures sure { IfErr result IsRefused }
     {
         let place = match self.find_level(level) {
             Some(place) => place as usize,

@@ -141,7 +141,10 @@ fn place_of_switch(switches: &[Switch], id: &Id) -> Option<usize>
 fn node_of_terminal(placed: &[Placed], id: &Id, side: u8) -> Option<u16>
     ensures { result ≡ option_map (λ p. p.node) (find (λ p. same_id id.now p.terminal.equipment && (p.terminal.side == side)) placed.now) }
 {
-    match placed.iter().find(|p| id == &p.terminal.equipment && p.terminal.side == side) {
+    match placed
+        .iter()
+        .find(|p| id == &p.terminal.equipment && p.terminal.side == side)
+    {
         Some(found) => Some(found.node),
         None => None,
     }
@@ -201,8 +204,11 @@ impl Structure {
     pub fn site(&self, id: &Id, side: u8) -> Option<Site>
         ensures { result ≡ option_map terminal_spot (sites.site self.now id.now side) }
     {
-        let level = match level_of_terminal(self.places.as_slice(), side, entry_of(&self.table, id))
-        {
+        let level = match level_of_terminal(
+            self.places.as_slice(),
+            side,
+            entry_of(&self.table, id),
+        ) {
             Some(level) => level,
             None => return None,
         };

@@ -1,13 +1,40 @@
 // What a structure tells of itself. None of these takes memory.
-ghost use Rattle.std.specs.Prelude.{◌≡◌, ◌<◌, length, Some, slice_get};
+ghost use Rattle.std.specs.Prelude.{◌≡◌, ◌<◌, ◌^◌, length, Some, slice_get};
 ghost use Rattle.std.specs.Option.{option_map};
+ghost use Rattle.grid_structure.specs.Cutting.{level_total, head_place};
 ghost use Rattle.grid_structure.specs.Sites as sites;
 
+use crate::structure::Head;
 use crate::{Branch, Structure};
 use grid_ids::Id;
 use grid_level::Level;
 
+// The place of the substation whose levels go so far.
+fn head_of_level(heads: &[Head], level: u32) -> u32
+    requires within { level < level_total heads.now }
+    requires few { length heads.now < 2 ^ 32 }
+    ensures { result ≡ head_place heads.now level }
+{
+    let mut rest = level;
+    for place in 0..heads.len() {
+        let levels = heads[place].levels;
+        if rest < levels {
+            return place as u32;
+        }
+        rest -= levels;
+    }
+    0
+}
+
 impl Structure {
+    /// The place of the substation of the level at a place.
+    pub fn substation_of(&self, level: u32) -> u32
+        requires { level < length (sites.levels self.now) }
+        ensures { result ≡ sites.home_place self.now.substations level }
+    {
+        head_of_level(self.heads.as_slice(), level)
+    }
+
     pub fn id(&self) -> &Id
         ensures { result.now ≡ self.now.id }
     {

@@ -41,8 +41,26 @@ fn small(alloc: Global) -> Result<Structure, Fail> {
     net.add_busbar(&Id::new(alloc, "BBS1")?, &vl, 0)?;
     net.add_busbar(&Id::new(alloc, "BBS2")?, &vl, 1)?;
     let breaker = SwitchKind::Breaker;
-    net.add_switch(&Id::new(alloc, "BC")?, &vl, breaker, 0, 1, false, true, false)?;
-    net.add_switch(&Id::new(alloc, "B")?, &vl, breaker, 0, 3, false, false, false)?;
+    net.add_switch(
+        &Id::new(alloc, "BC")?,
+        &vl,
+        breaker,
+        0,
+        1,
+        false,
+        true,
+        false,
+    )?;
+    net.add_switch(
+        &Id::new(alloc, "B")?,
+        &vl,
+        breaker,
+        0,
+        3,
+        false,
+        false,
+        false,
+    )?;
     net.add_internal(&vl, 3, 4)?;
     let load = Injection::Load {
         p0: 50_000_000,
@@ -59,8 +77,14 @@ fn edits_are_made(rt: HostRuntime) -> Result<(), Fail> {
     let vl = Id::new(alloc, "VL")?;
     let coupler = Id::new(alloc, "BC")?;
     assert_eq!(rt; (net.switch_total(), net.find_level(&vl)), (2, Some(0)));
-    assert_eq!(rt; net.find_switch(&coupler), Some(SwitchAt { level: 0, place: 0 }));
-    assert_eq!(rt; net.site(&Id::new(alloc, "LD")?, 1), Some(Site { level: 0, node: 4 }));
+    assert_eq!(rt;
+        net.find_switch(&coupler),
+        Some(SwitchAt { level: 0, place: 0 })
+    );
+    assert_eq!(rt;
+        net.site(&Id::new(alloc, "LD")?, 1),
+        Some(Site { level: 0, node: 4 })
+    );
     net.remove_switch(&coupler)?;
     net.remove_internal(&vl, 4, 3)?;
     assert_eq!(rt; (net.switch_total(), net.taken(&coupler)), (1, false));
@@ -82,14 +106,32 @@ fn edits_are_refused(rt: HostRuntime) -> Result<(), Fail> {
         min_p: 5,
         max_p: 3,
     };
-    assert_eq!(rt; refused(net.add_switch(&ld, &vl, breaker, 0, 5, false, false, false)), Some(30));
-    assert_eq!(rt; refused(net.add_switch(&x, &x, breaker, 0, 5, false, false, false)), Some(32));
-    assert_eq!(rt; refused(net.add_switch(&x, &vl, breaker, 3, 3, false, false, false)), Some(22));
-    assert_eq!(rt; refused(net.add_switch(&x, &vl, breaker, 0, 65536, false, false, false)), Some(20));
+    assert_eq!(rt;
+        refused(net.add_switch(&ld, &vl, breaker, 0, 5, false, false, false)),
+        Some(30)
+    );
+    assert_eq!(rt;
+        refused(net.add_switch(&x, &x, breaker, 0, 5, false, false, false)),
+        Some(32)
+    );
+    assert_eq!(rt;
+        refused(net.add_switch(&x, &vl, breaker, 3, 3, false, false, false)),
+        Some(22)
+    );
+    assert_eq!(rt;
+        refused(net.add_switch(&x, &vl, breaker, 0, 65536, false, false, false)),
+        Some(20)
+    );
     assert_eq!(rt; refused(net.add_injection(&x, &vl, 0, &load)), Some(21));
     assert_eq!(rt; refused(net.remove_internal(&vl, 0, 1)), Some(23));
     assert_eq!(rt; refused(net.remove_switch(&ld)), Some(33));
-    assert_eq!(rt; refused(net.add_level(&x, &Id::new(alloc, "S")?, 0, None, None)), Some(10));
-    assert_eq!(rt; refused(net.add_injection(&x, &vl, 6, &generator)), Some(12));
+    assert_eq!(rt;
+        refused(net.add_level(&x, &Id::new(alloc, "S")?, 0, None, None)),
+        Some(10)
+    );
+    assert_eq!(rt;
+        refused(net.add_injection(&x, &vl, 6, &generator)),
+        Some(12)
+    );
     Ok(())
 }

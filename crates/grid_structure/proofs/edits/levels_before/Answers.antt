@@ -1,5 +1,4 @@
-use Rattle.std.proofs.Common.{◌≡◌, refl, ◌+◌, sym, ap, ◌∙◌, arith, rules}
-use Rattle.grid_structure.specs.Cutting.{level_total}
+use Rattle.std.proofs.Common.{◌+◌, sym, arith}
 use Rattle.grid_structure.proofs.LevelMore.{total_step, total_part, total_none}
 use Rattle.grid_structure.proofs.edits.levels_before.Goals as goal
 

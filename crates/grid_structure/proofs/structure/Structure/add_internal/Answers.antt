@@ -1,5 +1,5 @@
-use Rattle.std.proofs.Common.{◌≡◌, refl, ◌<◌, ℕ, Some, None, length, rules, arith, ap, sym, ◌∙◌}
-use Rattle.std.specs.Prelude.{slice_get, slice_set, Ok}
+use Rattle.std.proofs.Common.{◌≡◌, ◌<◌, Some, None, length, rules, arith, ap}
+use Rattle.std.specs.Prelude.{Ok}
 use Rattle.grid_level.specs.LevelEdits.{level_with_internal, refusal_of}
 use Rattle.grid_structure.specs.Sites.{levels, find_level}
 use Rattle.grid_structure.proofs.Cutting.{kept_levels}

@@ -1,5 +1,5 @@
-use Rattle.std.proofs.Common.{◌≡◌, refl, ◌<◌, ◌≤◌, ◌+◌, ℕ, true, false, length, rules, arith, ap, sym, ◌∙◌, cond, Some, None, List, take}
-use Rattle.std.specs.Prelude.{slice_get, insert, remove, Ok}
+use Rattle.std.proofs.Common.{◌≡◌, ◌<◌, ◌≤◌, ◌+◌, ℕ, true, false, length, rules, arith, ap, ◌∙◌, cond, Some, None, List, take}
+use Rattle.std.specs.Prelude.{insert, remove}
 use Rattle.std.specs.Str.{bytes_eq}
 use Rattle.std.specs.HashMap.{get}
 use Rattle.grid_kinds.specs.Records.{level_fault}
@@ -12,8 +12,8 @@ use Rattle.grid_structure.proofs.Places.{get_there}
 use Rattle.grid_structure.proofs.Found.{substation_below}
 use Rattle.grid_structure.proofs.Cutting.{length-cut}
 use Rattle.grid_structure.proofs.Gaining.{kept_alike}
-use Rattle.grid_structure.proofs.Inserting.{bare_level, longer, places_with}
-use Rattle.grid_structure.proofs.LevelMore.{Fits, place_of, place_fits, level_done, level_taken, level_homeless, level_many, level_unfit, level_added, places_small, remove-insert, head_part, total_part}
+use Rattle.grid_structure.proofs.Inserting.{bare_level, places_with}
+use Rattle.grid_structure.proofs.LevelMore.{Fits, place_fits, level_done, level_taken, level_homeless, level_many, level_unfit, level_added, places_small, remove-insert, head_part}
 use Rattle.grid_structure.proofs.structure.Structure.add_level.Goals as goal
 
 pub returns-then-taken-clause-refused : goal.returns-then-taken-clause-refused
@@ -118,8 +118,8 @@ invariant_of-self-2 c =
     let name : c.in_ok-name.name ≡ c.args.id.now = search rules in
     let key : c.len-key.result ≡ length c.self.inside.places.items = omega arith in
     let entry = λ (q : List ℕ). c.put_entry.ensures q ∙ ap (λ t. cond t (Some (entries.Level c.len-key.result)) (get bytes_eq c.make_room.new.table q)) (ap (λ z. bytes_eq z q) name)
-        ∙ ap (λ k. cond (bytes_eq c.args.id.now q) (Some (entries.Level k)) (get bytes_eq c.make_room.new.table q)) key
-        ∙ ap (cond (bytes_eq c.args.id.now q) (Some (entries.Level (length c.self.inside.places.items)))) (c.in_ok-make_room.ensures.same q) in
+    ∙ ap (λ k. cond (bytes_eq c.args.id.now q) (Some (entries.Level k)) (get bytes_eq c.make_room.new.table q)) key
+    ∙ ap (cond (bytes_eq c.args.id.now q) (Some (entries.Level (length c.self.inside.places.items)))) (c.in_ok-make_room.ensures.same q) in
     let moved = c.in-Ok-push_place.ensures.ok ∙ ap (λ z. places_with z c.self.inside.places.items) place in
     rw (levels, moved) (level_added c.self.invariant c.args.id.now c.args.substation.now c.in-Some.home c.index_mut.result.now c.args.nominal_v c.args.low_v c.args.high_v _ fits entry)
 

@@ -1,4 +1,4 @@
-use Rattle.std.proofs.Common.{◌≡◌, ◌≢◌, refl, ◌<◌, ◌≤◌, ℕ, true, false, length, rules, arith, ap, sym, ◌∙◌, cond, Some, None, List}
+use Rattle.std.proofs.Common.{◌≡◌, ◌≢◌, ℕ, true, false, length, rules, arith, ap, ◌∙◌, cond, Some, None, List}
 use Rattle.std.specs.Prelude.{slice_get, Ok}
 use Rattle.std.specs.Str.{bytes_eq}
 use Rattle.std.specs.HashMap.{get}
@@ -11,7 +11,7 @@ use Rattle.grid_structure.proofs.Places.{get_there, set_itself}
 use Rattle.grid_structure.proofs.Found.{level_below}
 use Rattle.grid_structure.proofs.Cutting.{kept_levels}
 use Rattle.grid_structure.proofs.Gaining.{kept_alike, Asked}
-use Rattle.grid_structure.proofs.Singles.{terminal_of, single_done, single_told, single_taken, single_nowhere, single_unfit, single_added}
+use Rattle.grid_structure.proofs.Singles.{single_done, single_told, single_taken, single_nowhere, single_unfit, single_added}
 use Rattle.grid_structure.proofs.structure.Structure.add_single.Goals as goal
 
 pub returns-then-taken-clause-refused : goal.returns-then-taken-clause-refused

@@ -1,4 +1,4 @@
-use Rattle.std.proofs.Common.{◌≡◌, refl, ◌<◌, ℕ, true, false, length, rules, arith, ap, sym, ◌∙◌, cond, Some, List}
+use Rattle.std.proofs.Common.{◌≡◌, ℕ, true, false, length, rules, arith, ap, ◌∙◌, cond, Some, List}
 use Rattle.std.specs.Str.{bytes_eq}
 use Rattle.std.specs.HashMap.{get}
 use Rattle.grid_structure.specs.declared.structure.Entry.TheVariants as entries

@@ -1,4 +1,4 @@
-use Rattle.std.proofs.Common.{◌≡◌, refl, ◌<◌, ◌≤◌, ℕ, true, false, length, rules, arith, ap, sym, ◌∙◌, cond, Some, None, List}
+use Rattle.std.proofs.Common.{◌≡◌, ◌<◌, ◌≤◌, ℕ, true, false, length, rules, arith, ap, ◌∙◌, cond, Some, None, List}
 use Rattle.std.specs.Prelude.{slice_get, Ok}
 use Rattle.std.specs.Str.{bytes_eq}
 use Rattle.std.specs.HashMap.{get}
@@ -6,9 +6,8 @@ use Rattle.grid_level.specs.LevelEdits.{level_with_switch, refusal_of}
 use Rattle.grid_structure.specs.declared.structure.Entry.TheVariants as entries
 use Rattle.grid_structure.specs.Sites.{taken, find_level, switches}
 use Rattle.grid_structure.specs.Cutting.{network_of}
-use Rattle.grid_structure.specs.Indexed.{level_at}
 use Rattle.grid_structure.specs.Editing.{max_switches}
-use Rattle.grid_structure.proofs.Places.{get_there, got_below, set_itself}
+use Rattle.grid_structure.proofs.Places.{get_there, set_itself}
 use Rattle.grid_structure.proofs.Found.{level_below}
 use Rattle.grid_structure.proofs.Cutting.{kept_levels}
 use Rattle.grid_structure.proofs.Gaining.{kept_alike, Asked, switch_done, switch_told, switch_taken, switch_nowhere, switch_many, switch_added}

@@ -1,4 +1,4 @@
-use Rattle.std.proofs.Common.{◌≡◌, ap, sym, ◌∙◌, arith, length, length-append}
+use Rattle.std.proofs.Common.{◌≡◌, ap, arith, length, length-append}
 use Rattle.grid_structure.specs.declared.NamedBranch.{NamedBranch}
 use Rattle.std.specs.Option.{option_map}
 use Rattle.grid_structure.proofs.Cutting.{kept_branches}
@@ -22,4 +22,4 @@ returns c =
     let h = rw (← c.self.view_is, is) at c.requires in
     let many : c.len-2.result ≡ length c.self.inside.transformers.items = omega arith in
     rw (← c.self.view_is, is) (ap (option_map (λ (b : NamedBranch). b.id)) (get_back c.self.inside.transformers.items c.self.inside.lines.items c.args.place c.len-2.result c.index-2.result.now many (omega arith)
-        (omega (arith, h, length-append c.self.inside.transformers.items c.self.inside.lines.items)) c.index-2.ensures))
+    (omega (arith, h, length-append c.self.inside.transformers.items c.self.inside.lines.items)) c.index-2.ensures))

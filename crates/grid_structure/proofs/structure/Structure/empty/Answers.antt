@@ -1,4 +1,4 @@
-use Rattle.std.proofs.Common.{◌≡◌, ap, refl, sym, ◌∙◌, ℕ, List, []}
+use Rattle.std.proofs.Common.{refl}
 use Rattle.grid_structure.specs.Cutting.{cut}
 use Rattle.grid_structure.proofs.Starting.{empty_kept}
 use Rattle.grid_structure.proofs.structure.Structure.empty.Goals as goal

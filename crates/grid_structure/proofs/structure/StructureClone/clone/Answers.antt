@@ -1,4 +1,4 @@
-use Rattle.std.proofs.Common.{◌≡◌, ap, rules, ℕ, List, Option}
+use Rattle.std.proofs.Common.{◌≡◌, ap, rules, ℕ, List}
 use Rattle.std.specs.Str.{bytes_eq}
 use Rattle.std.specs.Map.{lookup}
 use Rattle.grid_structure.specs.declared.structure.Entry.{Entry}
