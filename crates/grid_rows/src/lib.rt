@@ -1,5 +1,7 @@
-//! Worked examples that cross the crates: whole jobs by the top call.
+//! Worked examples that cross the crates: whole jobs by the top call, and the first faults of jobs.
 #![tactic(auto)]
 
 #[cfg(test)]
-mod tests;
+mod faults;
+#[cfg(test)]
+mod replays;
