@@ -56,17 +56,18 @@ module _ (ns : List ℕ) (pairs : List (ℕ × ℕ)) (rise : is_rising ns ≡ tr
     unfolding graph_among
     label_below k lt = omega (arith, label_is k lt, least_below (graph_among ns pairs) k below lt)
 
+    -- two indices have one label where their nodes are joined
+    pub same_label : (l k : ℕ) → l < length ns → k < length ns → eqb (get_or labels k 0) (get_or labels l 0) ≡ joined ns pairs (get_or ns l 0) (get_or ns k 0)
+    unfolding graph_among
+    same_label l k lt less =
+        same_test (eqb (get_or labels k 0) (get_or labels l 0)) (joined_in (graph_among ns pairs) l k)
+        (λ h. joined_from_least (graph_among ns pairs) l k below lt less (sym (label_is l lt) ∙ sym (eqb-true (get_or labels k 0) (get_or labels l 0) h) ∙ label_is k less))
+        (λ h. eq-eqb (get_or labels k 0) (get_or labels l 0) (label_is k less ∙ sym (least_same (graph_among ns pairs) l k below lt h) ∙ sym (label_is l lt)))
+        ∙ joined_by_index l k lt less
+
     -- an index has the label of a leader where its node is joined to that one's
     pub with_label : (l k : ℕ) → l < length ns → get_or labels l 0 ≡ l → k < length ns → eqb (get_or labels k 0) l ≡ joined ns pairs (get_or ns l 0) (get_or ns k 0)
-    unfolding graph_among
-    with_label l k lt leads less =
-        let own : least_joined (graph_among ns pairs) l ≡ l = sym (label_is l lt) ∙ leads in
-        same_test (eqb (get_or labels k 0) l) (joined_in (graph_among ns pairs) l k)
-        (λ h.
-        let same : least_joined (graph_among ns pairs) l ≡ least_joined (graph_among ns pairs) k = own ∙ sym (eqb-true (get_or labels k 0) l h) ∙ label_is k less in
-        joined_from_least (graph_among ns pairs) l k below lt less same)
-        (λ h. eq-eqb (get_or labels k 0) l (label_is k less ∙ sym (least_same (graph_among ns pairs) l k below lt h) ∙ own))
-        ∙ joined_by_index l k lt less
+    with_label l k lt leads less = ap (eqb (get_or labels k 0)) (sym leads) ∙ same_label l k lt less
 
     -- the nodes with the label of a leader are those joined to it
     pub group_items : (l : ℕ) → l < length ns → get_or labels l 0 ≡ l → items_at ns (places_with labels l) ≡ group_of ns pairs (get_or ns l 0)
