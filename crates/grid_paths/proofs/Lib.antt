@@ -5,3 +5,4 @@ pub mod Rows
 pub mod Searching
 pub mod Walking
 pub mod Tied
+pub mod Renamed
