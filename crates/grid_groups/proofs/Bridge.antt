@@ -8,7 +8,7 @@ use Rattle.grid_graph.specs.Joined.{within, joined, is_least, least_nodes, group
 use Rattle.grid_graph.specs.Components.{places}
 use Rattle.grid_graph.specs.Graph.{EndsBelow, joined_in, least_joined, labels_of}
 use Rattle.grid_graph.proofs.Reach.{In, any_from, any_of}
-use Rattle.grid_graph.proofs.Renamed.{EndsIn, IsApart, within_renamed, renamed}
+use Rattle.grid_graph.proofs.Renamed.{EndsIn, within_renamed, renamed}
 use Rattle.grid_graph.proofs.Places.{AreBelow, In_places}
 use Rattle.grid_graph.proofs.Below.{pairs_below}
 use Rattle.grid_graph.proofs.Counts.{at_place, long_places}
@@ -16,7 +16,7 @@ use Rattle.grid_graph.proofs.Least.{least_is_least, least_below, least_le, least
 use Rattle.grid_level.specs.Passing.{is_rising}
 use Rattle.grid_groups.specs.Labels.{index_in, pair_by_index, graph_among, places_with, items_at, leading, label_of}
 use Rattle.grid_groups.proofs.Lists.{same_test, items_passing, first_item, In_filtered, some_member, get_or_any, passed_all, passed_below, In_get}
-use Rattle.grid_groups.proofs.Indices.{rises, index_below, at_index, index_at}
+use Rattle.grid_groups.proofs.Indices.{rises, index_below, at_index, index_apart, index_at}
 
 pub ends_below : (ns : List ℕ) (pairs : List (ℕ × ℕ)) → EndsIn ns pairs → EndsBelow (map (pair_by_index ns) pairs) (length ns)
 unfolding pair_by_index
@@ -25,9 +25,6 @@ ends_below ns (p ∷ ps) ends zero d lt = (index_below p.0 ns ends.0, index_belo
 ends_below ns (p ∷ ps) ends (suc k) d lt = ends_below ns ps ends.2 k d (omega arith)
 
 module _ (ns : List ℕ) (pairs : List (ℕ × ℕ)) (rise : is_rising ns ≡ true) (ends : EndsIn ns pairs) where
-  apart : IsApart (index_in ns) ns
-  apart = record { apart = λ x y i j e. sym (at_index x ns i) ∙ ap (λ k. get_or ns k 0) e ∙ at_index y ns j }
-
   -- indices are joined as their nodes are
   pub joined_by_index : (i j : ℕ) → i < length ns → j < length ns → joined_in (graph_among ns pairs) i j ≡ joined ns pairs (get_or ns i 0) (get_or ns j 0)
   unfolding joined_in joined graph_among pair_by_index places
@@ -36,7 +33,7 @@ module _ (ns : List ℕ) (pairs : List (ℕ × ℕ)) (rise : is_rising ns ≡ tr
       ap (λ k. within ren k i j) (length-range_with_len 0 (length ns))
       ∙ ap (λ z. within ren (length ns) z j) (sym (index_at ns i rise lt))
       ∙ ap (λ z. within ren (length ns) (index_in ns (get_or ns i 0)) z) (sym (index_at ns j rise less))
-      ∙ within_renamed (index_in ns) ns apart pairs (length ns) (get_or ns i 0) (get_or ns j 0) (In_get ns i lt) (In_get ns j less) ends
+      ∙ within_renamed (index_in ns) ns (index_apart ns) pairs (length ns) (get_or ns i 0) (get_or ns j 0) (In_get ns i lt) (In_get ns j less) ends
 
   pub below : AreBelow (length ns) (map (pair_by_index ns) pairs)
   below = pairs_below (length ns) (map (pair_by_index ns) pairs) (ends_below ns pairs ends)
@@ -56,17 +53,18 @@ module _ (ns : List ℕ) (pairs : List (ℕ × ℕ)) (rise : is_rising ns ≡ tr
     unfolding graph_among
     label_below k lt = omega (arith, label_is k lt, least_below (graph_among ns pairs) k below lt)
 
+    -- two indices have one label where their nodes are joined
+    pub same_label : (l k : ℕ) → l < length ns → k < length ns → eqb (get_or labels k 0) (get_or labels l 0) ≡ joined ns pairs (get_or ns l 0) (get_or ns k 0)
+    unfolding graph_among
+    same_label l k lt less =
+        same_test (eqb (get_or labels k 0) (get_or labels l 0)) (joined_in (graph_among ns pairs) l k)
+        (λ h. joined_from_least (graph_among ns pairs) l k below lt less (sym (label_is l lt) ∙ sym (eqb-true (get_or labels k 0) (get_or labels l 0) h) ∙ label_is k less))
+        (λ h. eq-eqb (get_or labels k 0) (get_or labels l 0) (label_is k less ∙ sym (least_same (graph_among ns pairs) l k below lt h) ∙ sym (label_is l lt)))
+        ∙ joined_by_index l k lt less
+
     -- an index has the label of a leader where its node is joined to that one's
     pub with_label : (l k : ℕ) → l < length ns → get_or labels l 0 ≡ l → k < length ns → eqb (get_or labels k 0) l ≡ joined ns pairs (get_or ns l 0) (get_or ns k 0)
-    unfolding graph_among
-    with_label l k lt leads less =
-        let own : least_joined (graph_among ns pairs) l ≡ l = sym (label_is l lt) ∙ leads in
-        same_test (eqb (get_or labels k 0) l) (joined_in (graph_among ns pairs) l k)
-        (λ h.
-        let same : least_joined (graph_among ns pairs) l ≡ least_joined (graph_among ns pairs) k = own ∙ sym (eqb-true (get_or labels k 0) l h) ∙ label_is k less in
-        joined_from_least (graph_among ns pairs) l k below lt less same)
-        (λ h. eq-eqb (get_or labels k 0) l (label_is k less ∙ sym (least_same (graph_among ns pairs) l k below lt h) ∙ own))
-        ∙ joined_by_index l k lt less
+    with_label l k lt leads less = ap (eqb (get_or labels k 0)) (sym leads) ∙ same_label l k lt less
 
     -- the nodes with the label of a leader are those joined to it
     pub group_items : (l : ℕ) → l < length ns → get_or labels l 0 ≡ l → items_at ns (places_with labels l) ≡ group_of ns pairs (get_or ns l 0)

@@ -4,7 +4,8 @@ use Rattle.std.specs.Prelude.{eqb, nat_lt, position, IsSome}
 use Rattle.std.specs.List.{list_any, list_all, position_or_len}
 use Rattle.std.proofs.lemmas.Bool.{or_cases, and_parts, eqb-true, eq-eqb, ne_eqb, lt-ltb, ltb-true, false≢true}
 use Rattle.std.proofs.lemmas.List.Sums.{position_or_len_is, passes_at_first}
-use Rattle.grid_graph.proofs.Reach.{In, any_from}
+use Rattle.grid_graph.proofs.Reach.{In, any_from, any_of}
+use Rattle.grid_graph.proofs.Renamed.{IsApart}
 use Rattle.grid_level.specs.Passing.{is_rising}
 use Rattle.grid_groups.specs.Labels.{index_in}
 use Rattle.grid_groups.proofs.Lists.{In_get}
@@ -14,6 +15,9 @@ among_In n ns h =
     let r = any_from (λ m. eqb m n) ns h in
     let P : ℕ → Type 0 = λ z. In z ns in
     subst P (eqb-true r.0 n r.2) r.1
+
+pub In_among : (n : ℕ) (ns : List ℕ) → In n ns → list_any (λ m. eqb m n) ns ≡ true
+In_among n ns i = any_of (λ m. eqb m n) ns n i (eq-eqb n n refl)
 
 above_all : (n : ℕ) (ns : List ℕ) (j : ℕ) → list_all (nat_lt n) ns ≡ true → j < length ns → n < get_or ns j 0
 above_all n [] j h lt = absurd (omega arith)
@@ -53,6 +57,10 @@ pub at_index : (n : ℕ) (ns : List ℕ) → In n ns → get_or ns (index_in ns 
 at_index n ns i =
     ap (λ k. get_or ns k 0) (index_first n ns i)
     ∙ eqb-true (get_or ns (position_or_len (λ m. eqb m n) ns) 0) n (passes_at_first (λ m. eqb m n) ns 0 (first_below n ns i))
+
+-- indices tell the numbers apart
+pub index_apart : (ns : List ℕ) → IsApart (index_in ns) ns
+index_apart ns = record { apart = λ x y i j e. sym (at_index x ns i) ∙ ap (λ k. get_or ns k 0) e ∙ at_index y ns j }
 
 -- the index of the number at an index
 pub index_at : (ns : List ℕ) (i : ℕ) → is_rising ns ≡ true → i < length ns → index_in ns (get_or ns i 0) ≡ i

@@ -8,7 +8,7 @@ use Rattle.grid_graph.proofs.Renamed.{EndsIn}
 use Rattle.grid_level.specs.declared.Switch.{Switch}
 use Rattle.grid_level.specs.declared.Internal.{Internal}
 use Rattle.grid_level.specs.VoltageLevel.{VoltageLevel}
-use Rattle.grid_level.specs.Passing.{Edge, switch_edge, internal_edge, edges, ends, both, rising, named, nodes, bus, breaker, passes_closed, switch_passes, passing, with_opened, with_retained, positioned, stood}
+use Rattle.grid_level.specs.Passing.{Edge, switch_edge, internal_edge, edges, ends, both, rising, named, nodes, bus, breaker, core, is_operable, passes_closed, switch_passes, passing, with_opened, with_retained, positioned, stood}
 use Rattle.grid_groups.specs.Labels.{passing_where}
 use Rattle.grid_groups.proofs.Indices.{among_In}
 
@@ -88,6 +88,22 @@ pub passing_breaker : (level : VoltageLevel) (opened retained : List Bool) → l
     → passing breaker (stood level opened retained) ≡ passing_where level (map (λ pair. not pair.0 && not pair.1) (zip opened retained))
 unfolding passing passing_where stood
 passing_breaker level opened retained e f = ap (λ z. z ++ map (λ i. ends (internal_edge i)) level.internals) (breaker_marked level.switches opened retained e f)
+
+core_marked : (ss : List Switch) (opened : List Bool) → length opened ≡ length ss
+    → tested (switch_passes core) (with_opened ss opened) ≡ marked ss (map (λ pair. not pair.1 && not (is_operable pair.0)) (zip ss opened))
+unfolding with_opened switch_passes passes_closed is_operable ends
+core_marked [] [] e = refl
+core_marked [] (o ∷ opened) e = refl
+core_marked (s ∷ ss) [] e = absurd (omega (arith, e))
+core_marked (s ∷ ss) (o ∷ opened) e =
+    one_more (switch_passes core) (record s { opened = o }) s ss (with_opened ss opened) (not o && not (is_operable s)) (map (λ pair. not pair.1 && not (is_operable pair.0)) (zip ss opened)) refl refl
+    (core_marked ss opened (omega (arith, e)))
+
+-- under core, the closed switches that are not operable breakers pass
+pub passing_core : (level : VoltageLevel) (opened : List Bool) → length opened ≡ length level.switches
+    → passing core (positioned level opened) ≡ passing_where level (map (λ pair. not pair.1 && not (is_operable pair.0)) (zip level.switches opened))
+unfolding passing passing_where positioned
+passing_core level opened e = ap (λ z. z ++ map (λ i. ends (internal_edge i)) level.internals) (core_marked level.switches opened e)
 
 bus_by : (now was : Switch) (xs ys : List Switch) (t u : Bool) → t ≡ u → ends (switch_edge now) ≡ ends (switch_edge was) → map (λ s. ends (switch_edge s)) xs ≡ map (λ s. ends (switch_edge s)) ys
     → map (λ s. ends (switch_edge s)) (cond t (now ∷ xs) xs) ≡ map (λ s. ends (switch_edge s)) (cond u (was ∷ ys) ys)

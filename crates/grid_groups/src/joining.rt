@@ -13,7 +13,7 @@ use std::alloc::Global;
 type Pairs = Seq<(u32, u32)>;
 
 /// The index of a node of the level. Where the nodes are counted from 0 without a gap, it is the node's number.
-pub(crate) fn index_of(level: &Level, node: u16) -> u32
+pub fn index_of(level: &Level, node: u16) -> u32
     requires { IsTrue (among (nodes level.now) node) }
     ensures { result ≡ index_in (nodes level.now) node }
 {

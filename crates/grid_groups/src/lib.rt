@@ -5,4 +5,4 @@ mod grouping;
 mod joining;
 
 pub use grouping::{Group, Groups, Places, group_nodes, leader, terminals_at};
-pub use joining::labels;
+pub use joining::{index_of, labels};

@@ -1,0 +1,10 @@
+pub mod Bridge
+pub mod Connecting
+pub mod Joining
+pub mod Leaving
+pub mod Lists
+pub mod Marks
+pub mod Moving
+pub mod Parting
+pub mod Planned
+pub mod Planning

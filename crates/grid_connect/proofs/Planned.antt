@@ -1,0 +1,55 @@
+-- What the code's answer is.
+use Rattle.std.proofs.Common.{◌≡◌, refl, sym, ◌∙◌, subst, ℕ, Bool, true, false, not, List, [], ◌∷◌, length, arith}
+use Rattle.std.specs.Prelude.{filter, IsTrue}
+use Rattle.std.specs.List.{slice_index_or}
+use Rattle.grid_graph.proofs.Reach.{In}
+use Rattle.grid_level.specs.VoltageLevel.{VoltageLevel}
+use Rattle.grid_level.specs.Passing.{nodes, positioned}
+use Rattle.grid_level.specs.Kept.{among}
+use Rattle.grid_groups.specs.Labels.{index_in}
+use Rattle.grid_groups.proofs.Indices.{among_In}
+use Rattle.grid_groups.proofs.Standing.{nodes-positioned}
+use Rattle.grid_paths.specs.declared.PathEdge.{PathEdge}
+use Rattle.grid_paths.specs.Routes.{is_route, IsLeastRoute}
+use Rattle.grid_connect.specs.Plans.{is_open, connect_plan_of}
+use Rattle.grid_connect.specs.declared.ConnectPlan.TheVariants.{Close, AlreadyConnected, NoPath}
+use Rattle.grid_connect.specs.Indexed.{path_edges_of, AreBusbars}
+use Rattle.grid_connect.specs.Effects.{Connects}
+use Rattle.grid_connect.proofs.Lists.{bars_positioned, opens_positioned}
+use Rattle.grid_connect.proofs.Planning.{plan_with, least_closable, plan_least, plan_none}
+use Rattle.grid_connect.proofs.Moving.{plan_connects}
+
+-- a node of the level is one of the level as it stands, of the same index
+pub node_positioned : (level : VoltageLevel) (flags : List Bool) (node : ℕ) → among (nodes level) node ≡ true → In node (nodes (positioned level flags))
+node_positioned level flags node h = let P : List ℕ → Type 0 = λ z. In node z in subst P (sym (nodes-positioned level flags)) (among_In node (nodes level) h)
+
+module _ (level : VoltageLevel) (flags : List Bool) (node : ℕ) (edges : List PathEdge) (goals : List Bool)
+    (made : edges ≡ path_edges_of (positioned level flags)) (bars : AreBusbars level goals) (here : among (nodes level) node ≡ true) where
+  pub planned : (path opens : List ℕ) → IsLeastRoute edges goals (index_in (nodes level) node) path → length flags ≡ length level.switches → opens ≡ filter (λ p. slice_index_or flags p false) path
+      → (connect_plan_of (positioned level flags) node ≡ plan_with opens) × Connects (positioned level flags) node (plan_with opens)
+  planned path opens l same o =
+      let now = positioned level flags in
+      let P : List PathEdge → Type 0 = λ z. IsLeastRoute z goals (index_in (nodes level) node) path in
+      let Q : List ℕ → Type 0 = λ z. IsLeastRoute (path_edges_of now) goals (index_in z node) path in
+      let i = node_positioned level flags node here in
+      let least = least_closable now goals node path i (bars_positioned level flags goals bars) (subst Q (sym (nodes-positioned level flags)) (subst P made l)) in
+      let f : filter (is_open now) path ≡ opens = opens_positioned level flags path same ∙ sym o in
+      let R : List ℕ → Type 0 = λ z. (connect_plan_of now node ≡ plan_with z) × Connects now node (plan_with z) in
+      subst R f (plan_least now node path i least, plan_connects now node path i least)
+
+  pub planned_none : ((path : List ℕ) → IsTrue (not (is_route edges goals (index_in (nodes level) node) path))) → connect_plan_of (positioned level flags) node ≡ NoPath
+  planned_none none =
+      let now = positioned level flags in
+      let P : List PathEdge → Type 0 = λ z. (path : List ℕ) → IsTrue (not (is_route z goals (index_in (nodes level) node) path)) in
+      let Q : List ℕ → Type 0 = λ z. (path : List ℕ) → IsTrue (not (is_route (path_edges_of now) goals (index_in z node) path)) in
+      plan_none now goals node (node_positioned level flags node here) (bars_positioned level flags goals bars) (subst Q (sym (nodes-positioned level flags)) (subst P made none))
+
+pub plan_zero : (opens : List ℕ) → length opens ≡ 0 → plan_with opens ≡ AlreadyConnected
+unfolding plan_with
+plan_zero [] e = refl
+plan_zero (p ∷ ps) e = absurd (omega (arith, e))
+
+pub plan_more : (opens : List ℕ) → (length opens ≡ 0 → ⊥) → plan_with opens ≡ Close opens
+unfolding plan_with
+plan_more [] ne = absurd (ne refl)
+plan_more (p ∷ ps) ne = refl

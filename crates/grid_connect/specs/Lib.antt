@@ -1,0 +1,4 @@
+pub mod Plans
+pub mod Effects
+pub mod Laws
+pub mod Indexed

@@ -1,0 +1,148 @@
+// The plan that disconnects a node.
+ghost use Rattle.std.specs.Prelude.{◌≡◌, ◌&&◌, ◌==◌, length, map, not, IfOk, IsTrue};
+ghost use Rattle.std.specs.Option.{option_copied};
+ghost use Rattle.grid_level.specs.Kept.{among};
+ghost use Rattle.grid_level.specs.Passing as passing;
+ghost use Rattle.grid_level.specs.Passing.{nodes, positioned};
+ghost use Rattle.grid_connect.specs.Plans.{disconnect_plan_of};
+ghost use Rattle.grid_connect.specs.Effects.{Disconnects};
+ghost use Rattle.grid_connect.specs.Indexed.{marks_where, core_flags, is_marked, marked_busbar, leaves_marked, leaving_marked};
+
+use crate::DisconnectPlan;
+use crate::connect::{is_busbar, is_operable};
+use grid_groups::{index_of, labels};
+use grid_ids::{Duplicate, Memory};
+use grid_level::{Level, Placed, Switch};
+use grid_paths::Places;
+use std::alloc::Global;
+
+// Which switches pass: the closed ones.
+fn closed(alloc: Global, opened: &[bool]) -> Result<Vec<bool>, Memory>
+    ensures { IfOk result (λ closed. closed.items ≡ map not opened.now) }
+{
+    Ok(opened.iter().map(|opened| !*opened).collect(alloc)?)
+}
+
+// Which switches pass in the core: the closed ones that are not operable breakers.
+fn closed_core(alloc: Global, level: &Level, states: &[bool]) -> Result<Vec<bool>, Memory>
+    ensures { IfOk result (λ passes. passes.items ≡ core_flags level.now.switches states.now) }
+{
+    Ok(
+        level
+            .switches()
+            .iter()
+            .zip(states)
+            .map(|(switch, opened)| !*opened && !is_operable(switch))
+            .collect(alloc)?,
+    )
+}
+
+// Which labels equal this one.
+fn equal_to(alloc: Global, labels: &[u32], own: u32) -> Result<Vec<bool>, Memory>
+    ensures { IfOk result (λ marks. marks.items ≡ map (λ label. label == own) labels.now) }
+{
+    Ok(labels.iter().map(|label| *label == own).collect(alloc)?)
+}
+
+// Which nodes are joined to this one, where the switches whose flag is set pass.
+fn joined_to(alloc: Global, level: &Level, passes: &[bool], node: u16) -> Result<Vec<bool>, Memory>
+    requires flags { length passes.now ≡ length level.now.switches }
+    requires node { IsTrue (among (nodes level.now) node) }
+    ensures marks { IfOk result (λ marks. marks.items ≡ marks_where level.now passes.now node) }
+    ensures long { IfOk result (λ marks. length marks.items ≡ length (nodes level.now)) }
+{
+    level.keeps();
+    let labels = labels(alloc, level, passes)?;
+    let own = labels[index_of(level, node) as usize];
+    equal_to(alloc, labels.as_slice(), own)
+}
+
+// Whether the node is marked.
+fn has_mark(level: &Level, marks: &[bool], node: u16) -> bool
+    requires node { IsTrue (among (nodes level.now) node) }
+    requires long { length marks.now ≡ length (nodes level.now) }
+    ensures { result ≡ is_marked (nodes level.now) marks.now node }
+{
+    marks[index_of(level, node) as usize]
+}
+
+// Whether a busbar section stands at a marked node.
+fn is_marked_busbar(level: &Level, marks: &[bool], placed: &Placed) -> bool
+    requires node { IsTrue (among (nodes level.now) placed.now.node) }
+    requires long { length marks.now ≡ length (nodes level.now) }
+    ensures { result ≡ (is_marked (nodes level.now) marks.now placed.now.node && passing.is_busbar placed.now.stand) }
+{
+    has_mark(level, marks, placed.node) && is_busbar(&placed.stand)
+}
+
+// The first busbar section at a marked node.
+fn first_busbar<'a>(level: &'a Level, marks: &[bool]) -> Option<&'a Placed>
+    requires { length marks.now ≡ length (nodes level.now) }
+    ensures { option_copied result ≡ marked_busbar (nodes level.now) marks.now level.now.placed }
+{
+    level.keeps();
+    for placed in level.placed() {
+        if is_marked_busbar(level, marks, placed) {
+            return Some(placed);
+        }
+    }
+    None
+}
+
+// Whether the switch is a closed operable breaker with exactly one marked end.
+fn leaves(level: &Level, marks: &[bool], switch: &Switch, opened: bool) -> bool
+    requires first { IsTrue (among (nodes level.now) switch.now.node1) }
+    requires second { IsTrue (among (nodes level.now) switch.now.node2) }
+    requires long { length marks.now ≡ length (nodes level.now) }
+    ensures { result ≡ leaves_marked (nodes level.now) marks.now switch.now opened }
+{
+    if opened || !is_operable(switch) {
+        return false;
+    }
+    has_mark(level, marks, switch.node1) != has_mark(level, marks, switch.node2)
+}
+
+// The places of the closed operable breakers with exactly one marked end.
+fn leaving(alloc: Global, level: &Level, states: &[bool], marks: &[bool]) -> Result<Places, Memory>
+    requires flags { length states.now ≡ length level.now.switches }
+    requires long { length marks.now ≡ length (nodes level.now) }
+    ensures { IfOk result (λ places. places ≡ leaving_marked (nodes level.now) marks.now 0 level.now.switches states.now) }
+{
+    level.keeps();
+    let mut places = Places::empty(alloc);
+    for (place, switch) in level.switches().iter().enumerate() {
+        if leaves(level, marks, switch, states[place]) {
+            places.push(place as u32)?;
+        }
+    }
+    Ok(places)
+}
+
+/// What disconnects a node of the level, with its switches in these positions, one flag per switch, true for open. The
+/// core is the nodes joined to the node by internal connections and by closed switches other than breakers that are not
+/// fictitious; the plan opens each of these breakers that leaves the core. Where the core has a busbar section, no
+/// breaker stands before the one at its least such node. The rule is this project's own.
+pub fn plan_disconnect(
+    alloc: Global,
+    level: &Level,
+    states: &[bool],
+    node: u16,
+) -> Result<DisconnectPlan, Memory>
+    requires flags { length states.now ≡ length level.now.switches }
+    requires node { IsTrue (among (nodes level.now) node) }
+    ensures plan { IfOk result (λ plan. plan ≡ disconnect_plan_of (positioned level.now states.now) node) }
+    ensures disconnects { IfOk result (Disconnects (positioned level.now states.now) node) }
+{
+    level.keeps();
+    let closed = closed(alloc, states)?;
+    let joined = joined_to(alloc, level, closed.as_slice(), node)?;
+    if first_busbar(level, joined.as_slice()).is_none() {
+        return Ok(DisconnectPlan::AlreadyDisconnected);
+    }
+    let closed = closed_core(alloc, level, states)?;
+    let core = joined_to(alloc, level, closed.as_slice(), node)?;
+    match first_busbar(level, core.as_slice()) {
+        Some(placed) => Ok(DisconnectPlan::NoBreaker(placed.terminal.copy()?)),
+        None => Ok(DisconnectPlan::Opens(leaving(alloc, level, states, core.as_slice())?)),
+    }
+}

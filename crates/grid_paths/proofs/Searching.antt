@@ -1,0 +1,399 @@
+-- What the search keeps as it goes on.
+use Rattle.std.proofs.Common.{◌≡◌, ◌≢◌, refl, sym, ap, ◌∙◌, subst, ℕ, zero, suc, ◌+◌, ◌<◌, ◌≤◌, Bool, true, false, List, [], ◌∷◌, ◌++◌, length, inl, inr, arith, ◌⊎◌, get_or, set, length-set, get_or-set_same, get_or-set_other, length-append}
+use Rattle.std.specs.Prelude.{slice_set}
+use Rattle.std.specs.List.Sorted.{IsPermutation}
+use Rattle.std.proofs.lemmas.List.Sorted.{Contains-permutation, IsPermutation-sym}
+use Rattle.std.proofs.lemmas.Grind.{common_steps, get_or_default_zero}
+use Rattle.std.specs.List.{Contains}
+use Rattle.std.specs.declared.cmp.Reverse.{Reverse}
+use Rattle.std.proofs.lemmas.Bool.{cases_eq, cases_Bool, both_ways}
+use Rattle.grid_paths.specs.declared.PathEdge.{PathEdge}
+use Rattle.grid_paths.specs.declared.Step.{Step}
+use Rattle.grid_paths.specs.Routes.{is_goal}
+use Rattle.grid_paths.specs.Search.{far, Leads, cost_at, IsReached, IsSettled, AreLeastCosts, entry, IsSearched, AreInside, SettlesBy, IsRow, IsStarted, potential, Takes, Spreads}
+use Rattle.grid_paths.proofs.Routing.{Leads_back, Leads_weight, weight_positive}
+use Rattle.grid_paths.proofs.Rows.{Contains_push, Contains_none}
+
+-- ---- a cost that is lowered
+
+module _ (found : List ℕ) (v cost : ℕ) (below : v < length found) (less : cost < cost_at found v) where
+  now_here : cost_at (set found v cost) v ≡ cost
+  now_here = get_or-set_same found v cost 0 below
+
+  now_other : (u : ℕ) → u ≢ v → cost_at (set found v cost) u ≡ cost_at found u
+  now_other u ne = get_or-set_other found v u cost 0 ne
+
+  now_less : (u : ℕ) → cost_at (set found v cost) u ≤ cost_at found u
+  now_less u = elim (cases_eq u v) [
+    | inl e ↦ (let P : ℕ → Type 0 = λ z. cost_at (set found v cost) z ≤ cost_at found z in subst P (sym e) (omega (arith, now_here, less)))
+    | inr ne ↦ (let e = now_other u ne in omega (arith, e))
+  ]
+
+-- a settled node stays so while its own cost stays
+settled_still : (edges : List PathEdge) (found found' : List ℕ) (u : ℕ) → cost_at found' u ≡ cost_at found u → ((v : ℕ) → cost_at found' v ≤ cost_at found v) → IsSettled edges found u → IsSettled edges found' u
+settled_still edges found found' u e less h place v weight l = let a = h place v weight l in let b = less v in omega (arith, a, b, e)
+
+reached_still : (edges : List PathEdge) (found found' : List ℕ) (u : ℕ) → cost_at found' u ≡ cost_at found u → ((v : ℕ) → cost_at found' v ≤ cost_at found v) → IsReached edges found u → IsReached edges found' u
+reached_still edges found found' u e less h =
+    let b = less h.node in
+    let c = h.costs in
+    record { place = h.place; node = h.node; weight = h.weight; step = h.step; costs = omega (arith, b, c, e) }
+
+pub lowered : (edges : List PathEdge) (goals : List Bool) (found : List ℕ) (front front' : List (Reverse (ℕ × ℕ))) (x place v weight : ℕ)
+    → x < length goals → v < length goals → Leads edges x place v weight → weight + cost_at found x < cost_at found v
+    → ((e : Reverse (ℕ × ℕ)) → Contains front e → Contains front' e) → Contains front' (entry (weight + cost_at found x) v)
+    → IsSearched edges goals found front x → IsSearched edges goals (set found v (weight + cost_at found x)) front' x
+lowered edges goals found front front' x place v weight xlt vlt l less kept new s = record {
+  long = length-set found v cost ∙ s.long;
+  goal = goal;
+  ground = ground;
+  reached = reached;
+  faced = faced;
+}
+  where
+    cost : ℕ
+    cost = weight + cost_at found x
+
+    below : v < length found
+    below = let e = s.long in omega (arith, e, vlt)
+
+    here : cost_at (set found v cost) v ≡ cost
+    here = now_here found v cost below less
+
+    other : (u : ℕ) → u ≢ v → cost_at (set found v cost) u ≡ cost_at found u
+    other = now_other found v cost below less
+
+    smaller : (u : ℕ) → cost_at (set found v cost) u ≤ cost_at found u
+    smaller = now_less found v cost below less
+
+    apart : x ≢ v
+    apart e = let P : ℕ → Type 0 = λ z. weight + cost_at found x < cost_at found z in let h = subst P (sym e) less in absurd (omega (arith, h))
+
+    goal : (u : ℕ) → u < length goals → is_goal goals u ≡ true → cost_at (set found v cost) u ≡ 0
+    goal u lt g = let z = s.goal u lt g in let le = smaller u in omega (arith, z, le)
+
+    ground : (u : ℕ) → u < length goals → cost_at (set found v cost) u ≡ 0 → is_goal goals u ≡ true
+    ground u lt z = elim (cases_eq u v) [
+      | inl e ↦ (
+          let P : ℕ → Type 0 = λ y. cost_at (set found v cost) y ≡ 0 in
+          let z' = subst P e z in
+          let w = Leads_weight edges x place v weight l in
+          let p = weight_positive edges place in
+          absurd (omega (arith, here, z', w, p))
+          )
+      | inr ne ↦ s.ground u lt (sym (other u ne) ∙ z)
+    ]
+
+    reached : (u : ℕ) → u < length goals → cost_at (set found v cost) u < far → cost_at (set found v cost) u ≢ 0 → IsReached edges (set found v cost) u
+    reached u lt small nonzero = elim (cases_eq u v) [
+      | inl e ↦ (
+          let P : ℕ → Type 0 = λ y. IsReached edges (set found v cost) y in
+          let same = other x apart in
+          subst P (sym e) (record { place = place; node = x; weight = weight; step = Leads_back edges x place v weight l; costs = omega (arith, same, here) })
+          )
+      | inr ne ↦ (
+          let same = other u ne in
+          reached_still edges found (set found v cost) u same smaller (s.reached u lt (omega (arith, same, small)) (λ z. nonzero (same ∙ z)))
+          )
+    ]
+
+    faced : (u : ℕ) → u < length goals → cost_at (set found v cost) u < far → u ≢ x → Contains front' (entry (cost_at (set found v cost) u) u) ⊎ IsSettled edges (set found v cost) u
+    faced u lt small but = elim (cases_eq u v) [
+      | inl e ↦ inl (
+          let P : ℕ → Type 0 = λ y. Contains front' (entry (cost_at (set found v cost) y) y) in
+          let Q : ℕ → Type 0 = λ y. Contains front' (entry y v) in
+          subst P (sym e) (subst Q (sym here) new)
+          )
+      | inr ne ↦ (
+          let same = other u ne in
+          elim (s.faced u lt (omega (arith, same, small)) but) [
+            | inl h ↦ inl (let Q : ℕ → Type 0 = λ y. Contains front' (entry y u) in subst Q (sym same) (kept (entry (cost_at found u) u) h))
+            | inr h ↦ inr (settled_still edges found (set found v cost) u same smaller h)
+          ]
+          )
+    ]
+
+-- ---- a node's row is gone through
+
+-- what was found after the first steps from x
+pub record IsSpread (edges : List PathEdge) (goals : List Bool) (x cost : ℕ) (steps : List Step) (found : List ℕ) (front : List (Reverse (ℕ × ℕ))) : Type 0 where
+  pub searched : IsSearched edges goals found front x
+  pub same : cost_at found x ≡ cost
+  pub done : SettlesBy steps found cost
+
+pub spread_none : (edges : List PathEdge) (goals : List Bool) (x : ℕ) (found : List ℕ) (front : List (Reverse (ℕ × ℕ))) → IsSearched edges goals found front x → IsSpread edges goals x (cost_at found x) [] found front
+spread_none edges goals x found front s = record { searched = s; same = refl; done = λ t c. absurd (Contains_none t c) }
+
+pub spread_kept : (edges : List PathEdge) (goals : List Bool) (x cost : ℕ) (steps : List Step) (s : Step) (found : List ℕ) (front : List (Reverse (ℕ × ℕ)))
+    → cost_at found s.to ≤ s.weight + cost → IsSpread edges goals x cost steps found front → IsSpread edges goals x cost (steps ++ s ∷ []) found front
+spread_kept edges goals x cost steps s found front le h = record {
+  searched = h.searched;
+  same = h.same;
+  done = λ t c. elim (Contains_push steps s t c) [ inl g ↦ h.done t g | inr g ↦ (let P : Step → Type 0 = λ z. cost_at found z.to ≤ z.weight + cost in subst P (sym g) le) ];
+}
+
+pub spread_lowered : (edges : List PathEdge) (goals : List Bool) (x cost : ℕ) (steps : List Step) (s : Step) (found : List ℕ) (front front' : List (Reverse (ℕ × ℕ)))
+    → x < length goals → s.to < length goals → Leads edges x s.place s.to s.weight → s.weight + cost < cost_at found s.to
+    → ((e : Reverse (ℕ × ℕ)) → Contains front e → Contains front' e) → Contains front' (entry (s.weight + cost) s.to)
+    → IsSpread edges goals x cost steps found front → IsSpread edges goals x cost (steps ++ s ∷ []) (set found s.to (s.weight + cost)) front'
+spread_lowered edges goals x cost steps s found front front' xlt vlt l less kept new h =
+    let P : ℕ → Type 0 = λ c. IsSearched edges goals (set found s.to (s.weight + c)) front' x in
+    let Q : ℕ → Type 0 = λ c. s.weight + c < cost_at found s.to in
+    let R : ℕ → Type 0 = λ c. Contains front' (entry (s.weight + c) s.to) in
+    record {
+      searched = subst P h.same (lowered edges goals found front front' x s.place s.to s.weight xlt vlt l (subst Q (sym h.same) less) kept (subst R (sym h.same) new) h.searched);
+      same = now_other found s.to (s.weight + cost) below less x apart ∙ h.same;
+      done = done;
+    }
+  where
+    below : s.to < length found
+    below = let e = h.searched.long in omega (arith, e, vlt)
+
+    apart : x ≢ s.to
+    apart e =
+        let S : ℕ → Type 0 = λ z. cost_at found z ≡ cost in
+        let k = subst S e h.same in
+        absurd (omega (arith, k, less))
+
+    done : SettlesBy (steps ++ s ∷ []) (set found s.to (s.weight + cost)) cost
+    done t c = elim (Contains_push steps s t c) [
+      | inl g ↦ (let a = h.done t g in let b = now_less found s.to (s.weight + cost) below less t.to in omega (arith, a, b))
+      | inr g ↦ (
+          let e = now_here found s.to (s.weight + cost) below less in
+          let T : Step → Type 0 = λ z. cost_at (set found s.to (s.weight + cost)) z.to ≤ z.weight + cost in
+          subst T (sym g) (omega (arith, e))
+          )
+    ]
+
+-- when the whole row is done, the node is settled
+pub spread_all : (edges : List PathEdge) (goals : List Bool) (x cost : ℕ) (row : List Step) (found : List ℕ) (front : List (Reverse (ℕ × ℕ)))
+    → IsRow edges x row → IsSpread edges goals x cost row found front → IsSearched edges goals found front (length goals)
+spread_all edges goals x cost row found front r h = record {
+  long = h.searched.long;
+  goal = h.searched.goal;
+  ground = h.searched.ground;
+  reached = h.searched.reached;
+  faced = λ u lt small but. elim (cases_eq u x) [
+    | inl e ↦ inr (λ place v weight l.
+        let P : ℕ → Type 0 = λ z. Leads edges z place v weight in
+        let d = h.done (record { place = place; to = v; weight = weight }) (r.complete place v weight (subst P e l)) in
+        let S : ℕ → Type 0 = λ z. cost_at found z ≡ cost in
+        let same = subst S (sym e) h.same in
+        omega (arith, d, same))
+    | inr ne ↦ h.searched.faced u lt small ne
+  ];
+}
+
+-- ---- a node leaves the front
+
+same_entry : (c d u x : ℕ) → entry c u ≡ entry d x → (c ≡ d) × (u ≡ x)
+same_entry c d u x e = (ap (λ (z : Reverse (ℕ × ℕ)). z.0.0) e, ap (λ (z : Reverse (ℕ × ℕ)). z.0.1) e)
+
+-- at the cost that was found: its row is to be gone through
+pub popped : (edges : List PathEdge) (goals : List Bool) (found : List ℕ) (front front' : List (Reverse (ℕ × ℕ))) (cost x : ℕ)
+    → ((e : Reverse (ℕ × ℕ)) → Contains front e → (e ≡ entry cost x) ⊎ Contains front' e)
+    → IsSearched edges goals found front (length goals) → IsSearched edges goals found front' x
+popped edges goals found front front' cost x rest s = record {
+  long = s.long;
+  goal = s.goal;
+  ground = s.ground;
+  reached = s.reached;
+  faced = λ u lt small but. elim (s.faced u lt small (λ e. absurd (omega (arith, e, lt)))) [
+    | inl h ↦ elim (rest (entry (cost_at found u) u) h) [
+      | inl e ↦ absurd (but (same_entry (cost_at found u) cost u x e).1)
+      | inr g ↦ inl g
+    ]
+    | inr h ↦ inr h
+  ];
+}
+
+-- at another cost: it waits elsewhere, or needn't
+pub stale : (edges : List PathEdge) (goals : List Bool) (found : List ℕ) (front front' : List (Reverse (ℕ × ℕ))) (cost x : ℕ)
+    → ((e : Reverse (ℕ × ℕ)) → Contains front e → (e ≡ entry cost x) ⊎ Contains front' e) → cost_at found x ≢ cost
+    → IsSearched edges goals found front (length goals) → IsSearched edges goals found front' (length goals)
+stale edges goals found front front' cost x rest other s = record {
+  long = s.long;
+  goal = s.goal;
+  ground = s.ground;
+  reached = s.reached;
+  faced = λ u lt small but. elim (s.faced u lt small but) [
+    | inl h ↦ elim (rest (entry (cost_at found u) u) h) [
+      | inl e ↦ (
+          let k = same_entry (cost_at found u) cost u x e in
+          let P : ℕ → Type 0 = λ z. cost_at found z ≡ cost in
+          absurd (other (subst P k.1 k.0))
+          )
+      | inr g ↦ inl g
+    ]
+    | inr h ↦ inr h
+  ];
+}
+
+-- none waits
+pub searched_all : (edges : List PathEdge) (goals : List Bool) (found : List ℕ) (front : List (Reverse (ℕ × ℕ))) → length front ≡ 0 → IsSearched edges goals found front (length goals) → AreLeastCosts edges goals found
+searched_all edges goals found front none s = record {
+  long = s.long;
+  goal = s.goal;
+  ground = s.ground;
+  reached = s.reached;
+  settled = λ u lt small. elim (s.faced u lt small (λ e. absurd (omega (arith, e, lt)))) [ inl h ↦ (let k = h.1 in absurd (omega (arith, k, none))) | inr h ↦ h ];
+}
+
+-- ---- the start
+
+pub started : (edges : List PathEdge) (goals : List Bool) (found : List ℕ) (front : List (Reverse (ℕ × ℕ))) → IsStarted goals (length goals) found front → IsSearched edges goals found front (length goals)
+started edges goals found front s = record {
+  long = s.long;
+  goal = λ u lt g. (s.goal u lt g).0;
+  ground = λ u lt z. elim (cases_Bool (is_goal goals u)) [ inl e ↦ e | inr e ↦ (let f = s.other u lt e in absurd (omega (arith, z, f))) ];
+  reached = λ u lt small nonzero. elim (cases_Bool (is_goal goals u)) [ inl e ↦ absurd (nonzero (s.goal u lt e).0) | inr e ↦ (let f = s.other u lt e in absurd (omega (arith, small, f))) ];
+  faced = λ u lt small but. elim (cases_Bool (is_goal goals u)) [
+    | inl e ↦ inl (let g = s.goal u lt e in let P : ℕ → Type 0 = λ z. Contains front (entry z u) in subst P (sym g.0) g.1)
+    | inr e ↦ (let f = s.other u lt e in absurd (omega (arith, small, f)))
+  ];
+}
+
+Contains_there : {X : Type 0} (x y : X) (xs : List X) → Contains xs y → Contains (x ∷ xs) y
+Contains_there x y xs (k, lt, e) = (suc k, omega (arith, lt), e)
+
+Contains_here : {X : Type 0} (x : X) (xs : List X) → Contains (x ∷ xs) x
+Contains_here x xs = (0, omega arith, refl)
+
+Contains_parts : {X : Type 0} (x y : X) (xs : List X) → Contains (x ∷ xs) y → (y ≡ x) ⊎ Contains xs y
+Contains_parts x y xs (zero, lt, e) = inl (sym e)
+Contains_parts x y xs (suc k, lt, e) = inr (k, omega (arith, lt), e)
+
+pub moved_has : {X : Type 0} (x y : X) (xs ys : List X) → IsPermutation (x ∷ xs) ys → Contains xs y → Contains ys y
+moved_has x y xs ys p c = Contains-permutation (x ∷ xs) ys y p (Contains_there x y xs c)
+
+pub moved_new : {X : Type 0} (x : X) (xs ys : List X) → IsPermutation (x ∷ xs) ys → Contains ys x
+moved_new x xs ys p = Contains-permutation (x ∷ xs) ys x p (Contains_here x xs)
+
+pub moved_from : {X : Type 0} (x y : X) (xs ys : List X) → IsPermutation (x ∷ xs) ys → Contains ys y → (y ≡ x) ⊎ Contains xs y
+moved_from x y xs ys p c = Contains_parts x y xs (Contains-permutation ys (x ∷ xs) y (IsPermutation-sym (x ∷ xs) ys p) c)
+
+pub moved_out : {X : Type 0} (x y : X) (xs ys : List X) → IsPermutation xs (x ∷ ys) → Contains xs y → (y ≡ x) ⊎ Contains ys y
+moved_out x y xs ys p c = Contains_parts x y ys (Contains-permutation xs (x ∷ ys) y p c)
+
+pub moved_in : {X : Type 0} (x y : X) (xs ys : List X) → IsPermutation xs (x ∷ ys) → Contains ys y → Contains xs y
+moved_in x y xs ys p c = Contains-permutation (x ∷ ys) xs y (IsPermutation-sym xs (x ∷ ys) p) (Contains_there x y ys c)
+
+pub moved_out_new : {X : Type 0} (x : X) (xs ys : List X) → IsPermutation xs (x ∷ ys) → Contains xs x
+moved_out_new x xs ys p = Contains-permutation (x ∷ ys) xs x (IsPermutation-sym xs (x ∷ ys) p) (Contains_here x ys)
+
+-- ---- the start, node by node
+
+at_before : (found : List ℕ) (x u : ℕ) → u < length found → cost_at (found ++ x ∷ []) u ≡ cost_at found u
+at_before found x u lt = grind (arith, common_steps)
+
+at_end : (found : List ℕ) (x u : ℕ) → u ≡ length found → cost_at (found ++ x ∷ []) u ≡ x
+at_end found x u e = grind (arith, common_steps)
+
+pub begin_goal : (goals : List Bool) (k : ℕ) (found : List ℕ) (front front' : List (Reverse (ℕ × ℕ))) → is_goal goals k ≡ true → IsPermutation (entry 0 k ∷ front) front'
+    → IsStarted goals k found front → IsStarted goals (k + 1) (found ++ 0 ∷ []) front'
+begin_goal goals k found front front' g p s = record {
+  long = (let e = s.long in omega (arith, length-append found (0 ∷ []), e));
+  inside = λ e c. elim (moved_from (entry 0 k) e front front' p c) [
+    | inl h ↦ (let P : Reverse (ℕ × ℕ) → Type 0 = λ z. z.0.1 < k + 1 in subst P (sym h) (omega arith))
+    | inr h ↦ (let i = s.inside e h in omega (arith, i))
+  ];
+  goal = λ u lt h. elim (cases_eq u k) [
+    | inl e ↦ (
+        let P : ℕ → Type 0 = λ z. Contains front' (entry 0 z) in
+        (at_end found 0 u (e ∙ sym s.long), subst P (sym e) (moved_new (entry 0 k) front front' p))
+        )
+    | inr ne ↦ (
+        let old = s.goal u (omega (arith, ne, lt)) h in
+        let l = s.long in
+        (at_before found 0 u (omega (arith, ne, lt, l)) ∙ old.0, moved_has (entry 0 k) (entry 0 u) front front' p old.1)
+        )
+  ];
+  other = λ u lt h. elim (cases_eq u k) [
+    | inl e ↦ (let P : ℕ → Type 0 = λ z. is_goal goals z ≡ false in absurd (both_ways _ (subst P e h) g))
+    | inr ne ↦ (let l = s.long in at_before found 0 u (omega (arith, ne, lt, l)) ∙ s.other u (omega (arith, ne, lt)) h)
+  ];
+}
+
+pub begin_other : (goals : List Bool) (k : ℕ) (found : List ℕ) (front : List (Reverse (ℕ × ℕ))) → is_goal goals k ≡ false
+    → IsStarted goals k found front → IsStarted goals (k + 1) (found ++ far ∷ []) front
+begin_other goals k found front g s = record {
+  long = (let e = s.long in omega (arith, length-append found (far ∷ []), e));
+  inside = λ e c. (let i = s.inside e c in omega (arith, i));
+  goal = λ u lt h. elim (cases_eq u k) [
+    | inl e ↦ (let P : ℕ → Type 0 = λ z. is_goal goals z ≡ true in absurd (both_ways _ g (subst P e h)))
+    | inr ne ↦ (
+        let old = s.goal u (omega (arith, ne, lt)) h in
+        let l = s.long in
+        (at_before found far u (omega (arith, ne, lt, l)) ∙ old.0, old.1)
+        )
+  ];
+  other = λ u lt h. elim (cases_eq u k) [
+    | inl e ↦ at_end found far u (e ∙ sym s.long)
+    | inr ne ↦ (let l = s.long in at_before found far u (omega (arith, ne, lt, l)) ∙ s.other u (omega (arith, ne, lt)) h)
+  ];
+}
+
+-- ---- a row, step by step
+
+pub record SpreadsTo (row steps : List Step) (cost : ℕ) (found : List ℕ) (front : List (Reverse (ℕ × ℕ))) (len : ℕ) (found' : List ℕ) (front' : List (Reverse (ℕ × ℕ))) (len' : ℕ) : Type 0 where
+  pub long : length found' ≡ length found
+  pub inside : AreInside front (length found) → AreInside front' (length found)
+  pub falls : potential found' len' ≤ potential found len
+  pub spread : (edges : List PathEdge) (goals : List Bool) (x : ℕ) → IsRow edges x row → x < length goals → cost_at found x ≡ cost
+      → IsSearched edges goals found front x → IsSpread edges goals x cost steps found' front'
+
+pub spreads_none : (row : List Step) (cost : ℕ) (found : List ℕ) (front : List (Reverse (ℕ × ℕ))) (len : ℕ) → SpreadsTo row [] cost found front len found front len
+spreads_none row cost found front len = record {
+  long = refl;
+  inside = λ h. h;
+  falls = omega arith;
+  spread = λ edges goals x r lt e s. (let P : ℕ → Type 0 = λ z. IsSpread edges goals x z [] found front in subst P e (spread_none edges goals x found front s));
+}
+
+pub spreads_more : (row steps : List Step) (cost : ℕ) (found : List ℕ) (front : List (Reverse (ℕ × ℕ))) (len : ℕ) (found' : List ℕ) (front' : List (Reverse (ℕ × ℕ))) (len' : ℕ)
+    (s : Step) (found'' : List ℕ) (front'' : List (Reverse (ℕ × ℕ))) (len'' : ℕ) → Contains row s → s.to < length found' → Takes s cost found' front' len' found'' front'' len''
+    → SpreadsTo row steps cost found front len found' front' len' → SpreadsTo row (steps ++ s ∷ []) cost found front len found'' front'' len''
+spreads_more row steps cost found front len found' front' len' s found'' front'' len'' has below t h = record {
+  long = long t.cases ∙ h.long;
+  inside = λ i. inside t.cases (h.inside i);
+  falls = (let a = t.falls in let b = h.falls in omega (arith, a, b));
+  spread = λ edges goals x r lt e k. spread t.cases edges goals x r lt (h.spread edges goals x r lt e k);
+}
+  where
+    Cases : Type 0
+    Cases = ((cost_at found' s.to ≤ s.weight + cost) × (found'' ≡ found') × (front'' ≡ front'))
+        ⊎ ((s.weight + cost < cost_at found' s.to) × (found'' ≡ slice_set found' s.to (s.weight + cost)) × IsPermutation (entry (s.weight + cost) s.to ∷ front') front'')
+
+    long : Cases → length found'' ≡ length found'
+    long (inl c) = ap length c.1
+    long (inr c) = ap length c.1 ∙ length-set found' s.to (s.weight + cost)
+
+    inside : Cases → AreInside front' (length found) → AreInside front'' (length found)
+    inside (inl c) i = subst (λ z. AreInside z (length found)) (sym c.2) i
+    inside (inr c) i = λ e k. elim (moved_from (entry (s.weight + cost) s.to) e front' front'' c.2 k) [
+      | inl g ↦ (let P : Reverse (ℕ × ℕ) → Type 0 = λ z. z.0.1 < length found in let l = h.long in subst P (sym g) (omega (arith, l, below)))
+      | inr g ↦ i e g
+    ]
+
+    spread : Cases → (edges : List PathEdge) (goals : List Bool) (x : ℕ) → IsRow edges x row → x < length goals → IsSpread edges goals x cost steps found' front' → IsSpread edges goals x cost (steps ++ s ∷ []) found'' front''
+    spread (inl c) edges goals x r lt k =
+        let P : List ℕ → Type 0 = λ z. IsSpread edges goals x cost (steps ++ s ∷ []) z front'' in
+        let Q : List (Reverse (ℕ × ℕ)) → Type 0 = λ z. IsSpread edges goals x cost (steps ++ s ∷ []) found' z in
+        subst P (sym c.1) (subst Q (sym c.2) (spread_kept edges goals x cost steps s found' front' c.0 k))
+    spread (inr c) edges goals x r lt k =
+        let P : List ℕ → Type 0 = λ z. IsSpread edges goals x cost (steps ++ s ∷ []) z front'' in
+        let l = k.searched.long in
+        subst P (sym c.1) (spread_lowered edges goals x cost steps s found' front' front'' lt (omega (arith, l, below)) (r.sound s has) c.0
+        (λ e g. moved_has (entry (s.weight + cost) s.to) e front' front'' c.2 g) (moved_new (entry (s.weight + cost) s.to) front' front'' c.2) k)
+
+pub spreads_all : (row : List Step) (cost : ℕ) (found : List ℕ) (front : List (Reverse (ℕ × ℕ))) (len : ℕ) (found' : List ℕ) (front' : List (Reverse (ℕ × ℕ))) (len' : ℕ)
+    → SpreadsTo row row cost found front len found' front' len' → Spreads row cost found front len found' front' len'
+spreads_all row cost found front len found' front' len' h = record {
+  long = h.long;
+  inside = h.inside;
+  falls = h.falls;
+  settles = λ edges goals x r lt e s. spread_all edges goals x cost row found' front' r (h.spread edges goals x r lt e s);
+}
+
+pub found_here : (found : List ℕ) (u r : ℕ) → u < length found → r ≡ get_or found u r → cost_at found u ≡ r
+found_here found u r lt e = sym (get_or_default_zero found u r lt) ∙ sym e

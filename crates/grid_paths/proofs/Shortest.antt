@@ -1,0 +1,208 @@
+-- The walk down the least costs, by the least places, is the least of all routes.
+use Rattle.std.proofs.Common.{◌≡◌, refl, sym, ◌∙◌, subst, ℕ, zero, suc, ◌+◌, ◌<◌, ◌≤◌, Bool, true, false, not, List, [], ◌∷◌, length, inl, inr, arith, ◌⊎◌}
+use Rattle.std.specs.Prelude.{Some, eqb, slice_get, IsTrue}
+use Rattle.std.specs.List.{list_any, list_all}
+use Rattle.std.specs.Ordering.{nat_cmp, is_lt}
+use Rattle.std.specs.Cmp.Lexicographic.{slice_cmp}
+use Rattle.std.proofs.lemmas.Bool.{false≢true, true≢false, cases_eq, cases_lt, and_from, eqb-true, or_cases}
+use Rattle.grid_paths.specs.declared.PathEdge.{PathEdge}
+use Rattle.grid_paths.specs.Paths.{has_node, all_differ, across, visited, differ_if_some, is_path, last_in, last_node}
+use Rattle.grid_paths.specs.Routes.{ends_of, all_ends, passes, is_goal, is_route, IsLeastRoute, EndsBelow}
+use Rattle.grid_paths.specs.Search.{far, Leads, cost_at, AreLeastCosts, Walks}
+use Rattle.grid_paths.proofs.Routing.{Leads_back, Leads_same, Leads_weight, Leads_passes, Leads_below, weight_positive, cost, cost_most, not_better, greater, tied, Runs, routed, edge_ends}
+
+-- ---- no run costs less
+
+pub run_costs : (edges : List PathEdge) (goals : List Bool) (found : List ℕ) → AreLeastCosts edges goals found → EndsBelow edges (length goals)
+    → (path : List ℕ) (u : ℕ) → u < length goals → Runs edges goals u path → cost edges path < far → cost_at found u ≤ cost edges path
+unfolding Runs cost
+run_costs edges goals found least ends [] u lt run small = let z = least.goal u lt run in omega (arith, z)
+run_costs edges goals found least ends (place ∷ rest) u lt (v, weight, leads, run) small =
+    let w = Leads_weight edges u place v weight leads in
+    let below = Leads_below edges (length goals) u place v weight ends leads in
+    let onward = run_costs edges goals found least ends rest v below run (omega (arith, small)) in
+    let step = least.settled v below (omega (arith, onward, small)) place u weight (Leads_back edges u place v weight leads) in
+    omega (arith, w, onward, step)
+
+-- ---- the walk costs what was found, and is a route
+
+pub walk_costs : (edges : List PathEdge) (goals : List Bool) (found : List ℕ) → AreLeastCosts edges goals found → EndsBelow edges (length goals)
+    → (path : List ℕ) (u : ℕ) → u < length goals → Walks edges goals found u path → cost edges path ≡ cost_at found u
+unfolding Walks cost
+walk_costs edges goals found least ends [] u lt walk = sym (least.goal u lt walk)
+walk_costs edges goals found least ends (place ∷ rest) u lt (v, weight, leads, same, first, walk) =
+    let w = Leads_weight edges u place v weight leads in
+    let below = Leads_below edges (length goals) u place v weight ends leads in
+    let onward = walk_costs edges goals found least ends rest v below walk in
+    omega (arith, w, onward, same)
+
+-- where a walk goes
+pub record Walked (edges : List PathEdge) (goals : List Bool) (found : List ℕ) (u : ℕ) (path : List ℕ) : Type 0 where
+  pub nodes : List ℕ
+  pub visits : visited (all_ends edges) u path ≡ Some (u ∷ nodes)
+  pub goal : is_goal goals (last_in u nodes) ≡ true
+  pub passing : list_all (passes edges) path ≡ true
+  pub falls : (m : ℕ) → has_node nodes m ≡ true → cost_at found m < cost_at found u
+  pub differ : all_differ (u ∷ nodes) ≡ true
+
+not_has : (t : Bool) → (t ≡ true → ⊥) → not t ≡ true
+not_has true h = absurd (h refl)
+not_has false h = refl
+
+alone : (u : ℕ) → all_differ (u ∷ []) ≡ true
+unfolding all_differ has_node
+alone u = refl
+
+no_node : (m : ℕ) → has_node [] m ≡ true → ⊥
+unfolding has_node
+no_node m h = absurd (false≢true h)
+
+visits_on : (ends : List (ℕ × ℕ)) (u place v : ℕ) (rest nodes : List ℕ) (pair : ℕ × ℕ) → slice_get ends place ≡ Some pair → across u pair ≡ Some v
+    → visited ends v rest ≡ Some nodes → visited ends u (place ∷ rest) ≡ Some (u ∷ nodes)
+unfolding visited
+visits_on ends u place v rest nodes pair e f g = rw e (rw f (rw g refl))
+
+falls_on : (found : List ℕ) (u v : ℕ) (nodes : List ℕ) → cost_at found v < cost_at found u → ((m : ℕ) → has_node nodes m ≡ true → cost_at found m < cost_at found v)
+    → (m : ℕ) → has_node (v ∷ nodes) m ≡ true → cost_at found m < cost_at found u
+unfolding has_node
+falls_on found u v nodes lt falls m h = elim (or_cases (eqb m v) (list_any (eqb m) nodes) h) [
+  | inl e ↦ (let same = eqb-true m v e in let P : ℕ → Type 0 = λ z. cost_at found z < cost_at found u in subst P (sym same) lt)
+  | inr e ↦ (let f = falls m e in omega (arith, f, lt))
+]
+
+differ_on : (u : ℕ) (nodes : List ℕ) → (has_node nodes u ≡ true → ⊥) → all_differ nodes ≡ true → all_differ (u ∷ nodes) ≡ true
+unfolding all_differ
+differ_on u nodes h d = and_from (not (has_node nodes u)) (all_differ nodes) (not_has (has_node nodes u) h) d
+
+-- a path to a goal on which the cost falls
+Falls : List PathEdge → List Bool → List ℕ → ℕ → List ℕ → Type 0
+Falls edges goals found u [] = is_goal goals u ≡ true
+Falls edges goals found u (place ∷ rest) = (v : ℕ) × (weight : ℕ) × Leads edges u place v weight × (weight + cost_at found v ≤ cost_at found u) × Falls edges goals found v rest
+
+falls_of : (edges : List PathEdge) (goals : List Bool) (found : List ℕ) (path : List ℕ) (u : ℕ) → Walks edges goals found u path → Falls edges goals found u path
+unfolding Walks Falls
+falls_of edges goals found [] u walk = walk
+falls_of edges goals found (place ∷ rest) u (v, weight, leads, same, first, walk) = (v, weight, leads, omega (arith, same), falls_of edges goals found rest v walk)
+
+walked : (edges : List PathEdge) (goals : List Bool) (found : List ℕ) (path : List ℕ) (u : ℕ) → Falls edges goals found u path → Walked edges goals found u path
+unfolding Falls visited last_in
+walked edges goals found [] u walk = record { nodes = []; visits = refl; goal = walk; passing = refl; falls = λ m h. absurd (no_node m h); differ = alone u }
+walked edges goals found (place ∷ rest) u (v, weight, leads, same, walk) =
+    let r = walked edges goals found rest v walk in
+    let w = Leads_weight edges u place v weight leads in
+    let p = weight_positive edges place in
+    let lt : cost_at found v < cost_at found u = omega (arith, w, p, same) in
+    let falls = falls_on found u v r.nodes lt r.falls in
+    record {
+      nodes = v ∷ r.nodes;
+      visits = visits_on (all_ends edges) u place v rest (v ∷ r.nodes) (ends_of leads.edge) (edge_ends edges place leads.edge leads.at) leads.over r.visits;
+      goal = r.goal;
+      passing = and_from (passes edges place) (list_all (passes edges) rest) (Leads_passes edges u place v weight leads) r.passing;
+      falls = falls;
+      differ = differ_on u (v ∷ r.nodes) (λ h. let f = falls u h in absurd (omega (arith, f))) r.differ;
+    }
+
+fall_is_route : (edges : List PathEdge) (goals : List Bool) (found : List ℕ) (path : List ℕ) (u : ℕ) → Falls edges goals found u path → is_route edges goals u path ≡ true
+unfolding is_route is_path last_node differ_if_some last_in
+fall_is_route edges goals found path u walk =
+    let w = walked edges goals found path u walk in
+    rw (w.visits, w.differ, w.goal, w.passing) refl
+
+walk_is_route : (edges : List PathEdge) (goals : List Bool) (found : List ℕ) (path : List ℕ) (u : ℕ) → Walks edges goals found u path → is_route edges goals u path ≡ true
+walk_is_route edges goals found path u walk = fall_is_route edges goals found path u (falls_of edges goals found path u walk)
+
+falling : (edges : List PathEdge) (goals : List Bool) (found : List ℕ) → AreLeastCosts edges goals found → EndsBelow edges (length goals)
+    → (fuel u : ℕ) → cost_at found u < fuel → u < length goals → cost_at found u < far → (path : List ℕ) × Falls edges goals found u path
+unfolding Falls
+falling edges goals found least ends zero u more lt small = absurd (omega arith)
+falling edges goals found least ends (suc fuel) u more lt small = elim (cases_eq (cost_at found u) 0) [
+  | inl z ↦ ([], least.ground u lt z)
+  | inr ne ↦ (
+      let h = least.reached u lt small ne in
+      let w = Leads_weight edges u h.place h.node h.weight h.step in
+      let p = weight_positive edges h.place in
+      let c = h.costs in
+      let r = falling edges goals found least ends fuel h.node (omega (arith, w, p, c, more)) (Leads_below edges (length goals) u h.place h.node h.weight ends h.step) (omega (arith, c, small)) in
+      (h.place ∷ r.0, (h.node, h.weight, h.step, c, r.1))
+      )
+]
+
+-- where the cost isn't far there is a route
+pub route_from_cost : (edges : List PathEdge) (goals : List Bool) (found : List ℕ) → AreLeastCosts edges goals found → EndsBelow edges (length goals)
+    → (u : ℕ) → u < length goals → cost_at found u < far → (path : List ℕ) × IsTrue (is_route edges goals u path)
+route_from_cost edges goals found least ends u lt small =
+    let r = falling edges goals found least ends (suc (cost_at found u)) u (omega arith) lt small in
+    (r.0, fall_is_route edges goals found r.0 u r.1)
+
+-- ---- of the runs that cost as much, the walk has the least list
+
+tie_on : (p q : ℕ) (ps qs : List ℕ) → (p < q) ⊎ ((p ≡ q) × (is_lt (slice_cmp nat_cmp qs ps) ≡ false)) → is_lt (slice_cmp nat_cmp (q ∷ qs) (p ∷ ps)) ≡ false
+tie_on p q ps qs (inl h) = rw (greater q p h) refl
+tie_on p q ps qs (inr (e, h)) = rw (tied q p (sym e)) h
+
+pub walk_least : (edges : List PathEdge) (goals : List Bool) (found : List ℕ) → AreLeastCosts edges goals found → EndsBelow edges (length goals)
+    → (path other : List ℕ) (u : ℕ) → u < length goals → Walks edges goals found u path → Runs edges goals u other → cost edges other ≡ cost_at found u → cost edges other < far
+    → is_lt (slice_cmp nat_cmp other path) ≡ false
+unfolding Walks Runs cost
+walk_least edges goals found least ends [] [] u lt walk run same small = refl
+walk_least edges goals found least ends [] (q ∷ qs) u lt walk run same small = refl
+walk_least edges goals found least ends (p ∷ ps) [] u lt (v, weight, leads, e, first, walk) run same small =
+    let w = Leads_weight edges u p v weight leads in
+    let pos = weight_positive edges p in
+    absurd (omega (arith, w, pos, e, same))
+walk_least edges goals found least ends (p ∷ ps) (q ∷ qs) u lt (v, weight, leads, e, first, walk) (v', weight', leads', run) same small =
+    let w' = Leads_weight edges u q v' weight' leads' in
+    let below' = Leads_below edges (length goals) u q v' weight' ends leads' in
+    let onward = run_costs edges goals found least ends qs v' below' run (omega (arith, small)) in
+    let step = least.settled v' below' (omega (arith, onward, small)) q u weight' (Leads_back edges u q v' weight' leads') in
+    let tight : cost edges qs ≡ cost_at found v' = omega (arith, w', onward, step, same) in
+    let le = first q v' weight' leads' (omega (arith, w', tight, same)) in
+    tie_on p q ps qs (elim (cases_lt p q) [
+      | inl h ↦ inl h
+      | inr h ↦ (
+          let g : p ≡ q = omega (arith, h, le) in
+          let P : ℕ → Type 0 = λ z. Leads edges u z v' weight' in
+          let one : v' ≡ v = sym (Leads_same edges u p v v' weight weight' leads (subst P (sym g) leads')) in
+          let Q : ℕ → Type 0 = λ z. (z < length goals) × Runs edges goals z qs × (cost edges qs ≡ cost_at found z) in
+          let all = subst Q one (below', run, tight) in
+          inr (g, walk_least edges goals found least ends ps qs v all.0 walk all.1 all.2 (omega (arith, small)))
+          )
+    ])
+
+-- ---- the theorem
+
+not_true : (b : Bool) → b ≡ false → IsTrue (not b)
+not_true false e = refl
+not_true true e = absurd (true≢false e)
+
+not_if : (b : Bool) → (b ≡ true → ⊥) → IsTrue (not b)
+not_if false f = refl
+not_if true f = absurd (f refl)
+
+pub walk_is_least : (edges : List PathEdge) (goals : List Bool) (found : List ℕ) → AreLeastCosts edges goals found → EndsBelow edges (length goals) → length goals < 4294967296
+    → (from : ℕ) → from < length goals → (path : List ℕ) → Walks edges goals found from path → IsLeastRoute edges goals from path
+walk_is_least edges goals found least ends many from lt path walk =
+    let whole = walk_is_route edges goals found path from walk in
+    let mine = routed edges goals from path ends lt whole in
+    let same = walk_costs edges goals found least ends path from lt walk in
+    record {
+      route = whole;
+      least = λ other h.
+          let r = routed edges goals from other ends lt h in
+          let short = r.short in
+          let most = cost_most edges other in
+          let small : cost edges other < far = omega (arith, short, most, many) in
+          let le = run_costs edges goals found least ends other from lt r.run small in
+          not_true _ (not_better edges path other (let s = mine.short in omega (arith, s, many)) (omega (arith, short, many)) (omega (arith, le, same))
+          (λ e. walk_least edges goals found least ends path other from lt walk r.run (sym e ∙ same) small));
+    }
+
+pub none_from_far : (edges : List PathEdge) (goals : List Bool) (found : List ℕ) → AreLeastCosts edges goals found → EndsBelow edges (length goals) → length goals < 4294967296
+    → (from : ℕ) → from < length goals → far ≤ cost_at found from → (path : List ℕ) → IsTrue (not (is_route edges goals from path))
+none_from_far edges goals found least ends many from lt high path = not_if _ (λ h.
+    let r = routed edges goals from path ends lt h in
+    let short = r.short in
+    let most = cost_most edges path in
+    let small : cost edges path < far = omega (arith, short, most, many) in
+    let le = run_costs edges goals found least ends path from lt r.run small in
+    absurd (omega (arith, le, small, high)))

@@ -1,0 +1,4 @@
+pub mod Paths
+pub mod Routes
+pub mod Search
+pub mod Laws
