@@ -8,3 +8,4 @@ pub mod Moving
 pub mod Parting
 pub mod Planned
 pub mod Planning
+pub mod Nodes

@@ -38,3 +38,6 @@ pub enum DisconnectPlan {
 pub fn connect_plan_is_least()
     ensures { ConnectPlanIsLeast }
 {}
+
+#[cfg(test)]
+mod tests;

@@ -1,0 +1,37 @@
+use super::*;
+use std::test::Fail;
+
+fn edge(a: u32, b: u32, way: Way) -> PathEdge {
+    PathEdge { a, b, way }
+}
+
+#[test]
+fn least_paths(rt: HostRuntime) -> Result<(), Fail> {
+    let alloc = rt.alloc();
+    // From 1 to 0 over two that have to be closed, or over three of which one has to be.
+    let edges = [
+        edge(0, 2, Way::Closable),
+        edge(2, 1, Way::Closable),
+        edge(0, 3, Way::Free),
+        edge(3, 4, Way::Free),
+        edge(4, 1, Way::Closable),
+        edge(1, 0, Way::Barred),
+        edge(5, 1, Way::Free),
+        edge(1, 5, Way::Free),
+    ];
+    let cases: [([bool; 6], Option<&[u32]>); 4] = [
+        ([true, false, false, false, false, false], Some(&[4, 3, 2])),
+        ([false, false, false, false, false, true], Some(&[6])),
+        ([true, true, false, false, false, false], Some(&[])),
+        ([false; 6], None),
+    ];
+    for (goals, want) in cases {
+        let path = least_path(alloc, 6, &edges, 1, &goals)?;
+        match (path, want) {
+            (Some(path), Some(want)) => assert_eq!(rt; path.slice(), want),
+            (None, None) => {}
+            _ => assert!(rt; false),
+        }
+    }
+    Ok(())
+}
