@@ -1,0 +1,9 @@
+pub mod Order
+pub mod Parted
+pub mod Named
+pub mod Searched
+pub mod Changing
+pub mod Tables
+pub mod Placed
+pub mod Looping
+pub mod Cloning
