@@ -3,6 +3,11 @@
 
 mod event;
 mod filter;
+mod listener;
 
 pub use event::{Event, Events};
 pub use filter::{Filter, Filters};
+pub use listener::{Listener, Subscription, Subscriptions};
+
+#[cfg(test)]
+mod tests;

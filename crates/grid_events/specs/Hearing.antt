@@ -1,0 +1,32 @@
+-- What the listeners have heard.
+use Rattle.std.specs.Prelude.{◌≡◌, ℕ, zero, suc, if◌then◌else◌, List, [], ◌∷◌, ◌++◌, map}
+use Rattle.grid_events.specs.declared.event.Event.{Event}
+use Rattle.grid_events.specs.declared.filter.Filter.{Filter}
+use Rattle.grid_events.specs.declared.listener.Subscription.{Subscription}
+use Rattle.grid_events.specs.Filters.{matches}
+
+-- a filter, and the events that its listener has heard, in order
+pub record Hearing : Type 0 where
+  pub filter : Filter
+  pub heard : List Event
+
+unfoldable pub hearing : {L : Type 0} → (L → List Event) → Subscription L → Hearing
+hearing heard s = record { filter = s.filter; heard = heard s.listener }
+
+-- by the order of subscription
+unfoldable pub hearings : {L : Type 0} → (L → List Event) → List (Subscription L) → List Hearing
+hearings heard subscriptions = map (hearing heard) subscriptions
+
+-- the event heard last, where the filter matches; else nothing is heard
+unfoldable pub after_event : Event → Hearing → Hearing
+after_event event h = if matches h.filter event then record h { heard = h.heard ++ event ∷ [] } else h
+
+-- the event told to the first so many
+unfoldable pub first_told : Event → ℕ → List Hearing → List Hearing
+first_told event zero hs = hs
+first_told event (suc count) [] = []
+first_told event (suc count) (h ∷ rest) = after_event event h ∷ first_told event count rest
+
+-- the event was told to those before some place, and the others are as before
+abbrev pub IsToldBefore : Event → List Hearing → List Hearing → Type 0
+IsToldBefore event old new = (count : ℕ) × (new ≡ first_told event count old)
