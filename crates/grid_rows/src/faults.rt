@@ -17,9 +17,10 @@ fn told(alloc: Global, text: &str) -> Result<String, Fail> {
             Ok(format!(in alloc; "{workers} workers, {listeners} listeners")?)
         }
         Err(ReadError::Fault(fault)) => {
-            let place = fault.place.text();
             let reason = fault.reason;
-            Ok(format!(in alloc; "{place} {reason:?}")?)
+            let place = fault.place;
+            let text = place.text();
+            Ok(format!(in alloc; "{text} {reason:?}")?)
         }
         Err(ReadError::Memory) => Ok(String::from_str(alloc, "no memory")?),
     }
