@@ -2,6 +2,7 @@
 //! and stays sound.
 #![tactic(auto)]
 
+mod branches;
 mod edits;
 mod finding;
 mod laws;
