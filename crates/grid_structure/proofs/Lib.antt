@@ -25,3 +25,10 @@ pub mod Inserting
 pub mod LevelMore
 pub mod Comparing
 pub mod Homes
+pub mod Landed
+pub mod Homed
+pub mod Undone
+pub mod Windings
+pub mod Lifted
+pub mod Joining
+pub mod Branched

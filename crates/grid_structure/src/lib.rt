@@ -9,6 +9,7 @@ mod laws;
 mod parts;
 mod readers;
 mod structure;
+mod taking;
 
 use grid_ids::Id;
 use grid_kinds::{CheckFault, Injection, SwitchKind};
