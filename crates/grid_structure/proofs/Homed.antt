@@ -44,7 +44,7 @@ home_at (x ∷ heads) k h l e = by (nat_lt k x.levels) refl e (home_at heads (k 
 
 -- ---- a level's place in the front of a list, and behind it
 
-found_front : {X : Type 0} (p : X → Bool) (xs : List X) (n k : ℕ) → position p xs ≡ Some k → k < n → list_any p (take n xs) ≡ true
+pub found_front : {X : Type 0} (p : X → Bool) (xs : List X) (n k : ℕ) → position p xs ≡ Some k → k < n → list_any p (take n xs) ≡ true
 found_front p xs zero k e l = absurd (omega arith)
 found_front p [] (suc n) k e l = cc
 found_front {X} p (x ∷ xs) (suc n) k e l = by (p x) (rw (position-cons p x xs) at e) (λ j f g. found_front p xs n j f g)
@@ -57,11 +57,11 @@ found_front {X} p (x ∷ xs) (suc n) k e l = by (p x) (rw (position-cons p x xs)
         step (Some j) q e = let z : k ≡ suc j = cc in again j q (omega (arith, z, l))
         step None q e = cc
 
-record Behind {X : Type 0} (p : X → Bool) (xs : List X) (n k : ℕ) : Type 0 where
+pub record Behind {X : Type 0} (p : X → Bool) (xs : List X) (n k : ℕ) : Type 0 where
   pub front : list_any p (take n xs) ≡ false
   pub back : position p (drop n xs) ≡ Some (k - n)
 
-found_back : {X : Type 0} (p : X → Bool) (xs : List X) (n k : ℕ) → position p xs ≡ Some k → n ≤ k → Behind p xs n k
+pub found_back : {X : Type 0} (p : X → Bool) (xs : List X) (n k : ℕ) → position p xs ≡ Some k → n ≤ k → Behind p xs n k
 found_back p xs zero k e l = let same : k - 0 ≡ k = omega arith in record { front = refl; back = e ∙ ap (λ z. Some z) (sym same) }
 found_back p [] (suc n) k e l = cc
 found_back {X} p (x ∷ xs) (suc n) k e l = by (p x) refl (rw (position-cons p x xs) at e) (λ j f g. found_back p xs n j f g)
@@ -80,7 +80,7 @@ found_back {X} p (x ∷ xs) (suc n) k e l = by (p x) refl (rw (position-cons p x
 
 -- ---- ids that are not there
 
-none_there : (id : List ℕ) (ids : List (List ℕ)) → times id ids ≡ 0 → has_id ids id ≡ false
+pub none_there : (id : List ℕ) (ids : List (List ℕ)) → times id ids ≡ 0 → has_id ids id ≡ false
 unfolding has_id
 none_there id [] h = refl
 none_there id (x ∷ xs) h = by (same_id id x) h (none_there id xs)

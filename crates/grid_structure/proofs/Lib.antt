@@ -32,3 +32,7 @@ pub mod Windings
 pub mod Lifted
 pub mod Joining
 pub mod Branched
+pub mod Dropping
+pub mod Uniquely
+pub mod Cleared
+pub mod Equipped

@@ -110,7 +110,7 @@ back_level before after place node level b at =
     let both : Some level ≡ Some (placed_in b.old b.item) = sym at ∙ there in
     cc both
 
-is_there : (o : Option Placed) → is_some o ≡ true → IsSome o
+pub is_there : (o : Option Placed) → is_some o ≡ true → IsSome o
 is_there (Some p) h = search
 is_there None h = cc
 
