@@ -25,3 +25,14 @@ pub mod Inserting
 pub mod LevelMore
 pub mod Comparing
 pub mod Homes
+pub mod Landed
+pub mod Homed
+pub mod Undone
+pub mod Windings
+pub mod Lifted
+pub mod Joining
+pub mod Branched
+pub mod Dropping
+pub mod Uniquely
+pub mod Cleared
+pub mod Equipped

@@ -27,7 +27,7 @@ impl From<Memory> for ApplyFault {
 }
 
 // A level's fault, told of the structure.
-fn told(fault: LevelFault) -> ApplyFault
+pub(crate) fn told(fault: LevelFault) -> ApplyFault
     ensures { result ≡ told_of fault }
 {
     match fault {

@@ -103,7 +103,7 @@ fn level_of_switch(places: &[u32], entry: Option<Entry>) -> Option<u32>
 }
 
 // How many sides the equipment has.
-fn sides_of_entry(entry: Option<Entry>) -> Option<u8>
+pub(crate) fn sides_of_entry(entry: Option<Entry>) -> Option<u8>
     ensures { result ≡ sides_at entry }
 {
     match entry {
@@ -115,7 +115,7 @@ fn sides_of_entry(entry: Option<Entry>) -> Option<u8>
 }
 
 // The place of the level in which the terminal of a side is.
-fn level_of_terminal(places: &[u32], side: u8, entry: Option<Entry>) -> Option<u32>
+pub(crate) fn level_of_terminal(places: &[u32], side: u8, entry: Option<Entry>) -> Option<u32>
     ensures { result ≡ terminal_at places.now side entry }
 {
     let key = match (entry, side) {

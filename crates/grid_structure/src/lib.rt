@@ -2,12 +2,14 @@
 //! and stays sound.
 #![tactic(auto)]
 
+mod branches;
 mod edits;
 mod finding;
 mod laws;
 mod parts;
 mod readers;
 mod structure;
+mod taking;
 
 use grid_ids::Id;
 use grid_kinds::{CheckFault, Injection, SwitchKind};

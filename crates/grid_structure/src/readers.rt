@@ -10,7 +10,7 @@ use grid_ids::Id;
 use grid_level::Level;
 
 // The place of the substation whose levels go so far.
-fn head_of_level(heads: &[Head], level: u32) -> u32
+pub(crate) fn head_of_level(heads: &[Head], level: u32) -> u32
     requires within { level < level_total heads.now }
     requires few { length heads.now < 2 ^ 32 }
     ensures { result ≡ head_place heads.now level }
