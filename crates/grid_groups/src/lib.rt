@@ -2,7 +2,9 @@
 #![tactic(auto)]
 
 mod grouping;
+mod indices;
 mod joining;
 
 pub use grouping::{Group, Groups, Places, group_nodes, leader, terminals_at};
+pub use indices::Indices;
 pub use joining::{index_of, labels};
