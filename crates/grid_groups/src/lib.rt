@@ -2,9 +2,9 @@
 #![tactic(auto)]
 
 mod grouping;
-mod indices;
 mod joining;
+mod node_indices;
 
 pub use grouping::{Group, Groups, Places, group_nodes, leader, terminals_at};
-pub use indices::Indices;
 pub use joining::{index_of, labels};
+pub use node_indices::NodeIndices;

@@ -12,12 +12,12 @@ use std::marker::Model;
 
 /// A level whose nodes' indices stand in a table where there are many. It is seen as the level.
 #[derive(Drop)]
-pub struct Indices<'a> {
+pub struct NodeIndices<'a> {
     level: &'a Level,
     table: Vec<u16>,
 }
 
-impl<'a> Model for Indices<'a> {
+impl<'a> Model for NodeIndices<'a> {
     ghost use Rattle.grid_level.specs.VoltageLevel.{VoltageLevel};
     ghost use Rattle.grid_level.specs.Passing.{nodes};
     ghost use Rattle.grid_groups.specs.Labels.{HoldsIndices};
@@ -59,12 +59,12 @@ fn table_of(alloc: Global, level: &Level) -> Result<Vec<u16>, Memory>
     Ok(table)
 }
 
-impl<'a> Indices<'a> {
-    pub fn of(alloc: Global, level: &'a Level) -> Result<Indices<'a>, Memory>
+impl<'a> NodeIndices<'a> {
+    pub fn of(alloc: Global, level: &'a Level) -> Result<NodeIndices<'a>, Memory>
         ensures { IfOk result (λ indices. indices ≡ level.now) }
     {
         let table = table_of(alloc, level)?;
-        Ok(Indices { level, table })
+        Ok(NodeIndices { level, table })
     }
 
     pub fn level(&self) -> &'a Level
