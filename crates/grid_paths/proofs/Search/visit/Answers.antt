@@ -2,7 +2,7 @@ use Rattle.std.proofs.Common.{◌≡◌, ◌<◌, length, arith, ◌∙◌}
 use Rattle.std.specs.BinaryHeap.{heap_items, heap_len}
 use Rattle.grid_paths.specs.Search.{cost_at}
 use Rattle.grid_paths.proofs.Rows.{row_is_read, step_fits, OnOk_then}
-use Rattle.grid_paths.proofs.Searching.{visits_row, visits_none, found_here}
+use Rattle.grid_paths.proofs.Searching.{visits_row, found_here}
 use Rattle.grid_paths.proofs.Search.visit.Goals as goal
 use Rattle.grid_paths.proofs.Search.visit.Goals.{After-index}
 
