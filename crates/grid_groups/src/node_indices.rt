@@ -10,7 +10,7 @@ use grid_level::Level;
 use std::alloc::Global;
 use std::marker::Model;
 
-/// A level whose nodes' indices stand in a table where there are many. It is seen as the level.
+/// A level whose nodes' indices stand in a table where it has edges enough to pay for one. It is seen as the level.
 #[derive(Drop)]
 pub struct NodeIndices<'a> {
     level: &'a Level,
@@ -29,13 +29,17 @@ impl<'a> Model for NodeIndices<'a> {
     ghost invariant = { λ i. HoldsIndices (nodes i.level.now) i.table.items };
 }
 
-// How long a table is worth its while: up to the last node, where there are many.
+// How long a table is worth its while: up to the last node, if that is little against the edges.
 fn table_len(level: &Level) -> usize {
     let count = level.node_count();
-    if count < 64 {
+    if count == 0 {
         return 0;
     }
-    level.node_at(count - 1) as usize + 1
+    let len = level.node_at(count - 1) as usize + 1;
+    if len > 256 * level.edge_count() as usize {
+        return 0;
+    }
+    len
 }
 
 // Puts an index at a node, as far as the table reaches.
