@@ -1,6 +1,6 @@
 -- A node stands in a list exactly where it has a position there.
-use Rattle.std.proofs.Common.{◌≡◌, refl, sym, ap, ◌∙◌, ℕ, ◌+◌, ◌<◌, ◌≤◌, suc, Bool, true, false, cond, not, ◌||◌, List, [], ◌∷◌, length, inl, inr, arith}
-use Rattle.std.specs.Prelude.{eqb, nat_lt, position, is_some, Some, None}
+use Rattle.std.proofs.Common.{◌≡◌, refl, sym, ◌∙◌, ℕ, ◌+◌, suc, Bool, true, false, cond, not, ◌||◌, List, [], ◌∷◌, length, inl, inr, arith}
+use Rattle.std.specs.Prelude.{nat_lt, position, is_some, Some, None}
 use Rattle.std.specs.List.{list_any, position_or_len}
 use Rattle.std.proofs.lemmas.Bool.{cases_lt, lt-ltb, le-ltb}
 

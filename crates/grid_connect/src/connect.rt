@@ -9,7 +9,7 @@ ghost use Rattle.grid_connect.specs.Effects.{Connects};
 ghost use Rattle.grid_connect.specs.Indexed.{way_through, switch_path_edge, internal_path_edge, switch_path_edges, path_edges_of, AreBusbars};
 
 use crate::ConnectPlan;
-use grid_groups::index_of;
+use grid_groups::{NodeIndices, index_of};
 use grid_ids::Memory;
 use grid_kinds::SwitchKind;
 use grid_level::{Internal, Level, Stand, Switch};
@@ -43,39 +43,45 @@ fn way_of(switch: &Switch, opened: bool) -> Way
 }
 
 // The switch in this position, as an edge of paths.
-fn switch_edge(level: &Level, switch: &Switch, opened: bool) -> PathEdge
-    requires first { IsTrue (among (nodes level.now) switch.now.node1) }
-    requires second { IsTrue (among (nodes level.now) switch.now.node2) }
-    ensures { result ≡ switch_path_edge (nodes level.now) switch.now opened }
+fn switch_edge(indices: &NodeIndices, switch: &Switch, opened: bool) -> PathEdge
+    requires first { IsTrue (among (nodes indices.now) switch.now.node1) }
+    requires second { IsTrue (among (nodes indices.now) switch.now.node2) }
+    ensures { result ≡ switch_path_edge (nodes indices.now) switch.now opened }
 {
     PathEdge {
-        a: index_of(level, switch.node1),
-        b: index_of(level, switch.node2),
+        a: indices.of_node(switch.node1),
+        b: indices.of_node(switch.node2),
         way: way_of(switch, opened),
     }
 }
 
 // The internal connection, as an edge of paths.
-fn internal_edge(level: &Level, internal: &Internal) -> PathEdge
-    requires first { IsTrue (among (nodes level.now) internal.now.node1) }
-    requires second { IsTrue (among (nodes level.now) internal.now.node2) }
-    ensures { result ≡ internal_path_edge (nodes level.now) internal.now }
+fn internal_edge(indices: &NodeIndices, internal: &Internal) -> PathEdge
+    requires first { IsTrue (among (nodes indices.now) internal.now.node1) }
+    requires second { IsTrue (among (nodes indices.now) internal.now.node2) }
+    ensures { result ≡ internal_path_edge (nodes indices.now) internal.now }
 {
     PathEdge {
-        a: index_of(level, internal.node1),
-        b: index_of(level, internal.node2),
+        a: indices.of_node(internal.node1),
+        b: indices.of_node(internal.node2),
         way: Way::Free,
     }
 }
 
-fn switch_edges(alloc: Global, level: &Level, states: &[bool]) -> Result<Vec<PathEdge>, Memory>
-    requires { length states.now ≡ length level.now.switches }
-    ensures { IfOk result (λ edges. edges.items ≡ switch_path_edges (nodes level.now) level.now.switches states.now) }
+// The switches in these positions, as edges of paths.
+fn switch_edges(
+    alloc: Global,
+    indices: &NodeIndices,
+    states: &[bool],
+) -> Result<Vec<PathEdge>, Memory>
+    requires { length states.now ≡ length indices.now.switches }
+    ensures { IfOk result (λ edges. edges.items ≡ switch_path_edges (nodes indices.now) indices.now.switches states.now) }
 {
+    let level = indices.level();
     level.keeps();
-    let mut edges = Vec::new(alloc);
+    let mut edges = Vec::with_capacity(alloc, level.edge_count() as usize)?;
     for (place, switch) in level.switches().iter().enumerate() {
-        edges.push(switch_edge(level, switch, states[place]))?;
+        edges.push(switch_edge(indices, switch, states[place]))?;
     }
     Ok(edges)
 }
@@ -86,9 +92,10 @@ fn path_edges(alloc: Global, level: &Level, states: &[bool]) -> Result<Vec<PathE
     ensures { IfOk result (λ edges. edges.items ≡ path_edges_of (positioned level.now states.now)) }
 {
     level.keeps();
-    let mut edges = switch_edges(alloc, level, states)?;
+    let indices = NodeIndices::of(alloc, level)?;
+    let mut edges = switch_edges(alloc, &indices, states)?;
     for internal in level.internals() {
-        edges.push(internal_edge(level, internal))?;
+        edges.push(internal_edge(&indices, internal))?;
     }
     Ok(edges)
 }

@@ -10,7 +10,7 @@ ghost use Rattle.grid_connect.specs.Indexed.{marks_where, core_flags, is_marked,
 
 use crate::DisconnectPlan;
 use crate::connect::{is_busbar, is_operable};
-use grid_groups::{index_of, labels};
+use grid_groups::{NodeIndices, index_of, labels};
 use grid_ids::{Duplicate, Memory};
 use grid_level::{Level, Placed, Switch};
 use grid_paths::Places;
@@ -58,31 +58,32 @@ fn joined_to(alloc: Global, level: &Level, passes: &[bool], node: u16) -> Result
 }
 
 // Whether the node is marked.
-fn has_mark(level: &Level, marks: &[bool], node: u16) -> bool
-    requires node { IsTrue (among (nodes level.now) node) }
-    requires long { length marks.now ≡ length (nodes level.now) }
-    ensures { result ≡ is_marked (nodes level.now) marks.now node }
+fn has_mark(indices: &NodeIndices, marks: &[bool], node: u16) -> bool
+    requires node { IsTrue (among (nodes indices.now) node) }
+    requires long { length marks.now ≡ length (nodes indices.now) }
+    ensures { result ≡ is_marked (nodes indices.now) marks.now node }
 {
-    marks[index_of(level, node) as usize]
+    marks[indices.of_node(node) as usize]
 }
 
 // Whether a busbar section stands at a marked node.
-fn is_marked_busbar(level: &Level, marks: &[bool], placed: &Placed) -> bool
-    requires node { IsTrue (among (nodes level.now) placed.now.node) }
-    requires long { length marks.now ≡ length (nodes level.now) }
-    ensures { result ≡ (is_marked (nodes level.now) marks.now placed.now.node && passing.is_busbar placed.now.stand) }
+fn is_marked_busbar(indices: &NodeIndices, marks: &[bool], placed: &Placed) -> bool
+    requires node { IsTrue (among (nodes indices.now) placed.now.node) }
+    requires long { length marks.now ≡ length (nodes indices.now) }
+    ensures { result ≡ (is_marked (nodes indices.now) marks.now placed.now.node && passing.is_busbar placed.now.stand) }
 {
-    has_mark(level, marks, placed.node) && is_busbar(&placed.stand)
+    has_mark(indices, marks, placed.node) && is_busbar(&placed.stand)
 }
 
 // The first busbar section at a marked node.
-fn first_busbar<'a>(level: &'a Level, marks: &[bool]) -> Option<&'a Placed>
-    requires { length marks.now ≡ length (nodes level.now) }
-    ensures { option_copied result ≡ marked_busbar (nodes level.now) marks.now level.now.placed }
+fn first_busbar<'a>(indices: &NodeIndices<'a>, marks: &[bool]) -> Option<&'a Placed>
+    requires { length marks.now ≡ length (nodes indices.now) }
+    ensures { option_copied result ≡ marked_busbar (nodes indices.now) marks.now indices.now.placed }
 {
+    let level = indices.level();
     level.keeps();
     for placed in level.placed() {
-        if is_marked_busbar(level, marks, placed) {
+        if is_marked_busbar(indices, marks, placed) {
             return Some(placed);
         }
     }
@@ -90,28 +91,34 @@ fn first_busbar<'a>(level: &'a Level, marks: &[bool]) -> Option<&'a Placed>
 }
 
 // Whether the switch is a closed operable breaker with exactly one marked end.
-fn leaves(level: &Level, marks: &[bool], switch: &Switch, opened: bool) -> bool
-    requires first { IsTrue (among (nodes level.now) switch.now.node1) }
-    requires second { IsTrue (among (nodes level.now) switch.now.node2) }
-    requires long { length marks.now ≡ length (nodes level.now) }
-    ensures { result ≡ leaves_marked (nodes level.now) marks.now switch.now opened }
+fn leaves(indices: &NodeIndices, marks: &[bool], switch: &Switch, opened: bool) -> bool
+    requires first { IsTrue (among (nodes indices.now) switch.now.node1) }
+    requires second { IsTrue (among (nodes indices.now) switch.now.node2) }
+    requires long { length marks.now ≡ length (nodes indices.now) }
+    ensures { result ≡ leaves_marked (nodes indices.now) marks.now switch.now opened }
 {
     if opened || !is_operable(switch) {
         return false;
     }
-    has_mark(level, marks, switch.node1) != has_mark(level, marks, switch.node2)
+    has_mark(indices, marks, switch.node1) != has_mark(indices, marks, switch.node2)
 }
 
 // The places of the closed operable breakers with exactly one marked end.
-fn leaving(alloc: Global, level: &Level, states: &[bool], marks: &[bool]) -> Result<Places, Memory>
-    requires flags { length states.now ≡ length level.now.switches }
-    requires long { length marks.now ≡ length (nodes level.now) }
-    ensures { IfOk result (λ places. places ≡ leaving_marked (nodes level.now) marks.now 0 level.now.switches states.now) }
+fn leaving(
+    alloc: Global,
+    indices: &NodeIndices,
+    states: &[bool],
+    marks: &[bool],
+) -> Result<Places, Memory>
+    requires flags { length states.now ≡ length indices.now.switches }
+    requires long { length marks.now ≡ length (nodes indices.now) }
+    ensures { IfOk result (λ places. places ≡ leaving_marked (nodes indices.now) marks.now 0 indices.now.switches states.now) }
 {
+    let level = indices.level();
     level.keeps();
     let mut places = Places::empty(alloc);
     for (place, switch) in level.switches().iter().enumerate() {
-        if leaves(level, marks, switch, states[place]) {
+        if leaves(indices, marks, switch, states[place]) {
             places.push(place as u32)?;
         }
     }
@@ -134,15 +141,16 @@ pub fn plan_disconnect(
     ensures disconnects { IfOk result (Disconnects (positioned level.now states.now) node) }
 {
     level.keeps();
+    let indices = NodeIndices::of(alloc, level)?;
     let closed = closed(alloc, states)?;
     let joined = joined_to(alloc, level, closed.as_slice(), node)?;
-    if first_busbar(level, joined.as_slice()).is_none() {
+    if first_busbar(&indices, joined.as_slice()).is_none() {
         return Ok(DisconnectPlan::AlreadyDisconnected);
     }
     let closed = closed_core(alloc, level, states)?;
     let core = joined_to(alloc, level, closed.as_slice(), node)?;
-    match first_busbar(level, core.as_slice()) {
+    match first_busbar(&indices, core.as_slice()) {
         Some(placed) => Ok(DisconnectPlan::NoBreaker(placed.terminal.copy()?)),
-        None => Ok(DisconnectPlan::Opens(leaving(alloc, level, states, core.as_slice())?)),
+        None => Ok(DisconnectPlan::Opens(leaving(alloc, &indices, states, core.as_slice())?)),
     }
 }

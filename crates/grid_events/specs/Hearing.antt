@@ -1,5 +1,5 @@
 -- What the listeners have heard.
-use Rattle.std.specs.Prelude.{◌≡◌, ℕ, zero, suc, if◌then◌else◌, List, [], ◌∷◌, ◌++◌, map}
+use Rattle.std.specs.Prelude.{◌≡◌, ℕ, ◌<◌, zero, suc, if◌then◌else◌, List, [], ◌∷◌, ◌++◌, length, map}
 use Rattle.grid_events.specs.declared.event.Event.{Event}
 use Rattle.grid_events.specs.declared.filter.Filter.{Filter}
 use Rattle.grid_events.specs.declared.listener.Subscription.{Subscription}
@@ -27,6 +27,6 @@ first_told event zero hs = hs
 first_told event (suc count) [] = []
 first_told event (suc count) (h ∷ rest) = after_event event h ∷ first_told event count rest
 
--- the event was told to those before some place, and the others are as before
+-- the event was told to those before the place of one of them, and the others are as before
 abbrev pub IsToldBefore : Event → List Hearing → List Hearing → Type 0
-IsToldBefore event old new = (count : ℕ) × (new ≡ first_told event count old)
+IsToldBefore event old new = (count : ℕ) × (count < length old) × (new ≡ first_told event count old)

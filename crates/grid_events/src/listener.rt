@@ -21,6 +21,15 @@ pub trait Listener: Drop {
         ensures err { OnErr result (heard self.new ≡ heard self.old) };
 }
 
+/// A listener of any kind, in a box: it has heard what the one in the box has.
+impl Listener for Box<dyn Listener> {
+    ghost heard = { λ b. (Listener-box b).heard b.value };
+
+    fn hear(&mut self, event: &Event) -> Result<(), Memory> {
+        (**self).hear(event)
+    }
+}
+
 /// A listener with the filter of what it is told.
 #[derive(Drop)]
 pub struct Subscription<L> {

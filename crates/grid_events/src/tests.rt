@@ -51,3 +51,29 @@ fn a_recorder_hears_what_its_filter_matches(rt: HostRuntime) -> Result<(), Fail>
     assert_eq!(rt; recorders.slice().len(), 1);
     Ok(())
 }
+
+#[test]
+fn a_boxed_listener_is_told(rt: HostRuntime) -> Result<(), Fail> {
+    let alloc = rt.alloc();
+    let mut subscriptions: Subscriptions<Box<dyn Listener>> = Subscriptions::empty(alloc);
+    let filter = Filter {
+        created: true,
+        removed: true,
+        updated: true,
+        variant_created: true,
+        variant_overwritten: true,
+        variant_removed: true,
+        variant: None,
+    };
+    let recorder = Recorder {
+        events: Events::empty(alloc),
+    };
+    let listener: Box<dyn Listener> = Box::new(alloc, recorder)?;
+    assert!(rt; subscriptions.subscribe(filter, listener).is_ok());
+    let event = Event::Created {
+        id: Id::new(alloc, "L1")?,
+    };
+    subscriptions.hear(&event)?;
+    assert_eq!(rt; subscriptions.slice().len(), 1);
+    Ok(())
+}

@@ -122,6 +122,12 @@ internal_at level is i d h e lt =
     let P : List Internal → Type 0 = λ z. list_all (ends_among (nodes level)) (map switch_edge level.switches ++ map internal_edge z) ≡ true in
     internal_ends (nodes level) level.switches is i (get_or is i d) (subst P (sym e) h) lt (get_or_any is i d (get_or is i d) lt)
 
+pub internal_among : (ns : List ℕ) (level : VoltageLevel) (is : List Internal) (i : ℕ) (d : Internal) → nodes level ≡ ns → list_all (ends_among (nodes level)) (edges level) ≡ true → is ≡ level.internals → i < length is
+    → (among ns (get_or is i d).node1 ≡ true) × (among ns (get_or is i d).node2 ≡ true)
+internal_among ns level is i d same h e lt =
+    let P : List ℕ → Type 0 = λ z. (among z (get_or is i d).node1 ≡ true) × (among z (get_or is i d).node2 ≡ true) in
+    subst P same (internal_at level is i d h e lt)
+
 -- ---- switches with their flags
 
 pub zip_at : (ss : List Switch) (flags : List Bool) (i : ℕ) (s : Switch) (f : Bool) → i < length ss → length flags ≡ length ss → s ≡ get_or ss i s → get_or flags i false ≡ f → (s, f) ≡ get_or (zip ss flags) i (s, f)

@@ -1,15 +1,20 @@
 -- The groups of a level's nodes by one label per node: the index of the least node joined to it.
-use Rattle.std.specs.Prelude.{ℕ, ◌<◌, ◌==◌, Bool, List, ◌++◌, length, map, filter, position, unwrap_or, slice_get, slice_index}
+use Rattle.std.specs.Prelude.{◌≡◌, IsTrue, Some, ℕ, ◌<◌, ◌==◌, Bool, List, ◌++◌, length, map, filter, position, unwrap_or, slice_get, slice_index}
 use Rattle.std.specs.List.{filter_map, zip}
 use Rattle.grid_graph.specs.Components.{places}
 use Rattle.grid_graph.specs.Graph.{Graph, graph, labels_of}
 use Rattle.grid_level.specs.VoltageLevel.{VoltageLevel}
+use Rattle.grid_level.specs.Kept.{among}
 use Rattle.grid_level.specs.Passing.{Rule, switch_edge, internal_edge, ends, nodes, passing}
 use Rattle.grid_groups.specs.declared.grouping.Group.{Group}
 
 -- the index of a number in a list
 unfoldable pub index_in : List ℕ → ℕ → ℕ
 index_in ns n = unwrap_or (position (λ m. m == n) ns) 0
+
+-- what a table has at a number of the list is the number's index
+abbrev pub HoldsIndices : List ℕ → List ℕ → Type 0
+HoldsIndices ns table = (n index : ℕ) → IsTrue (among ns n) → slice_get table n ≡ Some index → index ≡ index_in ns n
 
 abbrev pub pair_of : ℕ → ℕ → ℕ × ℕ
 pair_of first second = (first, second)

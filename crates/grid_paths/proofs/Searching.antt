@@ -10,7 +10,8 @@ use Rattle.std.proofs.lemmas.Bool.{cases_eq, cases_Bool, both_ways}
 use Rattle.grid_paths.specs.declared.PathEdge.{PathEdge}
 use Rattle.grid_paths.specs.declared.Step.{Step}
 use Rattle.grid_paths.specs.Routes.{is_goal}
-use Rattle.grid_paths.specs.Search.{far, Leads, cost_at, IsReached, IsSettled, AreLeastCosts, entry, IsSearched, AreInside, SettlesBy, IsRow, IsStarted, potential, Takes, Spreads}
+use Rattle.std.specs.Global.{Vec}
+use Rattle.grid_paths.specs.Search.{far, Leads, cost_at, IsReached, IsSettled, AreLeastCosts, entry, IsSearched, AreInside, SettlesBy, IsRow, IsStarted, potential, Takes, Spreads, Visits, AreRows}
 use Rattle.grid_paths.proofs.Routing.{Leads_back, Leads_weight, weight_positive}
 use Rattle.grid_paths.proofs.Rows.{Contains_push, Contains_none}
 
@@ -397,3 +398,42 @@ spreads_all row cost found front len found' front' len' h = record {
 
 pub found_here : (found : List ℕ) (u r : ℕ) → u < length found → r ≡ get_or found u r → cost_at found u ≡ r
 found_here found u r lt e = sym (get_or_default_zero found u r lt) ∙ sym e
+
+-- ---- a node is visited
+
+pub visits_row : (rows : List (Vec Step)) (row : List Step) (cost x : ℕ) (found : List ℕ) (front : List (Reverse (ℕ × ℕ))) (len : ℕ) (found' : List ℕ) (front' : List (Reverse (ℕ × ℕ))) (len' : ℕ)
+    → x < length found → cost_at found x ≡ cost → ((edges : List PathEdge) → AreRows edges rows → IsRow edges x row)
+    → Spreads row cost found front len found' front' len' → Visits rows cost x found front len found' front' len'
+visits_row rows row cost x found front len found' front' len' lt same is_row h = record {
+  long = h.long;
+  inside = h.inside;
+  falls = h.falls;
+  keeps = λ edges goals r s. (
+      let l = s.long in
+      h.settles edges goals x (is_row edges r) (omega (arith, lt, l)) same
+      (popped edges goals found (entry cost x ∷ front) front cost x (λ e c. Contains_parts (entry cost x) e front c) s)
+      );
+}
+
+pub visits_none : (rows : List (Vec Step)) (cost x : ℕ) (found : List ℕ) (front : List (Reverse (ℕ × ℕ))) (len : ℕ)
+    → cost_at found x ≢ cost → Visits rows cost x found front len found front len
+visits_none rows cost x found front len other = record {
+  long = refl;
+  inside = λ i. i;
+  falls = omega arith;
+  keeps = λ edges goals r s. stale edges goals found (entry cost x ∷ front) front cost x (λ e c. Contains_parts (entry cost x) e front c) other s;
+}
+
+-- the front in another order
+pub reordered : (edges : List PathEdge) (goals : List Bool) (found : List ℕ) (front front' : List (Reverse (ℕ × ℕ))) (but : ℕ) → IsPermutation front front'
+    → IsSearched edges goals found front but → IsSearched edges goals found front' but
+reordered edges goals found front front' but p s = record {
+  long = s.long;
+  goal = s.goal;
+  ground = s.ground;
+  reached = s.reached;
+  faced = λ u lt small ne. elim (s.faced u lt small ne) [
+    | inl h ↦ inl (Contains-permutation front front' (entry (cost_at found u) u) p h)
+    | inr h ↦ inr h
+  ];
+}

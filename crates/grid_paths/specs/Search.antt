@@ -148,3 +148,10 @@ pub record Spreads (row : List Step) (cost : ℕ) (found : List ℕ) (front : Li
   pub falls : potential found' len' ≤ potential found len
   pub settles : (edges : List PathEdge) (goals : List Bool) (x : ℕ) → IsRow edges x row → x < length goals → cost_at found x ≡ cost
       → IsSearched edges goals found front x → IsSearched edges goals found' front' (length goals)
+
+-- a node that waited at a cost has left the front: where it costs just that, its row was gone through
+pub record Visits (rows : List (Vec Step)) (cost node : ℕ) (found : List ℕ) (front : List (Reverse (ℕ × ℕ))) (len : ℕ) (found' : List ℕ) (front' : List (Reverse (ℕ × ℕ))) (len' : ℕ) : Type 0 where
+  pub long : length found' ≡ length found
+  pub inside : AreInside front (length found) → AreInside front' (length found)
+  pub falls : potential found' len' ≤ potential found len
+  pub keeps : (edges : List PathEdge) (goals : List Bool) → AreRows edges rows → IsSearched edges goals found (entry cost node ∷ front) (length goals) → IsSearched edges goals found' front' (length goals)

@@ -8,7 +8,7 @@ ghost use Rattle.std.specs.BinaryHeap.{heap_items, heap_len};
 ghost use Rattle.grid_paths.specs.declared.PathEdge.{PathEdge};
 ghost use Rattle.grid_paths.specs.declared.Step.{Step};
 ghost use Rattle.grid_paths.specs.Routes.{EndsBelow, IsLeastRoute, is_route, is_goal};
-ghost use Rattle.grid_paths.specs.Search.{weight_of_lem, Leads, row_at, AreRows, AreRowsTo, Appends, StepsBelow, IsTight, IsBest, entry, IsSearched, AreInside, SettlesBy, IsRow, IsStarted, AreLeastCosts, Walks, cost_at, far, Takes, Spreads};
+ghost use Rattle.grid_paths.specs.Search.{weight_of_lem, Leads, row_at, AreRows, AreRowsTo, Appends, StepsBelow, IsTight, IsBest, entry, IsSearched, AreInside, SettlesBy, IsRow, IsStarted, AreLeastCosts, Walks, cost_at, far, Takes, Spreads, Visits};
 ghost use Rattle.grid_paths.specs.Laws.{EqualMeasureIsEqualPath};
 
 use grid_ids::{Memory, Seq};
@@ -143,14 +143,36 @@ fn add_edge(rows: &mut Vec<Vec<Step>>, place: u32, edge: PathEdge) -> Result<(),
     }
 }
 
-/// As many empty rows.
-fn empty_rows(alloc: Global, nodes: usize) -> Result<Vec<Vec<Step>>, Memory>
-    ensures long { IfOk result (λ rows. length rows.items ≡ nodes) }
+/// One more at a node.
+fn count_one(counts: &mut Vec<u32>, node: u32)
+    requires { node < length counts.old.items }
+    ensures { length counts.new.items ≡ length counts.old.items }
+{
+    let count = counts[node as usize];
+    counts[node as usize] = count.saturating_add(1);
+}
+
+/// For each node how many edges end there: what its row is to hold at most.
+fn degrees(alloc: Global, nodes: usize, edges: &[PathEdge]) -> Result<Vec<u32>, Memory>
+    requires { EndsBelow edges.now nodes }
+    ensures { IfOk result (λ counts. length counts.items ≡ nodes) }
+{
+    let mut counts = vec![in alloc; 0; nodes]?;
+    for edge in edges {
+        count_one(&mut counts, edge.a);
+        count_one(&mut counts, edge.b);
+    }
+    Ok(counts)
+}
+
+/// An empty row for each count, with room for that many steps.
+fn empty_rows(alloc: Global, counts: &[u32]) -> Result<Vec<Vec<Step>>, Memory>
+    ensures long { IfOk result (λ rows. length rows.items ≡ length counts.now) }
     ensures empty { IfOk result (λ rows. (u : ℕ) → row_at rows.items u ≡ []) }
 {
-    let mut rows: Vec<Vec<Step>> = Vec::new(alloc);
-    for _count in 0..nodes {
-        rows.push(Vec::new(alloc))?;
+    let mut rows: Vec<Vec<Step>> = Vec::with_capacity(alloc, counts.len())?;
+    for count in counts {
+        rows.push(Vec::with_capacity(alloc, *count as usize)?)?;
     }
     Ok(rows)
 }
@@ -162,7 +184,8 @@ fn rows_of(alloc: Global, nodes: usize, edges: &[PathEdge]) -> Result<Vec<Vec<St
     ensures long { IfOk result (λ rows. length rows.items ≡ nodes) }
     ensures rows { IfOk result (λ rows. AreRows edges.now rows.items) }
 {
-    let mut rows = empty_rows(alloc, nodes)?;
+    let counts = degrees(alloc, nodes, edges)?;
+    let mut rows = empty_rows(alloc, counts.as_slice())?;
     for (place, edge) in edges.iter().enumerate() {
         add_edge(&mut rows, place as u32, *edge)?;
     }
@@ -243,6 +266,20 @@ impl Search {
         }
         Ok(())
     }
+
+    /// A node that waited at this cost: its row is gone through, unless it was found at a lesser one since.
+    fn visit(&mut self, rows: &[Vec<Step>], cost: u64, node: u32) -> Result<(), Memory>
+        requires long { length rows.now ≡ length self.old.found.items }
+        requires below { StepsBelow rows.now (length rows.now) }
+        requires node { node < length rows.now }
+        ensures { OnOk result (Visits rows.now cost node self.old.found.items (heap_items self.old.front) (heap_len self.old.front)
+            self.new.found.items (heap_items self.new.front) (heap_len self.new.front)) }
+    {
+        if self.found[node as usize] != cost {
+            return Ok(());
+        }
+        self.spread(rows[node as usize].as_slice(), cost)
+    }
 }
 
 /// For each node the least cost of a route to a goal, as far as there is one.
@@ -254,11 +291,7 @@ fn least_costs(alloc: Global, rows: &[Vec<Step>], goals: &[bool]) -> Result<Vec<
 {
     let mut search = Search::start(alloc, goals)?;
     while let Some(next) = search.front.pop() {
-        let (cost, node) = next.0;
-        let place = node as usize;
-        if search.found[place] == cost {
-            search.spread(rows[place].as_slice(), cost)?;
-        }
+        search.visit(rows, next.0.0, next.0.1)?;
     }
     Ok(search.found)
 }

@@ -165,6 +165,7 @@ impl Slots {
     /// that is live is overwritten where that is wanted, and keeps its slot. Onto itself this changes nothing.
     pub fn clone_into(&mut self, from: &Id, to: &Id, overwrite: bool) -> Result<Cloned, SlotFault>
         ensures cloned { IfOk result (IsClone self.old self.new from.now to.now) }
+        ensures itself { from.now ≡ to.now → OnOk result (self.new ≡ self.old) }
         ensures names { OnOk result (names self.new ≡ with_name to.now (names self.old)) }
         ensures accepted { OnOk result (clone_fault self.old from.now to.now overwrite ≡ None) }
         ensures refused { IfErr result (λ fault. fault ≡ unwrap_or (clone_fault self.old from.now to.now overwrite) SlotFault.Memory) }

@@ -2,18 +2,20 @@ use Rattle.std.proofs.Common.{sym, ap, ◌∙◌, ◌++◌}
 use Rattle.std.specs.Prelude.{map}
 use Rattle.std.proofs.lemmas.List.{take_all}
 use Rattle.grid_level.specs.Passing.{nodes}
-use Rattle.grid_groups.proofs.Steps.{internal_at}
+use Rattle.grid_groups.proofs.Steps.{internal_among}
 use Rattle.grid_connect.specs.Indexed.{internal_path_edge, switch_path_edges}
 use Rattle.grid_connect.proofs.Lists.{made_edges}
 use Rattle.grid_connect.proofs.connect.path_edges.Goals as goal
 
 pub internal_edge-requires-clause-first : goal.internal_edge-requires-clause-first
 internal_edge-requires-clause-first c =
-    (internal_at c.args.level.now c.internals-internal-items.result.now c.loop-internal.internal-index _ c.keeps.ensures.ends_are_nodes c.internals-internal-items.ensures c.loop-internal-test.true).0
+    (internal_among (nodes c.in_ok-indices.indices) c.args.level.now c.internals-internal-items.result.now c.loop-internal.internal-index _ (ap nodes (sym c.in_ok-indices.ensures)) c.keeps.ensures.ends_are_nodes
+    c.internals-internal-items.ensures c.loop-internal-test.true).0
 
 pub internal_edge-requires-clause-second : goal.internal_edge-requires-clause-second
 internal_edge-requires-clause-second c =
-    (internal_at c.args.level.now c.internals-internal-items.result.now c.loop-internal.internal-index _ c.keeps.ensures.ends_are_nodes c.internals-internal-items.ensures c.loop-internal-test.true).1
+    (internal_among (nodes c.in_ok-indices.indices) c.args.level.now c.internals-internal-items.result.now c.loop-internal.internal-index _ (ap nodes (sym c.in_ok-indices.ensures)) c.keeps.ensures.ends_are_nodes
+    c.internals-internal-items.ensures c.loop-internal-test.true).1
 
 pub returns : goal.returns
 returns c =

@@ -1,5 +1,7 @@
-use Rattle.std.proofs.Common.{refl, sym, ap, ◌∙◌, Bool, false, get_or, length}
-use Rattle.std.specs.Prelude.{map}
+use Rattle.std.proofs.Common.{refl, sym, ap, subst, ◌∙◌, Bool, false, get_or, length}
+use Rattle.std.specs.Prelude.{map, IsTrue}
+use Rattle.grid_level.specs.VoltageLevel.{VoltageLevel}
+use Rattle.grid_level.specs.Kept.{among}
 use Rattle.std.specs.List.{zip}
 use Rattle.std.proofs.lemmas.List.{take_all}
 use Rattle.grid_level.specs.declared.Switch.{Switch}
@@ -8,14 +10,20 @@ use Rattle.grid_groups.proofs.Steps.{switch_at, zip_at, zip_within, zip_over, ma
 use Rattle.grid_paths.specs.declared.PathEdge.{PathEdge}
 use Rattle.grid_connect.specs.Indexed.{switch_path_edge, switch_path_edges}
 use Rattle.grid_connect.proofs.connect.switch_edges.Goals as goal
+use Rattle.grid_connect.proofs.connect.switch_edges.Goals.{After-switch-item}
+
+-- a switch's ends are nodes
+ends_here : (c : After-switch-item) → IsTrue (among (nodes c.args.indices.now) c.switch-item.result.node1) × IsTrue (among (nodes c.args.indices.now) c.switch-item.result.node2)
+ends_here c =
+    let P : VoltageLevel → Type 0 = λ z. IsTrue (among (nodes z) c.switch-item.result.node1) × IsTrue (among (nodes z) c.switch-item.result.node2) in
+    subst P c.level-level.ensures
+    (switch_at c.level-level.result.now c.switches-switch-items.result.now c.loop-place.place c.switch-item.result c.keeps.ensures.ends_are_nodes c.switches-switch-items.ensures c.loop-place-test.true c.switch-item.is)
 
 pub switch_edge-requires-clause-first : goal.switch_edge-requires-clause-first
-switch_edge-requires-clause-first c =
-    (switch_at c.args.level.now c.switches-switch-items.result.now c.loop-place.place c.switch-item.result c.keeps.ensures.ends_are_nodes c.switches-switch-items.ensures c.loop-place-test.true c.switch-item.is).0
+switch_edge-requires-clause-first c = (ends_here (goal.at.switch_edge-requires-clause-first c).After-switch-item).0
 
 pub switch_edge-requires-clause-second : goal.switch_edge-requires-clause-second
-switch_edge-requires-clause-second c =
-    (switch_at c.args.level.now c.switches-switch-items.result.now c.loop-place.place c.switch-item.result c.keeps.ensures.ends_are_nodes c.switches-switch-items.ensures c.loop-place-test.true c.switch-item.is).1
+switch_edge-requires-clause-second c = (ends_here (goal.at.switch_edge-requires-clause-second c).After-switch-item).1
 
 pub loop-place-preserved : goal.loop-place-preserved
 loop-place-preserved c =
@@ -24,8 +32,8 @@ loop-place-preserved c =
     let i = c.loop-place.place in
     let s = c.switch-item.result in
     let f = get_or flags i false in
-    let long = c.requires ∙ ap (λ z. length z) (sym c.switches-switch-items.ensures) in
-    let edge : Switch × Bool → PathEdge = λ pair. switch_path_edge (nodes c.args.level.now) pair.0 pair.1 in
+    let long = c.requires ∙ ap (λ z. length z) (sym (c.switches-switch-items.ensures ∙ ap (λ (l : VoltageLevel). l.switches) c.level-level.ensures)) in
+    let edge : Switch × Bool → PathEdge = λ pair. switch_path_edge (nodes c.args.indices.now) pair.0 pair.1 in
     c.in_ok-push.ensures.items
     ∙ map_next edge (zip ss flags) i (s, f) c.loop-place.edges.items c.switch_edge.result (zip_within ss flags i c.loop-place-test.true long)
     (zip_at ss flags i s f c.loop-place-test.true long c.switch-item.is refl) c.loop-place.invariant c.switch_edge.ensures
@@ -35,6 +43,6 @@ unfolding switch_path_edges
 returns c =
     let ss = c.switches-switch-items.result.now in
     let flags = c.args.states.now in
-    let edge : Switch × Bool → PathEdge = λ pair. switch_path_edge (nodes c.args.level.now) pair.0 pair.1 in
+    let edge : Switch × Bool → PathEdge = λ pair. switch_path_edge (nodes c.args.indices.now) pair.0 pair.1 in
     c.loop-place.invariant
-    ∙ ap (map edge) (take_all c.loop-place.place (zip ss flags) (zip_over ss flags c.loop-place.place c.loop-place-test.false) ∙ ap (λ z. zip z flags) c.switches-switch-items.ensures)
+    ∙ ap (map edge) (take_all c.loop-place.place (zip ss flags) (zip_over ss flags c.loop-place.place c.loop-place-test.false) ∙ ap (λ z. zip z flags) (c.switches-switch-items.ensures ∙ ap (λ (l : VoltageLevel). l.switches) c.level-level.ensures))

@@ -4,4 +4,4 @@ use Rattle.grid_connect.specs.Indexed.{marked_busbar}
 use Rattle.grid_connect.proofs.disconnect.first_busbar.Given as goal
 
 abbrev pub invariant-loop-placed : goal.invariant-loop-placed
-invariant-loop-placed l = marked_busbar (nodes l.level) l.marks (take l.placed-index l.placed-items) ≡ None
+invariant-loop-placed l = marked_busbar (nodes l.indices) l.marks (take l.placed-index l.placed-items) ≡ None

@@ -4,6 +4,7 @@ use Rattle.std.specs.Option.{option_copied}
 use Rattle.std.proofs.lemmas.Bool.{true≢false, false≢true}
 use Rattle.grid_graph.proofs.Reach.{In}
 use Rattle.grid_level.specs.declared.Placed.{Placed}
+use Rattle.grid_level.specs.VoltageLevel.{VoltageLevel}
 use Rattle.grid_level.specs.Passing.{nodes, positioned, is_connected}
 use Rattle.grid_groups.proofs.Indices.{among_In}
 use Rattle.grid_connect.specs.Plans.{core_of, core_busbar, leaving, opens_or, disconnect_plan_of}
@@ -33,6 +34,7 @@ bus_bar : (c : After-is_none) → option_copied c.first_busbar.result ≡ marked
 bus_bar c =
     let level = c.args.level.now in
     c.first_busbar.ensures
+    ∙ ap (λ (l : VoltageLevel). marked_busbar (nodes l) c.as_slice-2.result.now l.placed) c.in_ok-indices.ensures
     ∙ ap (λ z. marked_busbar (nodes level) z level.placed)
     (c.as_slice-2.ensures.value ∙ c.in_ok-joined.ensures.marks ∙ ap (λ z. marks_where level z c.args.node) (c.as_slice.ensures.value ∙ c.in_ok-closed.ensures))
 
@@ -51,6 +53,7 @@ core_bar : (c : After-first_busbar-2) → option_copied c.first_busbar-2.result 
 core_bar c =
     let level = c.args.level.now in
     c.first_busbar-2.ensures
+    ∙ ap (λ (l : VoltageLevel). marked_busbar (nodes l) c.as_slice-4.result.now l.placed) c.in_ok-indices.ensures
     ∙ ap (λ z. marked_busbar (nodes level) z level.placed) (core_cells c)
     ∙ bar_same level c.args.states.now c.args.node c.keeps.ensures c.requires.flags (here (goal.at.After-first_busbar-2 c).After-is_none)
 
@@ -82,6 +85,7 @@ opened c =
     let at = (goal.at.In_ok-leaving-in-None c).After-first_busbar-2 in
     let places : c.in_ok-leaving-in-None.field-0 ≡ leaving now (core_of now c.args.node) =
     c.in_ok-leaving-in-None.ensures
+    ∙ ap (λ (l : VoltageLevel). leaving_marked (nodes l) c.as_slice-in-None.result.now 0 l.switches c.args.states.now) c.in_ok-indices.ensures
     ∙ ap (λ z. leaving_marked (nodes level) z 0 level.switches c.args.states.now)
     (c.as_slice-in-None.ensures.value ∙ c.in_ok-core.ensures.marks ∙ ap (λ z. marks_where level z c.args.node) (c.as_slice-3.ensures.value ∙ c.in_ok-closed-2.ensures))
     ∙ leaving_same level c.args.states.now c.args.node c.keeps.ensures c.requires.flags (among_In c.args.node (nodes level) c.requires.node) in

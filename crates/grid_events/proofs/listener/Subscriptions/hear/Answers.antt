@@ -1,4 +1,4 @@
-use Rattle.std.proofs.Common.{refl, ap, ◌∙◌, arith, map}
+use Rattle.std.proofs.Common.{refl, ap, ◌∙◌, arith, map, length}
 use Rattle.grid_events.specs.Hearing.{hearings, first_told, after_event}
 use Rattle.grid_events.proofs.Telling.{told_more, told_same, told_all, hearings_long}
 use Rattle.grid_events.proofs.listener.Subscriptions.hear.Goals as goal
@@ -9,8 +9,11 @@ loop-place-init g c = refl
 
 pub returns-in-Err-clause-err : goal.returns-in-Err-clause-err
 returns-in-Err-clause-err g c =
-    let heard = g.L.Listener.heard in (
+    let heard = g.L.Listener.heard in
+    let size = hearings_long c.args.event.now heard c.args.self.now in
+    let long = ap length c.self.view_is in (
       c.loop-place.place,
+      omega (arith, size, long, c.loop-place-test.true, c.len-place-end.ensures, c.self.inside.items.ok.0),
       told_same c.args.event.now heard c.loop-place.self-inside.items.items c.loop-place.place c.index_mut.result.now c.hear.new.self c.index_mut.ensures.value c.in-Err.ensures.err
           ∙ c.loop-place.invariant ∙ ap (λ subs. first_told c.args.event.now c.loop-place.place (hearings heard subs)) c.self.view_is,
     )
