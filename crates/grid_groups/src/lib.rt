@@ -4,5 +4,5 @@
 mod grouping;
 mod joining;
 
-pub use grouping::{Group, Groups, Places, group_nodes, leader, terminals_at};
+pub use grouping::{Group, Groups, Places, group_nodes, leader, terminal_labels, terminals_at};
 pub use joining::{index_of, labels};
