@@ -1,6 +1,9 @@
 //! The components of a whole network's buses: which buses the branches join, by the bus views of all levels.
 #![tactic(auto)]
 
+mod numbering;
+mod pairs;
+
 ghost use Rattle.std.proofs.Common.{rules};
 
 use grid_ids::{Duplicate, Same, Seq};
