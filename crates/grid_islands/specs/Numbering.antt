@@ -52,7 +52,8 @@ node_within (negsuc node) = None
 
 -- what a row has for a node of a list
 unfoldable pub number_of_node : List ℕ → List (Option ℕ) → ℤ → Option ℕ
-number_of_node ns row node = option_and_then (λ number. option_and_then (λ index. slice_index_or row index None) (position (λ n. n == number) ns)) (node_within node)
+number_of_node ns row (pos node) = option_and_then (λ index. slice_index_or row index None) (position (λ n. n == node) ns)
+number_of_node ns row (negsuc node) = None
 
 -- what the row of an end's level has for its node
 unfoldable pub number_of_end : Network → List (List (Option ℕ)) → End → Option ℕ

@@ -26,15 +26,19 @@ fn node_within(node: i64) -> Option<u16>
 }
 
 // What a level's row has for a node.
-#[tactic(auto, unfolding(crate::specs::Numbering::number_of_node))]
 fn number_of_node(level: &Level, row: &[Option<u32>], node: i64) -> Option<u32>
     ensures { result ≡ numbering.number_of_node (nodes level.now) row.now node }
 {
-    let index = level.index_of(node_within(node)?)?;
-    match row.get(index as usize) {
-        Some(number) => *number,
-        None => None,
-    }
+    level.keeps();
+    let number = match node_within(node) {
+        Some(number) => number,
+        None => return None,
+    };
+    let index = match level.index_of(number) {
+        Some(index) => index as usize,
+        None => return None,
+    };
+    if index < row.len() { row[index] } else { None }
 }
 
 // The number of the bus in which an end of a branch stands.
