@@ -3,10 +3,13 @@
 
 mod numbering;
 mod pairs;
+mod sizes;
+mod top;
 
 ghost use Rattle.std.proofs.Common.{rules};
 
 use grid_ids::{Duplicate, Same, Seq};
+pub use top::level_components;
 
 /// A bus with its component over the whole network.
 #[derive(Clone, Copy, Debug, PartialEq, Eq)]

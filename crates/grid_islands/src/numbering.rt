@@ -65,7 +65,8 @@ pub(crate) fn number_buses(
 ) -> Result<Numbered, Memory>
     requires rows { length opened.now ≡ length (levels structure.now) }
     requires flags { FlagsFit structure.now opened.now }
-    ensures { IfOk result (λ all. all ≡ numbering.numbered structure.now opened.now) }
+    ensures value { IfOk result (λ all. all ≡ numbering.numbered structure.now opened.now) }
+    ensures few { IfOk result (λ all. all.count < 2 ^ 32) }
 {
     let mut rows = Rows::empty(alloc);
     let mut firsts = Firsts::empty(alloc);
