@@ -1,4 +1,5 @@
 use Rattle.std.proofs.Common.{◌≡◌, refl, sym, ap, ◌∙◌, ℕ, ◌<◌, length, get_or, arith, None}
+use Rattle.std.proofs.lemmas.List.{length-map}
 use Rattle.std.specs.Prelude.{map}
 use Rattle.grid_graph.specs.Components.{places}
 use Rattle.std.proofs.lemmas.List.FromFn.{length-range_with_len}
@@ -6,7 +7,7 @@ use Rattle.grid_level.specs.Passing.{nodes, bus, positioned}
 use Rattle.grid_groups.specs.Labels.{label_of, labels_placed}
 use Rattle.grid_groups.proofs.Under.{bus_stands, long, below}
 use Rattle.grid_busview.specs.Labelled.{nothing, count_with, led_place}
-use Rattle.grid_busview.proofs.Holding.{long_map, node_buses_as}
+use Rattle.grid_busview.proofs.Holding.{node_buses_as}
 use Rattle.grid_busview.proofs.by_node.node_buses_from.Goals as goal
 
 pub terminal_labels-requires-clause-long : goal.terminal_labels-requires-clause-long
@@ -24,7 +25,7 @@ terminal_labels-requires-clause-below c =
 pub count_labels-requires-clause-keys : goal.count_labels-requires-clause-keys
 unfolding labels_placed
 count_labels-requires-clause-keys c =
-    ap length (c.slice.ensures ∙ c.in_ok-keys.ensures.each) ∙ long_map (λ p. label_of (nodes c.args.level.now) c.args.labels.now p.node) c.args.level.now.placed ∙ ap length (sym c.placed.ensures)
+    ap length (c.slice.ensures ∙ c.in_ok-keys.ensures.each) ∙ length-map c.args.level.now.placed (λ p. label_of (nodes c.args.level.now) c.args.labels.now p.node) ∙ ap length (sym c.placed.ensures)
 
 pub count_labels-requires-clause-below : goal.count_labels-requires-clause-below
 count_labels-requires-clause-below c =
@@ -55,7 +56,7 @@ places_by-requires c =
     let opened = c.args.states.now in
     let labels = c.args.labels.now in
     let inside = below bus level (positioned level opened) labels c.keeps.ensures (bus_stands level opened c.keeps.ensures c.requires.states) c.requires.labels in
-    let many : length c.slice-2.result.now ≡ length labels = ap length (c.slice-2.ensures) ∙ ap length c.in_ok-led.ensures.places ∙ long_map (led_place labels c.deref.result.now) (places (length labels)) ∙ length-range_with_len 0 (length labels) in
+    let many : length c.slice-2.result.now ≡ length labels = ap length (c.slice-2.ensures) ∙ ap length c.in_ok-led.ensures.places ∙ length-map (places (length labels)) (led_place labels c.deref.result.now) ∙ length-range_with_len 0 (length labels) in
     λ k lt. omega (arith, inside k lt, many)
 
 pub returns : goal.returns
