@@ -1,10 +1,12 @@
 //! The bus view of a level: the groups of joined nodes that are buses, with their sums of watts.
 #![tactic(auto)]
 
+mod by_node;
 mod parts;
 mod view;
 mod watts;
 
+pub use by_node::node_buses;
 use grid_ids::{Id, Seq};
 use grid_level::{Nodes, Terminals};
 pub use view::{bus_view, bus_view_ignores_retained};
@@ -34,6 +36,18 @@ pub struct BusView {
     /// The level's id.
     pub level: Id,
     pub buses: ViewBuses,
+}
+
+/// For each node of a level, by rising number, the place of a bus among the level's buses, or none.
+pub type BusPlaces = Seq<Option<u32>>;
+
+/// The buses of a level by their least nodes, and the bus of each node.
+#[derive(Debug, Drop)]
+pub struct NodeBuses {
+    /// The least node of each bus, rising.
+    pub leasts: Nodes,
+    /// For each node of the level, by rising number, the place of the bus that holds it; none where no bus does.
+    pub places: BusPlaces,
 }
 
 #[cfg(test)]

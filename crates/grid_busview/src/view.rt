@@ -14,7 +14,7 @@ use grid_level::{Level, Stand};
 use std::alloc::Global;
 
 // Which switches pass: the closed ones.
-fn closed(alloc: Global, opened: &[bool]) -> Result<Vec<bool>, Memory>
+pub(crate) fn closed(alloc: Global, opened: &[bool]) -> Result<Vec<bool>, Memory>
     ensures { IfOk result (λ closed. closed.items ≡ map not opened.now) }
 {
     match opened.iter().map(|opened| !*opened).collect(alloc) {
@@ -25,14 +25,14 @@ fn closed(alloc: Global, opened: &[bool]) -> Result<Vec<bool>, Memory>
 
 // How many of each kind stand at some nodes. A branch end is a feeder.
 #[derive(Clone, Copy)]
-struct Count {
-    busbars: usize,
-    branch_ends: usize,
-    feeders: usize,
+pub(crate) struct Count {
+    pub(crate) busbars: usize,
+    pub(crate) branch_ends: usize,
+    pub(crate) feeders: usize,
 }
 
 impl Count {
-    fn add(&mut self, stand: &Stand)
+    pub(crate) fn add(&mut self, stand: &Stand)
         requires busbars { self.old.busbars < usize.MAX }
         requires branch_ends { self.old.branch_ends < usize.MAX }
         requires feeders { self.old.feeders < usize.MAX }
@@ -66,7 +66,7 @@ fn count_at(level: &Level, places: &[u32]) -> Count
 }
 
 // Whether nodes with these counts are a bus.
-fn makes_bus(count: Count) -> bool
+pub(crate) fn makes_bus(count: Count) -> bool
     ensures { result ≡ is_enough count }
 {
     (count.busbars >= 1 && count.feeders >= 1) || (count.branch_ends >= 1 && count.feeders >= 2)

@@ -55,7 +55,7 @@ nodes_In ns (p ∷ ps) h zero lt = h 0 p (omega arith)
 nodes_In ns (p ∷ ps) h (suc k) lt = nodes_In ns ps (λ i d less. h (suc i) d (omega arith)) k (omega arith)
 
 module _ (rule : Rule) (level stands : VoltageLevel) (labels : List ℕ) (keeps : KeepsLimits level) (s : Stands rule level stands) (labelled : labels ≡ labels_of (graph_under rule stands)) where
-  among : labels ≡ labels_of (graph_among (nodes level) (passing rule stands))
+  pub among : labels ≡ labels_of (graph_among (nodes level) (passing rule stands))
   unfolding graph_under
   among = labelled ∙ ap (λ z. labels_of (graph_among z (passing rule stands))) s.same_nodes
 

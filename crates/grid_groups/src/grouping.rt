@@ -63,8 +63,8 @@ fn rows_by(alloc: Global, keys: &[u32], count: u32) -> Result<Vec<Places>, Memor
     Ok(rows)
 }
 
-// The label of each terminal's node.
-fn terminal_labels(alloc: Global, level: &Level, labels: &[u32]) -> Result<Places, Memory>
+/// The label of each terminal's node, by rising node.
+pub fn terminal_labels(alloc: Global, level: &Level, labels: &[u32]) -> Result<Places, Memory>
     requires long { length labels.now ≡ length (nodes_of level.now) }
     requires below { (k : ℕ) → k < length labels.now → slice_index labels.now k < length labels.now }
     ensures each { IfOk result (λ keys. keys ≡ labels_placed level.now labels.now) }

@@ -5,6 +5,6 @@ mod grouping;
 mod joining;
 mod node_indices;
 
-pub use grouping::{Group, Groups, Places, group_nodes, leader, terminals_at};
+pub use grouping::{Group, Groups, Places, group_nodes, leader, terminal_labels, terminals_at};
 pub use joining::{index_of, labels};
 pub use node_indices::NodeIndices;
