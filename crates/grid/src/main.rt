@@ -1,16 +1,20 @@
 //! The program: real streams round the top call.
 #![tactic(auto)]
 
+mod why;
+
 use grid_cli::{Status, grid_once};
+use grid_json::Place;
 use grid_source::{StdSink, StdSource};
 use std::process::ExitCode;
 use std::{env, io};
 use thiserror::Error;
+use why::{Why, why_of};
 
 /// Why a run was not done: the line on standard error.
 #[derive(Debug, Drop, Error)]
 enum Fault {
-    #[error("grid: usage: grid replay < JOB > REPORT (replay is the one word that there is)")]
+    #[error("grid: usage: grid check < JOB (counts what a job has), or grid replay < JOB > REPORT (runs a job)")]
     Usage,
     #[error("grid: standard input could not be read to its end; nothing was written")]
     ReadFault,
@@ -18,12 +22,23 @@ enum Fault {
     TooLong,
     #[error("grid: the input is not JSON; nothing was written")]
     BadJson,
-    #[error("grid: the input is JSON, but no small job (one level and one script, every member given: docs/formats.md); nothing was written")]
+    #[error("grid: the job's first fault is at {}: {why}; nothing was written (docs/formats.md)", place_text(.place))]
+    BadJob { place: Place, why: Why },
+    #[error("grid: the job is sound, but it cannot be run yet: it may have one worker at most, only the commands open, close and bus_view, no listener and no order; nothing was written")]
     NotBuilt,
-    #[error("grid: standard output could not be written; the report is cut off")]
+    #[error("grid: standard output could not be written; the output is cut off")]
     WriteFault,
-    #[error("grid: memory ran out; the report is cut off or missing")]
+    #[error("grid: memory ran out; the output is cut off or missing")]
     NoMemory,
+}
+
+/// Where a fault stands. The place of the whole job is empty.
+fn place_text(place: &Place) -> &str {
+    if place.text().is_empty() {
+        "its top"
+    } else {
+        place.text()
+    }
 }
 
 /// The exit status, and what is told.
@@ -34,6 +49,13 @@ fn ending(status: Status) -> (u8, Option<Fault>) {
         Status::ReadFault => (3, Some(Fault::ReadFault)),
         Status::TooLong => (4, Some(Fault::TooLong)),
         Status::BadJson => (5, Some(Fault::BadJson)),
+        Status::BadJob { place, reason } => (
+            6,
+            Some(Fault::BadJob {
+                place,
+                why: why_of(reason),
+            }),
+        ),
         Status::WriteFault => (7, Some(Fault::WriteFault)),
         Status::NoMemory => (8, Some(Fault::NoMemory)),
         Status::NotBuilt => (9, Some(Fault::NotBuilt)),

@@ -1,21 +1,20 @@
 -- The status that the bytes ask for, from what a run has read and written.
-use Rattle.std.proofs.Common.{◌≡◌, ℕ, ◌≤◌, ◌<◌, ◌++◌, List, [], length, Option, None, Some, Ok, Err, refl, sym, ap, ◌∙◌, subst, append-nil, length-append, arith}
+use Rattle.std.proofs.Common.{◌≡◌, ℕ, ◌<◌, ◌++◌, List, length, Option, None, Some, refl, sym, ap, ◌∙◌, subst, append-nil, length-append, arith}
 use Rattle.std.specs.Io.KnownBytes.{Consumes, IsAtEnd}
 use Rattle.std.proofs.lemmas.Bool.{le-ltb, lt-ltb}
 use Rattle.grid_source.specs.declared.whole.TheConstants.{MOST}
 use Rattle.grid_cli.specs.declared.words.Form.{Form}
 use Rattle.grid_cli.specs.declared.once.Status.{Status}
 use Rattle.grid_cli.specs.declared.once.Status.TheVariants as statuses
-use Rattle.grid_cli.specs.Small.{job_of}
-use Rattle.grid_cli.specs.Once.{ReadsWhole, Outcome, OutcomeOf, status_for, wanted, IsWanted, Exact}
+use Rattle.grid_cli.specs.Once.{ReadsWhole, Outcome, OutcomeOf, output, status_for, wanted, IsWanted, Exact}
 
 all_of : (bytes b : List ℕ) (left' : Option (List ℕ)) → Consumes (Some bytes) left' b → IsAtEnd left' → bytes ≡ b
 all_of bytes b None p q = absurd p
 all_of bytes b (Some r) p q = p ∙ ap (λ l. b ++ l) q ∙ append-nil b
 
 -- the bytes that were read whole decide
-decided : (bytes b : List ℕ) (left' : Option (List ℕ)) → ReadsWhole (Some bytes) left' b → wanted bytes ≡ status_for (job_of b)
-decided bytes b left' r =
+decided : (form : Form) (bytes b : List ℕ) (left' : Option (List ℕ)) → ReadsWhole (Some bytes) left' b → wanted form bytes ≡ status_for (output form b)
+decided form bytes b left' r =
     let e : bytes ≡ b = all_of bytes b left' r.read.consumed r.read.end in
     let small = le-ltb MOST (length b) r.within in
     rw (e, small) refl
@@ -24,17 +23,21 @@ front_long : (bytes b : List ℕ) (left' : Option (List ℕ)) → MOST < length 
 front_long bytes b None long p = absurd p
 front_long bytes b (Some r) long p = omega (arith, ap length p, length-append b r)
 
-exact_some : (bytes : List ℕ) (left' old new : Option (List ℕ)) (s : Status) → OutcomeOf (Some bytes) left' old new s → IsWanted (wanted bytes) s
-exact_some bytes left' old new statuses.Done o = sym (decided bytes o.0 left' o.2 ∙ ap status_for o.3)
-exact_some bytes left' old new statuses.Usage o = absurd o
-exact_some bytes left' old new statuses.ReadFault o = tt
-exact_some bytes left' old new statuses.TooLong o = rw (lt-ltb MOST (length bytes) (front_long bytes o.0.bytes left' o.0.more o.0.consumed)) refl
-exact_some bytes left' old new statuses.BadJson o = sym (decided bytes o.0.0 left' o.0.1 ∙ ap status_for o.0.2)
-exact_some bytes left' old new statuses.NotBuilt o = sym (decided bytes o.0.0 left' o.0.1 ∙ ap status_for o.0.2)
-exact_some bytes left' old new statuses.WriteFault o = decided bytes o.0 left' o.2 ∙ ap status_for o.3
-exact_some bytes left' old new statuses.NoMemory o = tt
+exact_some : (form : Form) (bytes : List ℕ) (left' old new : Option (List ℕ)) (s : Status) → OutcomeOf form (Some bytes) left' old new s → IsWanted (wanted form bytes) s
+exact_some form bytes left' old new statuses.Done o = sym (decided form bytes o.0 left' o.2 ∙ ap status_for o.3)
+exact_some form bytes left' old new statuses.Usage o = absurd o
+exact_some form bytes left' old new statuses.ReadFault o = tt
+exact_some form bytes left' old new statuses.TooLong o = rw (lt-ltb MOST (length bytes) (front_long bytes o.0.bytes left' o.0.more o.0.consumed)) refl
+exact_some form bytes left' old new statuses.BadJson o = sym (decided form bytes o.0.0 left' o.0.1 ∙ ap status_for o.0.2)
+exact_some form bytes left' old new (statuses.BadJob place reason) o = sym (decided form bytes o.0.0 left' o.0.1 ∙ ap status_for o.0.2)
+exact_some form bytes left' old new statuses.NotBuilt o = sym (decided form bytes o.0.0 left' o.0.1 ∙ ap status_for o.0.2)
+exact_some form bytes left' old new statuses.WriteFault o = decided form bytes o.0 left' o.2 ∙ ap status_for o.3
+exact_some form bytes left' old new statuses.NoMemory o = tt
 
 pub exact : (form : Option Form) (left left' old new : Option (List ℕ)) (s : Status) → Outcome form left left' old new s → Exact form left s
 exact None left left' old new s o f bytes e l = absurd cc
 exact (Some g) None left' old new s o f bytes e l = absurd cc
-exact (Some g) (Some b) left' old new s o f bytes e l = let h : b ≡ bytes = cc in subst (λ x. IsWanted (wanted x) s) h (exact_some b left' old new s o)
+exact (Some g) (Some b) left' old new s o f bytes e l =
+    let h : b ≡ bytes = cc in
+    let same : g ≡ f = cc in
+    subst (λ x. IsWanted (wanted f x) s) h (subst (λ x. IsWanted (wanted x b) s) same (exact_some g b left' old new s o))

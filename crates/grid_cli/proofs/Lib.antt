@@ -1,7 +1,7 @@
-pub mod Refusals
-pub mod Loads
-pub mod Differing
-pub mod Only
-pub mod Stepping
 pub mod Begun
+pub mod Fitting
+pub mod Stepping
+pub mod Commanding
+pub mod Showing
+pub mod Written
 pub mod Exact

@@ -1,7 +1,6 @@
-pub mod Draft
-pub mod Loading
-pub mod Small
-pub mod Machine
-pub mod Report
 pub mod Words
+pub mod Built
+pub mod Machine
+pub mod Counts
+pub mod Report
 pub mod Once

@@ -1,21 +1,26 @@
--- The report of a small job, byte for byte.
-use Rattle.std.specs.Prelude.{ℕ, List, [], ◌∷◌, ◌++◌, codes, decimal}
+-- The report of a job that is run, byte for byte.
+use Rattle.std.specs.Prelude.{ℕ, List, [], ◌++◌, Option, Some, None, codes, decimal}
 use Rattle.std.specs.List.{flat_map}
-use Rattle.grid_busview.specs.declared.BusView.{BusView}
 use Rattle.grid_report.specs.Lines.{bus_lines, count_text, level_text}
-use Rattle.grid_cli.specs.declared.draft.Command.{Command}
-use Rattle.grid_cli.specs.declared.draft.Command.TheVariants as commands
-use Rattle.grid_cli.specs.declared.machine.Answer.{Answer}
-use Rattle.grid_cli.specs.declared.machine.Answer.TheVariants as answers
-use Rattle.grid_cli.specs.declared.machine.Step.{Step}
-use Rattle.grid_cli.specs.declared.small.SmallJob.{SmallJob}
+use Rattle.grid_cli.specs.declared.built.Command.{Command}
+use Rattle.grid_cli.specs.declared.built.Command.TheVariants as commands
+use Rattle.grid_cli.specs.declared.built.BuiltJob.{BuiltJob}
+use Rattle.grid_cli.specs.declared.running.Answer.{Answer}
+use Rattle.grid_cli.specs.declared.running.Answer.TheVariants as answers
+use Rattle.grid_cli.specs.declared.running.Step.{Step}
 use Rattle.grid_cli.specs.declared.report.Block.{Block}
 use Rattle.grid_cli.specs.declared.report.Block.TheVariants as blocks
-use Rattle.grid_cli.specs.Machine.{opening, seen, steps_from, flags_after}
+use Rattle.grid_cli.specs.Built.{commands_in}
+use Rattle.grid_cli.specs.Machine.{opening, steps_from, rows_after, views}
 
--- the number of the one worker for each command, then the line of that worker
-unfoldable pub head_text : List Command → List ℕ
-head_text script = codes "order" ++ flat_map (λ c. codes " 0") script ++ codes "\nworker 0\n"
+-- the number of the one worker for each command
+unfoldable pub order_text : List Command → List ℕ
+order_text script = codes "order" ++ flat_map (λ c. codes " 0") script ++ codes "\n"
+
+-- the line of the one worker, where there is a worker
+abbrev pub worker_text : Option (List Command) → List ℕ
+worker_text None = []
+worker_text (Some script) = codes "worker 0\n"
 
 abbrev pub command_text : Command → List ℕ
 command_text (commands.Open switch) = codes "open " ++ switch
@@ -41,18 +46,22 @@ unfoldable pub step_text : Step → List ℕ
 step_text s =
     decimal s.number ++ codes " InitialState " ++ command_text s.command ++ codes ": " ++ answer_text s.answer ++ codes "\n" ++ detail_text s.answer
 
--- the variant with its one level, and the end
-unfoldable pub tail_text : BusView → List ℕ
-tail_text view = codes "variant InitialState\n" ++ level_text view ++ codes "end\n"
+-- every command with its answer after the commands before it, from the opening positions
+unfoldable pub replies_text : BuiltJob → List ℕ
+replies_text job = flat_map step_text (steps_from job.network (opening job.network) 1 (commands_in job.script))
 
--- every command with its answer after the commands before it, from the opening positions, and the view that all leave
-unfoldable pub report : SmallJob → List ℕ
+-- the views of all levels that all commands leave
+unfoldable pub left_text : BuiltJob → List ℕ
+left_text job = flat_map level_text (views job.network (rows_after job.network (opening job.network) (commands_in job.script)))
+
+unfoldable pub report : BuiltJob → List ℕ
 report job =
-    head_text job.commands
-    ++ flat_map step_text (steps_from job.level (opening job.level) 1 job.commands)
-    ++ tail_text (seen job.level (flags_after job.level (opening job.level) job.commands))
+    order_text (commands_in job.script) ++ worker_text job.script ++ replies_text job ++ codes "variant InitialState\n" ++ left_text job ++ codes "end\n"
 
-unfoldable pub block_text : Block → List ℕ
-block_text (blocks.Head script) = head_text script.now
-block_text (blocks.Step step) = step_text step.now
-block_text (blocks.Tail view) = tail_text view.now
+abbrev pub block_text : Block → List ℕ
+block_text (blocks.Order script) = order_text script.now
+block_text blocks.Worker = codes "worker 0\n"
+block_text (blocks.Reply step) = step_text step.now
+block_text blocks.Variant = codes "variant InitialState\n"
+block_text (blocks.Level view) = level_text view.now
+block_text blocks.End = codes "end\n"

@@ -1,16 +1,13 @@
 //! The top call.
 #![tactic(auto)]
 
-mod draft;
-mod machine;
+mod built;
+mod counts;
 mod once;
 mod report;
-mod small;
+mod running;
 mod words;
 
-pub use draft::Command;
-pub use machine::{Answer, Step};
+pub use built::{BuiltJob, Command};
 pub use once::{Status, grid_once};
-pub use report::{Block, write_report};
-pub use small::{JobFault, SmallJob, read_job};
 pub use words::{Form, read_words};

@@ -1,20 +1,24 @@
 // The top call.
-ghost use Rattle.std.specs.Prelude.{◌≡◌, ◌↔◌, None, map, string_bytes};
+ghost use Rattle.std.specs.Prelude.{◌≡◌, ◌↔◌, ◌≤◌, None, Err, IfOk, IfErr, map, string_bytes};
 ghost use Rattle.grid_source.specs.Causes.{Rose};
+ghost use Rattle.grid_json.specs.Job.{command_total};
 ghost use Rattle.grid_cli.specs.Words.{form_of};
-ghost use Rattle.grid_cli.specs.Once.{Outcome, Exact, Writes};
+ghost use Rattle.grid_cli.specs.Once.{Outcome, Exact, Answers, ReadsNoJob, ReadsJob, status_after, text_of};
 
+use crate::built::built;
+use crate::counts::write_counts;
 use crate::report::write_report;
-use crate::small::{JobFault, SmallJob, read_job};
-use crate::words::read_words;
+use crate::words::{Form, read_words};
+use grid_ids::Memory;
+use grid_json::{Job, JobFault, Place, Reason, read_job};
 use grid_report::ReportFault;
 use grid_source::{ReadAllFault, Sink, Source, read_all};
 use std::alloc::Global;
 
 /// How a run ends. The numbers are the program's exit statuses.
-#[derive(Clone, Copy, Debug, PartialEq, Eq)]
+#[derive(Debug, Drop)]
 pub enum Status {
-    /// 0: the report was written whole.
+    /// 0: the output was written whole.
     Done,
     /// 2: the words are no form. Nothing was read.
     Usage,
@@ -24,12 +28,14 @@ pub enum Status {
     TooLong,
     /// 5: the input is no JSON. Nothing was written.
     BadJson,
-    /// 9: the input is JSON, but no small job. Nothing was written.
-    NotBuilt,
-    /// 7: the sink failed. A front of the report was written.
+    /// 6: the input is JSON, but no job: its first fault, and where that stands. Nothing was written.
+    BadJob { place: Place, reason: Reason },
+    /// 7: the sink failed. A front of the output was written.
     WriteFault,
-    /// 8: memory is wanting. A front of the report was written, or nothing.
+    /// 8: memory is wanting. A front of the output was written, or nothing.
     NoMemory,
+    /// 9: the input is a job that is not run yet. Nothing was written.
+    NotBuilt,
 }
 
 /// Does what the words ask for, from the source to the sink.
@@ -56,6 +62,7 @@ pub fn grid_once<S: Source, K: Sink>(
 }
 
 // The same, without what follows from the other clauses.
+#[tactic(auto, using(crate::proofs::Written::answered, crate::proofs::Written::unread))]
 fn run<S: Source, K: Sink>(alloc: Global, words: &[String], source: &mut S, sink: &mut K) -> Status
     ensures usage { (result ≡ Status.Usage) ↔ (form_of (map string_bytes words.now) ≡ None) }
     ensures outcome { Outcome (form_of (map string_bytes words.now)) (S.left source.old)
@@ -64,30 +71,67 @@ fn run<S: Source, K: Sink>(alloc: Global, words: &[String], source: &mut S, sink
     ensures write_fault { result ≡ Status.WriteFault → Rose (K.faults sink.old) (K.faults sink.new) }
     ensures untouched { result ≡ Status.Usage → S.faults source.new ≡ S.faults source.old }
 {
-    let Some(_form) = read_words(words) else {
+    let Some(form) = read_words(words) else {
         return Status::Usage;
     };
-    let bytes = match read_all(alloc, source) {
-        Ok(bytes) => bytes,
-        Err(ReadAllFault::Fault) => return Status::ReadFault,
-        Err(ReadAllFault::TooLong) => return Status::TooLong,
-        Err(ReadAllFault::Memory) => return Status::NoMemory,
-    };
-    let job = match read_job(alloc, bytes.as_slice()) {
-        Ok(job) => job,
-        Err(JobFault::BadJson) => return Status::BadJson,
-        Err(JobFault::NotBuilt) => return Status::NotBuilt,
-        Err(JobFault::Memory) => return Status::NoMemory,
-    };
-    write_job(alloc, &job, sink)
+    match read_from(alloc, source) {
+        Ok(job) => answer(alloc, form, job, sink),
+        Err(status) => status,
+    }
 }
 
-// Writes the report of a job.
-fn write_job<K: Sink>(alloc: Global, job: &SmallJob, sink: &mut K) -> Status
-    ensures written { Writes job.now (K.written sink.old) (K.written sink.new) result }
+// The job of the source's bytes, which are given up then, or why there is none.
+fn read_from<S: Source>(alloc: Global, source: &mut S) -> Result<Job, Status>
+    ensures job { IfOk result (ReadsJob (S.left source.old) (S.left source.new)) }
+    ensures few { IfOk result (λ job. command_total job.scripts ≤ 20000) }
+    ensures none { IfErr result (ReadsNoJob (S.left source.old) (S.left source.new)) }
+    ensures fault { result ≡ Err Status.ReadFault → Rose (S.faults source.old) (S.faults source.new) }
+{
+    let bytes = match read_all(alloc, source) {
+        Ok(bytes) => bytes,
+        Err(ReadAllFault::Fault) => return Err(Status::ReadFault),
+        Err(ReadAllFault::TooLong) => return Err(Status::TooLong),
+        Err(ReadAllFault::Memory) => return Err(Status::NoMemory),
+    };
+    match read_job(alloc, bytes.as_slice()) {
+        Ok(job) => Ok(job),
+        Err(JobFault::BadJson) => Err(Status::BadJson),
+        Err(JobFault::BadJob { place, reason }) => Err(Status::BadJob { place, reason }),
+        Err(JobFault::Memory) => Err(Status::NoMemory),
+    }
+}
+
+// Writes what a form writes for a job.
+#[tactic(auto, unfolding(crate::specs::Once::text_of), using(crate::proofs::Written::handed))]
+fn answer<K: Sink>(alloc: Global, form: Form, job: Job, sink: &mut K) -> Status
+    requires { command_total job.scripts ≤ 20000 }
+    ensures written { Answers (text_of form job) (K.written sink.old) (K.written sink.new) result }
     ensures fault { result ≡ Status.WriteFault → Rose (K.faults sink.old) (K.faults sink.new) }
 {
-    match write_report(alloc, job, sink) {
+    match form {
+        Form::Check => status_of(write_counts(alloc, &job, sink)),
+        Form::Replay => replay(alloc, job, sink),
+    }
+}
+
+// Runs a job, and writes its report.
+#[tactic(auto, using(crate::proofs::Written::replayed, crate::proofs::Written::put_off, crate::proofs::Written::unwritten))]
+fn replay<K: Sink>(alloc: Global, job: Job, sink: &mut K) -> Status
+    ensures written { Answers (text_of Form.Replay job) (K.written sink.old) (K.written sink.new) result }
+    ensures fault { result ≡ Status.WriteFault → Rose (K.faults sink.old) (K.faults sink.new) }
+{
+    match built(alloc, job) {
+        Ok(Some(job)) => status_of(write_report(alloc, &job, sink)),
+        Ok(None) => Status::NotBuilt,
+        Err(Memory) => Status::NoMemory,
+    }
+}
+
+// The status after a text was handed to the sink.
+fn status_of(written: Result<(), ReportFault>) -> Status
+    ensures { result ≡ status_after written }
+{
+    match written {
         Ok(()) => Status::Done,
         Err(ReportFault::Stopped) => Status::WriteFault,
         Err(ReportFault::Memory) => Status::NoMemory,

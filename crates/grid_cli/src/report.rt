@@ -1,16 +1,16 @@
-// The report of a small job, block by block.
+// The report of a job that is run, block by block.
 ghost use Rattle.std.specs.Prelude.{◌≡◌, ◌≤◌, ◌++◌, OnOk, OnErr, IfOk, Err, codes};
 ghost use Rattle.std.specs.List.{flat_map};
 ghost use Rattle.std.specs.Io.KnownBytes.{Appends};
 ghost use Rattle.grid_source.specs.Causes.{Rose};
 ghost use Rattle.grid_source.specs.Whole.{IsBegun};
-ghost use Rattle.grid_cli.specs.Machine.{opening, seen, steps_from, flags_after};
-ghost use Rattle.grid_cli.specs.Report.{head_text, command_text, answer_text, detail_text, step_text, tail_text, block_text, report};
+ghost use Rattle.grid_report.specs.Lines.{level_text};
+ghost use Rattle.grid_cli.specs.Built.{commands_in};
+ghost use Rattle.grid_cli.specs.Report.{order_text, worker_text, command_text, answer_text, detail_text, step_text, block_text, report};
 
-use crate::draft::Command;
-use crate::machine::{Answer, Step, opening_flags, steps_of, view_of};
-use crate::small::SmallJob;
-use grid_busview::{BusView, record_watts};
+use crate::built::{BuiltJob, Command};
+use crate::running::{Answer, Ran, Step, run};
+use grid_busview::BusView;
 use grid_ids::{Memory, Seq};
 use grid_report::{ReportFault, Shown, Text, put_buses, put_count, put_level, write_blocks};
 use grid_source::Sink;
@@ -19,12 +19,18 @@ use std::alloc::Global;
 /// A part of a report.
 #[derive(Clone, Copy)]
 pub enum Block<'a> {
-    /// The order, and the line of the worker who has this script.
-    Head(&'a [Command]),
+    /// The order, where the one worker has this script.
+    Order(&'a [Command]),
+    /// The line of the one worker.
+    Worker,
     /// A command with its answer.
-    Step(&'a Step),
-    /// The variant with the view of its level, and the end.
-    Tail(&'a BusView),
+    Reply(&'a Step),
+    /// The line of the variant.
+    Variant,
+    /// The view of a level.
+    Level(&'a BusView),
+    /// The last line.
+    End,
 }
 
 impl Shown for Block<'_> {
@@ -32,12 +38,14 @@ impl Shown for Block<'_> {
 
     ghost shown = { block_text };
 
-    #[tactic(auto, unfolding(crate::specs::Report::block_text))]
     fn show(&self, out: &mut Text) -> Result<(), Memory> {
         match self {
-            Block::Head(script) => put_head(out, script),
-            Block::Step(step) => put_step(out, step),
-            Block::Tail(view) => put_tail(out, view),
+            Block::Order(script) => put_order(out, script),
+            Block::Worker => out.put("worker 0\n"),
+            Block::Reply(step) => put_step(out, step),
+            Block::Variant => out.put("variant InitialState\n"),
+            Block::Level(view) => put_level(out, view),
+            Block::End => out.put("end\n"),
         }
     }
 }
@@ -51,13 +59,13 @@ fn put_zeros(out: &mut Text, script: &[Command]) -> Result<(), Memory>
     Ok(())
 }
 
-#[tactic(auto, unfolding(crate::specs::Report::head_text))]
-fn put_head(out: &mut Text, script: &[Command]) -> Result<(), Memory>
-    ensures { OnOk result (out.new ≡ out.old ++ head_text script.now) }
+#[tactic(auto, unfolding(crate::specs::Report::order_text))]
+fn put_order(out: &mut Text, script: &[Command]) -> Result<(), Memory>
+    ensures { OnOk result (out.new ≡ out.old ++ order_text script.now) }
 {
     out.put("order")?;
     put_zeros(out, script)?;
-    out.put("\nworker 0\n")
+    out.put("\n")
 }
 
 fn put_command(out: &mut Text, command: &Command) -> Result<(), Memory>
@@ -113,65 +121,63 @@ fn put_step(out: &mut Text, step: &Step) -> Result<(), Memory>
     put_details(out, &step.answer)
 }
 
-#[tactic(auto, unfolding(crate::specs::Report::tail_text))]
-fn put_tail(out: &mut Text, view: &BusView) -> Result<(), Memory>
-    ensures { OnOk result (out.new ≡ out.old ++ tail_text view.now) }
-{
-    out.put("variant InitialState\n")?;
-    put_level(out, view)?;
-    out.put("end\n")
-}
-
-/// The blocks of a report, in order.
-#[tactic(auto, unfolding(crate::specs::Report::block_text))]
-fn blocks_of<'a>(
-    alloc: Global,
-    script: &'a [Command],
-    steps: &'a [Step],
-    view: &'a BusView,
-) -> Result<Vec<Block<'a>>, Memory>
-    ensures { IfOk result (λ blocks. flat_map block_text blocks.items ≡ head_text script.now ++ flat_map step_text steps.now ++ tail_text view.now) }
+/// The order, and the worker where there is one.
+fn head_of<'a>(alloc: Global, job: &'a BuiltJob) -> Result<Vec<Block<'a>>, Memory>
+    ensures { IfOk result (λ blocks. flat_map block_text blocks.items ≡ order_text (commands_in job.now.script) ++ worker_text job.now.script) }
 {
     let mut blocks = Vec::new(alloc);
-    blocks.push(Block::Head(script))?;
-    for step in steps {
-        blocks.push(Block::Step(step))?;
+    blocks.push(Block::Order(job.commands()))?;
+    if job.script.is_some() {
+        blocks.push(Block::Worker)?;
     }
-    blocks.push(Block::Tail(view))?;
     Ok(blocks)
 }
 
-/// Runs a small job.
-fn run(alloc: Global, job: &SmallJob) -> Result<(Seq<Step>, BusView), Memory>
-    ensures steps { IfOk result (λ ran. ran.0 ≡ steps_from job.now.level (opening job.now.level) 1 job.now.commands) }
-    ensures view { IfOk result (λ ran. ran.1 ≡ seen job.now.level (flags_after job.now.level (opening job.now.level) job.now.commands)) }
+fn push_steps<'a>(blocks: &mut Vec<Block<'a>>, steps: &'a [Step]) -> Result<(), Memory>
+    ensures { OnOk result (flat_map block_text blocks.new.items ≡ flat_map block_text blocks.old.items ++ flat_map step_text steps.now) }
 {
-    let watts = record_watts(alloc, &job.level)?;
-    let mut flags = opening_flags(alloc, &job.level)?;
-    let steps = steps_of(
-        alloc,
-        &job.level,
-        watts.slice(),
-        &mut flags,
-        job.commands.slice(),
-    )?;
-    let view = view_of(alloc, &job.level, watts.slice(), &flags)?;
-    Ok((steps, view))
+    for step in steps {
+        blocks.push(Block::Reply(step))?;
+    }
+    Ok(())
 }
 
-/// Runs a small job, and writes its report in pieces.
-#[tactic(auto, unfolding(crate::specs::Report::report))]
-pub fn write_report<K: Sink>(alloc: Global, job: &SmallJob, sink: &mut K) -> Result<(), ReportFault>
+fn push_views<'a>(blocks: &mut Vec<Block<'a>>, views: &'a [BusView]) -> Result<(), Memory>
+    ensures { OnOk result (flat_map block_text blocks.new.items ≡ flat_map block_text blocks.old.items ++ flat_map level_text views.now) }
+{
+    for view in views {
+        blocks.push(Block::Level(view))?;
+    }
+    Ok(())
+}
+
+/// The blocks of a report, in order.
+fn blocks_of<'a>(alloc: Global, job: &'a BuiltJob, ran: &'a Ran) -> Result<Vec<Block<'a>>, Memory>
+    ensures { IfOk result (λ blocks. flat_map block_text blocks.items ≡
+        (order_text (commands_in job.now.script) ++ worker_text job.now.script) ++ flat_map step_text ran.now.steps
+        ++ codes "variant InitialState\n" ++ flat_map level_text ran.now.views ++ codes "end\n") }
+{
+    let mut blocks = head_of(alloc, job)?;
+    push_steps(&mut blocks, ran.steps.slice())?;
+    blocks.push(Block::Variant)?;
+    push_views(&mut blocks, ran.views.slice())?;
+    blocks.push(Block::End)?;
+    Ok(blocks)
+}
+
+/// Runs a job, and writes its report in pieces.
+#[tactic(auto, unfolding(crate::specs::Report::report, crate::specs::Report::replies_text, crate::specs::Report::left_text))]
+pub fn write_report<K: Sink>(alloc: Global, job: &BuiltJob, sink: &mut K) -> Result<(), ReportFault>
     ensures ok { OnOk result (Appends (K.written sink.old) (K.written sink.new) (report job.now)) }
     ensures err { OnErr result (IsBegun (K.written sink.old) (report job.now) (K.written sink.new)) }
     ensures later { K.faults sink.old ≤ K.faults sink.new }
     ensures cause { result ≡ Err ReportFault.Stopped → Rose (K.faults sink.old) (K.faults sink.new) }
 {
-    let (steps, view) = match run(alloc, job) {
+    let ran = match run(alloc, &job.network, job.commands()) {
         Ok(ran) => ran,
         Err(Memory) => return Err(ReportFault::Memory),
     };
-    let blocks = match blocks_of(alloc, job.commands.slice(), steps.slice(), &view) {
+    let blocks = match blocks_of(alloc, job, &ran) {
         Ok(blocks) => blocks,
         Err(Memory) => return Err(ReportFault::Memory),
     };

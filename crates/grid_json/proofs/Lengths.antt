@@ -1,12 +1,10 @@
 -- Arrays of two and of three items, by their length and their items.
-use Rattle.std.proofs.Common.{◌≡◌, ◌≢◌, ℕ, List, [], ◌∷◌, length, get_or, Result, Err, refl, ap, ◌∙◌, sym, arith}
-use Rattle.serde_json.specs.Data.{Data, Items, no_items, item}
+use Rattle.std.proofs.Common.{◌≡◌, ◌≢◌, List, [], ◌∷◌, length, get_or, Result, Err, refl, arith}
+use Rattle.serde_json.specs.Data.{Data}
 use Rattle.serde_json.specs.View.{view, items_view}
 use Rattle.serde_json.specs.declared.value.Value.{Value}
 use Rattle.grid_json.specs.declared.fault.Fault.{Fault}
 use Rattle.grid_json.specs.declared.fault.Reason.TheVariants.{WrongKind}
-use Rattle.grid_json.specs.declared.ends.Two.{Two}
-use Rattle.grid_json.specs.declared.ends.Three.{Three}
 use Rattle.grid_json.specs.Reading.{here}
 use Rattle.grid_json.specs.Network.{both, two_of, all_three, three_of}
 

@@ -3,3 +3,5 @@ pub mod Items
 pub mod Texts
 pub mod Lengths
 pub mod Counts
+pub mod Loading
+pub mod Edited

@@ -1,5 +1,5 @@
 -- Jobs: the first pass, which reads the whole value.
-use Rattle.std.specs.Prelude.{ℕ, ℤ, pos, negsuc, suc, List, [], ◌∷◌, Bool, true, false, not, ◌&&◌, ◌||◌, ◌==◌, nat_lt, int_lt, if◌then◌else◌, Option, Some, None, Result, Ok, Err, codes, map, length, sum_by, count_by}
+use Rattle.std.specs.Prelude.{ℕ, ℤ, pos, negsuc, suc, List, [], ◌∷◌, Bool, true, false, not, ◌&&◌, ◌==◌, nat_lt, int_lt, if◌then◌else◌, Option, Result, Ok, Err, codes, map, length, sum_by, count_by}
 use Rattle.std.specs.List.{list_any, list_all}
 use Rattle.std.specs.Ordering.{int_eq}
 use Rattle.serde_json.specs.Data.{Data}

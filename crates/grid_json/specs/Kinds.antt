@@ -1,5 +1,5 @@
 -- The words of the kinds.
-use Rattle.std.specs.Prelude.{List, [], ◌∷◌, Result, codes}
+use Rattle.std.specs.Prelude.{[], ◌∷◌, Result, codes}
 use Rattle.serde_json.specs.Data.{Data}
 use Rattle.grid_kinds.specs.declared.SwitchKind.{SwitchKind}
 use Rattle.grid_kinds.specs.declared.SwitchKind.TheVariants.{Breaker, Disconnector, LoadBreakSwitch}

@@ -4,3 +4,5 @@ pub mod Kinds
 pub mod Network
 pub mod Command
 pub mod Job
+pub mod Loading
+pub mod Whole

@@ -1,5 +1,5 @@
 -- The network of a job and its parts, member by member, in the order in which they are read.
-use Rattle.std.specs.Prelude.{ℕ, ℤ, pos, List, [], ◌∷◌, Bool, false, Option, Some, None, Result, Ok, Err, codes, decimal}
+use Rattle.std.specs.Prelude.{ℕ, List, [], ◌∷◌, false, Result, Ok, Err, codes, decimal}
 use Rattle.serde_json.specs.Data.{Data, Items, no_items, item}
 use Rattle.serde_json.specs.Find.{as_array}
 use Rattle.grid_kinds.specs.declared.Injection.{Injection}

@@ -2,7 +2,7 @@
 ghost use Rattle.std.specs.Prelude.{◌≡◌, ◌∷◌, codes};
 ghost use Rattle.serde_json.specs.View.{view};
 ghost use Rattle.grid_json.specs.Reading.{Gives, texts, word_at};
-ghost use Rattle.grid_json.specs.Command.{known_verb, command_names, plain_names, branch_names, add_level_at, add_busbar_at, add_switch_at, add_internal_at, remove_internal_at, add_injection_at, shape_at, add_branch_at, clone_at, retain_at, edit_at, request_at, verb_words, line_of, two_windings_of, three_windings_of};
+ghost use Rattle.grid_json.specs.Command.{known_verb, command_names, plain_names, branch_names, add_level_at, add_busbar_at, add_switch_at, add_internal_at, remove_internal_at, add_injection_at, shape_at, add_branch_at, clone_at, retain_at, edit_at, request_at, verb_words, line_of, two_windings_of, three_windings_of, named_at, sided_at};
 ghost use Rattle.grid_json.specs.Network.{item_names};
 
 use crate::ends::{Three, Two};
@@ -428,8 +428,53 @@ fn edit_of(alloc: Global, format: Format, verb: EditVerb, value: &Value) -> Resu
     }
 }
 
+/// A connect.
+#[tactic(auto, unfolding(crate::specs::Command::sided_at))]
+fn connect_of(alloc: Global, format: Format, value: &Value) -> Result<Request, ReadError>
+    ensures { Gives result (sided_at Request.Connect (view value.now)) }
+{
+    let id = member(alloc, format, value, "equipment")?;
+    let side = member_otherwise(alloc, format, value, "side", 1)?;
+    Ok(Request::Connect { id, side })
+}
+
+/// A disconnect.
+#[tactic(auto, unfolding(crate::specs::Command::sided_at))]
+fn disconnect_of(alloc: Global, format: Format, value: &Value) -> Result<Request, ReadError>
+    ensures { Gives result (sided_at Request.Disconnect (view value.now)) }
+{
+    let id = member(alloc, format, value, "equipment")?;
+    let side = member_otherwise(alloc, format, value, "side", 1)?;
+    Ok(Request::Disconnect { id, side })
+}
+
+/// What is asked of a level.
+#[tactic(auto, unfolding(crate::specs::Command::named_at))]
+fn bus_breaker_view_of(alloc: Global, format: Format, value: &Value) -> Result<Request, ReadError>
+    ensures { Gives result (named_at (codes "level") Request.BusBreakerView (view value.now)) }
+{
+    let level = member(alloc, format, value, "level")?;
+    Ok(Request::BusBreakerView { level })
+}
+
+#[tactic(auto, unfolding(crate::specs::Command::named_at))]
+fn bus_view_of(alloc: Global, format: Format, value: &Value) -> Result<Request, ReadError>
+    ensures { Gives result (named_at (codes "level") Request.BusView (view value.now)) }
+{
+    let level = member(alloc, format, value, "level")?;
+    Ok(Request::BusView { level })
+}
+
+#[tactic(auto, unfolding(crate::specs::Command::named_at))]
+fn components_of(alloc: Global, format: Format, value: &Value) -> Result<Request, ReadError>
+    ensures { Gives result (named_at (codes "level") Request.Components (view value.now)) }
+{
+    let level = member(alloc, format, value, "level")?;
+    Ok(Request::Components { level })
+}
+
 /// The request of a verb.
-#[tactic(auto, unfolding(crate::specs::Command::request_at, crate::specs::Command::named_at, crate::specs::Command::sided_at))]
+#[tactic(auto, unfolding(crate::specs::Command::request_at, crate::specs::Command::named_at))]
 fn request_of(
     alloc: Global,
     format: Format,
@@ -439,50 +484,28 @@ fn request_of(
     ensures { Gives result (request_at format verb (view value.now)) }
 {
     match verb {
-        Verb::Use => {
-            let name = member(alloc, format, value, "variant")?;
-            Ok(Request::UseVariant { name })
-        }
-        Verb::Remove => {
-            let name = member(alloc, format, value, "variant")?;
-            Ok(Request::RemoveVariant { name })
-        }
-        Verb::Open => {
-            let id = member(alloc, format, value, "switch")?;
-            Ok(Request::OpenSwitch { id })
-        }
-        Verb::Close => {
-            let id = member(alloc, format, value, "switch")?;
-            Ok(Request::CloseSwitch { id })
-        }
+        Verb::Use => Ok(Request::UseVariant {
+            name: member(alloc, format, value, "variant")?,
+        }),
+        Verb::Remove => Ok(Request::RemoveVariant {
+            name: member(alloc, format, value, "variant")?,
+        }),
+        Verb::Open => Ok(Request::OpenSwitch {
+            id: member(alloc, format, value, "switch")?,
+        }),
+        Verb::Close => Ok(Request::CloseSwitch {
+            id: member(alloc, format, value, "switch")?,
+        }),
         Verb::Retain => retain_of(alloc, format, value),
-        Verb::Connect => {
-            let id = member(alloc, format, value, "equipment")?;
-            let side = member_otherwise(alloc, format, value, "side", 1)?;
-            Ok(Request::Connect { id, side })
-        }
-        Verb::Disconnect => {
-            let id = member(alloc, format, value, "equipment")?;
-            let side = member_otherwise(alloc, format, value, "side", 1)?;
-            Ok(Request::Disconnect { id, side })
-        }
-        Verb::BusBreakerView => {
-            let level = member(alloc, format, value, "level")?;
-            Ok(Request::BusBreakerView { level })
-        }
-        Verb::BusView => {
-            let level = member(alloc, format, value, "level")?;
-            Ok(Request::BusView { level })
-        }
-        Verb::Components => {
-            let level = member(alloc, format, value, "level")?;
-            Ok(Request::Components { level })
-        }
+        Verb::Connect => connect_of(alloc, format, value),
+        Verb::Disconnect => disconnect_of(alloc, format, value),
+        Verb::BusBreakerView => bus_breaker_view_of(alloc, format, value),
+        Verb::BusView => bus_view_of(alloc, format, value),
+        Verb::Components => components_of(alloc, format, value),
         Verb::Clone => clone_of(alloc, format, value),
-        Verb::Change(edit) => {
-            let edit = edit_of(alloc, format, edit, value)?;
-            Ok(Request::Change { edit })
-        }
+        Verb::Change(edit) => Ok(Request::Change {
+            edit: edit_of(alloc, format, edit, value)?,
+        }),
     }
 }
 

@@ -1,5 +1,5 @@
 // The whole job: the first pass over its value.
-ghost use Rattle.std.specs.Prelude.{◌≡◌, ◌≤◌, [], nat_lt, length, IfOk, codes};
+ghost use Rattle.std.specs.Prelude.{◌≡◌, ◌≤◌, [], nat_lt, length, IfOk, codes, false};
 ghost use Rattle.serde_json.specs.View.{view};
 ghost use Rattle.grid_json.specs.Reading.{Gives, member_or, optional_at};
 ghost use Rattle.grid_json.specs.Job.{same_kind, has_kind, listeners_at, workers_at, command_total, max_commands, few_at, order_at, draft_at};
@@ -130,7 +130,8 @@ impl FromJson for Listeners {
 // How many commands the scripts have, where they are at most 32.
 #[tactic(auto, unfolding(crate::specs::Job::command_total))]
 fn are_too_many(scripts: &[Script]) -> bool
-    ensures { result ≡ nat_lt max_commands (command_total scripts.now) }
+    ensures many { result ≡ nat_lt max_commands (command_total scripts.now) }
+    ensures few { result ≡ false → command_total scripts.now ≤ max_commands }
 {
     let mut left = MOST_COMMANDS;
     for script in scripts {
@@ -149,19 +150,20 @@ struct Workers {
 }
 
 impl Model for Workers {
-    ghost use Rattle.std.specs.Prelude.{List, ◌≤◌, length};
+    ghost use Rattle.std.specs.Prelude.{List, ◌≤◌, length, sum_by};
     ghost use Rattle.grid_core.specs.declared.request.Request.{Request};
 
     ghost Value = { List (List Request) };
 
     ghost view = { λ w. w.scripts };
 
-    ghost invariant = { λ w. length w.scripts ≤ 32 };
+    ghost invariant = { λ w. (length w.scripts ≤ 32) × (sum_by length w.scripts ≤ 20000) };
 }
 
 impl FromJson for Workers {
     ghost reads = { workers_at };
 
+    #[tactic(auto, unfolding(crate::specs::Job::command_total))]
     fn from_json(alloc: Global, format: Format, value: &Value) -> Result<Workers, ReadError> {
         let scripts: Scripts = few(alloc, format, value, MOST_WORKERS, Reason::TooManyWorkers)?;
         if are_too_many(scripts.slice()) {
@@ -202,9 +204,11 @@ fn listeners_of(alloc: Global, format: Format, value: &Value) -> Result<Filters,
 }
 
 // The scripts, or none.
+#[tactic(auto, unfolding(crate::specs::Job::command_total))]
 fn scripts_of(alloc: Global, format: Format, value: &Value) -> Result<Scripts, ReadError>
     ensures scripts { Gives result (member_or [] (workers_at format) (codes "workers") (view value.now)) }
     ensures few { IfOk result (λ scripts. length scripts ≤ 32) }
+    ensures total { IfOk result (λ scripts. command_total scripts ≤ max_commands) }
 {
     let none = Workers {
         scripts: Seq::empty(alloc),
@@ -216,7 +220,8 @@ fn scripts_of(alloc: Global, format: Format, value: &Value) -> Result<Scripts, R
 /// The first pass over a job: each member in its order.
 #[tactic(auto, unfolding(crate::specs::Job::draft_at))]
 pub fn read_draft(alloc: Global, value: &Value) -> Result<JobDraft, ReadError>
-    ensures { Gives result (draft_at (view value.now)) }
+    ensures draft { Gives result (draft_at (view value.now)) }
+    ensures total { IfOk result (λ draft. command_total draft.scripts ≤ max_commands) }
 {
     only(
         alloc,

@@ -7,11 +7,13 @@ mod fault;
 mod format;
 mod job;
 mod kinds;
+mod load;
 mod network;
 mod order;
 mod place;
 mod read;
 mod value;
+mod whole;
 
 pub use fault::{Fault, ReadError, Reason};
 pub use format::Format;
@@ -19,3 +21,4 @@ pub use job::{JobDraft, Order, read_draft};
 pub use place::Place;
 pub use read::{FromJson, member, member_otherwise, object, only, optional};
 pub use value::{ByteFault, value_of};
+pub use whole::{Job, JobFault, read_job};

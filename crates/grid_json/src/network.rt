@@ -191,8 +191,81 @@ fn names_of_injection(kind: InjectionKind) -> &'static [&'static str]
     }
 }
 
-/// The record of an injection of a kind.
+/// The record of a load.
 #[tactic(auto, unfolding(crate::specs::Network::item_at))]
+fn load_of(alloc: Global, format: Format, value: &Value) -> Result<Injection, ReadError>
+    ensures { Gives result (item_at InjectionKind.Load (view value.now)) }
+{
+    let p0 = member(alloc, format, value, "p0")?;
+    let q0 = member(alloc, format, value, "q0")?;
+    Ok(Injection::Load { p0, q0 })
+}
+
+/// The record of a generator.
+#[tactic(auto, unfolding(crate::specs::Network::item_at))]
+fn generator_of(alloc: Global, format: Format, value: &Value) -> Result<Injection, ReadError>
+    ensures { Gives result (item_at InjectionKind.Generator (view value.now)) }
+{
+    let target_p = member(alloc, format, value, "target_p")?;
+    let target_v = member(alloc, format, value, "target_v")?;
+    let min_p = member(alloc, format, value, "min_p")?;
+    let max_p = member(alloc, format, value, "max_p")?;
+    Ok(Injection::Generator {
+        target_p,
+        target_v,
+        min_p,
+        max_p,
+    })
+}
+
+/// The record of a battery.
+#[tactic(auto, unfolding(crate::specs::Network::item_at))]
+fn battery_of(alloc: Global, format: Format, value: &Value) -> Result<Injection, ReadError>
+    ensures { Gives result (item_at InjectionKind.Battery (view value.now)) }
+{
+    let target_p = member(alloc, format, value, "target_p")?;
+    let target_q = member(alloc, format, value, "target_q")?;
+    let min_p = member(alloc, format, value, "min_p")?;
+    let max_p = member(alloc, format, value, "max_p")?;
+    Ok(Injection::Battery {
+        target_p,
+        target_q,
+        min_p,
+        max_p,
+    })
+}
+
+/// The record of a shunt compensator.
+#[tactic(auto, unfolding(crate::specs::Network::item_at))]
+fn shunt_compensator_of(
+    alloc: Global,
+    format: Format,
+    value: &Value,
+) -> Result<Injection, ReadError>
+    ensures { Gives result (item_at InjectionKind.ShuntCompensator (view value.now)) }
+{
+    let section_count = member(alloc, format, value, "section_count")?;
+    let max_sections = member(alloc, format, value, "max_sections")?;
+    Ok(Injection::ShuntCompensator {
+        section_count,
+        max_sections,
+    })
+}
+
+/// The record of a static var compensator.
+#[tactic(auto, unfolding(crate::specs::Network::item_at))]
+fn static_var_compensator_of(
+    alloc: Global,
+    format: Format,
+    value: &Value,
+) -> Result<Injection, ReadError>
+    ensures { Gives result (item_at InjectionKind.StaticVarCompensator (view value.now)) }
+{
+    let target_q = member(alloc, format, value, "target_q")?;
+    Ok(Injection::StaticVarCompensator { target_q })
+}
+
+/// The record of an injection of a kind.
 pub fn item_of(
     alloc: Global,
     format: Format,
@@ -202,47 +275,11 @@ pub fn item_of(
     ensures { Gives result (item_at kind (view value.now)) }
 {
     match kind {
-        InjectionKind::Load => {
-            let p0 = member(alloc, format, value, "p0")?;
-            let q0 = member(alloc, format, value, "q0")?;
-            Ok(Injection::Load { p0, q0 })
-        }
-        InjectionKind::Generator => {
-            let target_p = member(alloc, format, value, "target_p")?;
-            let target_v = member(alloc, format, value, "target_v")?;
-            let min_p = member(alloc, format, value, "min_p")?;
-            let max_p = member(alloc, format, value, "max_p")?;
-            Ok(Injection::Generator {
-                target_p,
-                target_v,
-                min_p,
-                max_p,
-            })
-        }
-        InjectionKind::Battery => {
-            let target_p = member(alloc, format, value, "target_p")?;
-            let target_q = member(alloc, format, value, "target_q")?;
-            let min_p = member(alloc, format, value, "min_p")?;
-            let max_p = member(alloc, format, value, "max_p")?;
-            Ok(Injection::Battery {
-                target_p,
-                target_q,
-                min_p,
-                max_p,
-            })
-        }
-        InjectionKind::ShuntCompensator => {
-            let section_count = member(alloc, format, value, "section_count")?;
-            let max_sections = member(alloc, format, value, "max_sections")?;
-            Ok(Injection::ShuntCompensator {
-                section_count,
-                max_sections,
-            })
-        }
-        InjectionKind::StaticVarCompensator => {
-            let target_q = member(alloc, format, value, "target_q")?;
-            Ok(Injection::StaticVarCompensator { target_q })
-        }
+        InjectionKind::Load => load_of(alloc, format, value),
+        InjectionKind::Generator => generator_of(alloc, format, value),
+        InjectionKind::Battery => battery_of(alloc, format, value),
+        InjectionKind::ShuntCompensator => shunt_compensator_of(alloc, format, value),
+        InjectionKind::StaticVarCompensator => static_var_compensator_of(alloc, format, value),
     }
 }
 

@@ -6,7 +6,7 @@ use std::alloc::Global;
 use std::marker::Model;
 
 /// Where a fault stands: member names and positions, each after `/`.
-#[derive(Drop)]
+#[derive(Debug, Drop)]
 pub struct Place {
     text: String,
 }

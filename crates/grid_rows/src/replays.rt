@@ -9,9 +9,16 @@ const HEAD: &str =
 
 const TAIL: &str = r#"]]}"#;
 
-// A job whose level lacks members that a small job has.
+// A job without a script.
 const ONE: &str =
     r#"{"format":1,"network":{"id":"N","substations":[{"id":"S","levels":[{"id":"V","nominal_v":400000,"busbars":[{"id":"BB","node":0}]}]}]}}"#;
+
+// A network without anything, and no worker.
+const EMPTY: &str = r#"{"format":1,"network":{"id":"N"}}"#;
+
+// Two substations: a level with nothing in it, and one whose switch joins a busbar section and a load.
+const TWO: &str =
+    r#"{"format":1,"network":{"id":"N","substations":[{"id":"S","levels":[{"id":"V","nominal_v":1}]},{"id":"T","levels":[{"id":"W","nominal_v":1,"busbars":[{"id":"B2","node":3}],"switches":[{"id":"X","kind":"BREAKER","node1":3,"node2":4,"open":true}],"injections":[{"kind":"LOAD","id":"L2","node":4,"p0":5,"q0":0}]}]}]},"workers":[[{"do":"close","switch":"X"},{"do":"bus_view","level":"W"},{"do":"bus_view","level":"V"}]]}"#;
 
 /// The job of the level with this script.
 fn duo(alloc: Global, script: &str) -> Result<Vec<u8>, Fail> {
@@ -29,13 +36,25 @@ fn words(alloc: Global, texts: &[&str]) -> Result<Vec<String>, Fail> {
     Ok(words)
 }
 
+/// A status in words: that of a bad job with the place of its fault and the reason.
+fn named(alloc: Global, status: Status) -> Result<String, Fail> {
+    match status {
+        Status::BadJob { place, reason } => {
+            let place = place.text();
+            Ok(format!(in alloc; "{place} {reason:?}")?)
+        }
+        status => Ok(format!(in alloc; "{status:?}")?),
+    }
+}
+
 /// The status of a call with these words on this input, and what it wrote.
-fn told(alloc: Global, texts: &[&str], input: Vec<u8>) -> Result<(Status, String), Fail> {
+fn told(alloc: Global, texts: &[&str], input: Vec<u8>) -> Result<(String, String), Fail> {
     let words = words(alloc, texts)?;
     let mut source = SureSource::new(input, 4096);
     let mut sink = SureSink::new(Vec::new(alloc), 4096);
     let status = grid_once(alloc, words.as_slice(), &mut source, &mut sink);
-    Ok((status, String::from_utf8(sink.bytes().to_vec(alloc)?)?))
+    let written = String::from_utf8(sink.bytes().to_vec(alloc)?)?;
+    Ok((named(alloc, status)?, written))
 }
 
 #[test]
@@ -104,7 +123,47 @@ end
     ];
     for (script, wanted) in cases {
         let (status, written) = told(alloc, &["replay"], duo(alloc, script)?)?;
-        assert_eq!(rt; status, Status::Done);
+        assert_eq!(rt; status.as_str(), "Done");
+        assert_eq!(rt; written.as_str(), wanted);
+    }
+    Ok(())
+}
+
+#[test]
+fn networks(rt: HostRuntime) -> Result<(), Fail> {
+    let alloc = rt.alloc();
+    let cases: [(&str, &str, &str); 4] = [
+        (
+            "check",
+            ONE,
+            "ok: 1 substations, 1 levels, 0 switches, 0 commands\n",
+        ),
+        (
+            "check",
+            r#"{"format":1,"network":{"id":"N"},"workers":[[{"do":"use","variant":"A"},{"do":"open","switch":"B"}],[{"do":"components","level":"V"}]]}"#,
+            "ok: 0 substations, 0 levels, 0 switches, 3 commands\n",
+        ),
+        ("replay", EMPTY, "order\nvariant InitialState\nend\n"),
+        (
+            "replay",
+            TWO,
+            r#"order 0 0 0
+worker 0
+1 InitialState close X: done
+2 InitialState bus_view W: 1 buses
+  bus W_3 | 3 4 | B2.1 L2.1 | load 5 | generation 0
+3 InitialState bus_view V: 0 buses
+variant InitialState
+level V: 0 buses
+level W: 1 buses
+  bus W_3 | 3 4 | B2.1 L2.1 | load 5 | generation 0
+end
+"#,
+        ),
+    ];
+    for (word, job, wanted) in cases {
+        let (status, written) = told(alloc, &[word], job.as_bytes().to_vec(alloc)?)?;
+        assert_eq!(rt; status.as_str(), "Done");
         assert_eq!(rt; written.as_str(), wanted);
     }
     Ok(())
@@ -113,22 +172,42 @@ end
 #[test]
 fn statuses(rt: HostRuntime) -> Result<(), Fail> {
     let alloc = rt.alloc();
-    let cases: [(&[&str], &str, Status); 7] = [
-        (&[], "", Status::Usage),
-        (&["replay", "x"], "", Status::Usage),
-        (&["--help"], "", Status::Usage),
-        (&["replay"], "", Status::BadJson),
-        (&["replay"], "{\"format\":1", Status::BadJson),
-        (&["replay"], "{}", Status::NotBuilt),
-        (&["replay"], ONE, Status::NotBuilt),
+    let cases: [(&[&str], &str, &str); 10] = [
+        (&[], "", "Usage"),
+        (&["replay", "x"], "", "Usage"),
+        (&["--help"], "", "Usage"),
+        (&["replay"], "", "BadJson"),
+        (&["check"], "{\"format\":1", "BadJson"),
+        (&["replay"], "{}", "/format Missing"),
+        (
+            &["check"],
+            r#"{"format":1,"network":{"id":"N","substations":[{"id":"N"},{"id":"N"}]}}"#,
+            "/network/substations/1 Load(IdTaken)",
+        ),
+        (
+            &["replay"],
+            r#"{"format":1,"network":{"id":"N"},"workers":[[],[]]}"#,
+            "NotBuilt",
+        ),
+        (
+            &["replay"],
+            r#"{"format":1,"network":{"id":"N"},"workers":[[]],"order":[]}"#,
+            "NotBuilt",
+        ),
+        (
+            &["replay"],
+            r#"{"format":1,"network":{"id":"N"},"workers":[[{"do":"components","level":"V"}]]}"#,
+            "NotBuilt",
+        ),
     ];
     for (words, input, wanted) in cases {
         let (status, written) = told(alloc, words, input.as_bytes().to_vec(alloc)?)?;
-        assert_eq!(rt; status, wanted);
+        assert_eq!(rt; status.as_str(), wanted);
         assert_eq!(rt; written.as_str(), "");
     }
     let spaces = vec![in alloc; b' '; 33_554_433]?;
-    assert_eq!(rt; told(alloc, &["replay"], spaces)?.0, Status::TooLong);
+    let (status, _written) = told(alloc, &["replay"], spaces)?;
+    assert_eq!(rt; status.as_str(), "TooLong");
     Ok(())
 }
 
@@ -141,14 +220,14 @@ fn a_failing_read_and_a_failing_write(rt: HostRuntime) -> Result<(), Fail> {
     let mut source = MemorySource::new(duo(alloc, script)?, 7, fails);
     let mut sink = MemorySink::new(Vec::with_capacity(alloc, 1024)?, 10, Vec::new(alloc));
     let status = grid_once(alloc, words.as_slice(), &mut source, &mut sink);
-    assert_eq!(rt; status, Status::ReadFault);
+    assert_eq!(rt; named(alloc, status)?.as_str(), "ReadFault");
     assert_eq!(rt; sink.bytes(), b"".as_slice());
 
     let fails = [1].to_vec(alloc)?;
     let mut source = MemorySource::new(duo(alloc, script)?, 7, Vec::new(alloc));
     let mut sink = MemorySink::new(Vec::with_capacity(alloc, 1024)?, 10, fails);
     let status = grid_once(alloc, words.as_slice(), &mut source, &mut sink);
-    assert_eq!(rt; status, Status::WriteFault);
+    assert_eq!(rt; named(alloc, status)?.as_str(), "WriteFault");
     assert_eq!(rt; sink.bytes(), b"order 0\nwo".as_slice());
     Ok(())
 }
@@ -193,7 +272,7 @@ fn pieces_of_one_size(rt: HostRuntime) -> Result<(), Fail> {
         faults: 0,
     };
     let status = grid_once(alloc, words.as_slice(), &mut source, &mut sink);
-    assert_eq!(rt; status, Status::Done);
+    assert_eq!(rt; named(alloc, status)?.as_str(), "Done");
     assert_eq!(rt; sink.sizes.as_slice(), [4096, 4096, 4096, 550].as_slice());
     Ok(())
 }

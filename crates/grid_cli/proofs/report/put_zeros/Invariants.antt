@@ -1,7 +1,7 @@
 use Rattle.std.proofs.Common.{◌≡◌, ◌++◌, take}
 use Rattle.std.specs.Prelude.{codes}
 use Rattle.std.specs.List.{flat_map}
-use Rattle.grid_cli.specs.declared.draft.Command.{Command}
+use Rattle.grid_cli.specs.declared.built.Command.{Command}
 use Rattle.grid_cli.proofs.report.put_zeros.Given as goal
 
 -- a number for each command so far

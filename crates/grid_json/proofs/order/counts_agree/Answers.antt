@@ -1,10 +1,8 @@
-use Rattle.std.proofs.Common.{◌≡◌, ◌<◌, ◌≤◌, ◌^◌, ℤ, pos, true, false, ap, sym, ◌∙◌, refl, arith, eqb, eq-eqb, get_or, map, length}
-use Rattle.std.specs.Prelude.{count_by}
+use Rattle.std.proofs.Common.{◌<◌, ◌≤◌, ◌^◌, sym, ◌∙◌, arith, eq-eqb, map, length}
 use Rattle.std.specs.Int.{w64}
 use Rattle.std.proofs.lemmas.Bool.{ne_eqb}
 use Rattle.std.proofs.lemmas.Int.{to_z_pos}
 use Rattle.std.proofs.lemmas.List.{length-map}
-use Rattle.grid_json.specs.Job.{stands_for}
 use Rattle.grid_json.proofs.Counts.{differs, goes_on, ends, at_script}
 use Rattle.grid_json.proofs.order.counts_agree.Goals as goal
 

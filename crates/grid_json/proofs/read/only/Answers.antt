@@ -1,4 +1,4 @@
-use Rattle.std.proofs.Common.{◌≡◌, Bool, true, false, refl, sym, ◌∙◌}
+use Rattle.std.proofs.Common.{◌≡◌, true, false, refl, sym, ◌∙◌}
 use Rattle.serde_json.specs.View.{members_view}
 use Rattle.grid_json.specs.Reading.{all_known, texts}
 use Rattle.grid_json.proofs.Objects.{has_only_is}

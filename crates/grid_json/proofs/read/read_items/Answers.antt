@@ -1,4 +1,4 @@
-use Rattle.std.proofs.Common.{◌≡◌, ◌++◌, ◌∷◌, [], sym, ap, ◌∙◌, arith, length-append}
+use Rattle.std.proofs.Common.{arith, length-append}
 use Rattle.grid_json.proofs.Items.{goes_on, ends, is_done}
 use Rattle.grid_json.proofs.read.read_items.Goals as goal
 

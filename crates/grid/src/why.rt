@@ -1,0 +1,130 @@
+//! What is wrong with a job, in words.
+
+use grid_ids::IdFault;
+use grid_json::Reason;
+use grid_kinds::CheckFault;
+use grid_level::Terminal;
+use grid_structure::EditFault;
+use thiserror::Error;
+
+/// What is wrong at a place of a job: the number of the reason, and what to look at.
+#[derive(Debug, Drop, Error)]
+pub enum Why {
+    #[error("a member that must be there is missing (60)")]
+    Missing,
+    #[error("the value is of another JSON type than wanted, or an array of another length (61)")]
+    WrongKind,
+    #[error("the number is not whole, or does not fit 64 bits with a sign (62)")]
+    NotWhole,
+    #[error("the word or the format is none of those that are known here, or the object has a member that it should not have (63)")]
+    Unknown,
+    #[error("the order must name each worker as often as its script has commands, and nobody else (64)")]
+    Schedule,
+    #[error("all scripts together have more than 20,000 commands (65)")]
+    TooManyCommands,
+    #[error("there are more than 32 workers (66)")]
+    TooManyWorkers,
+    #[error("there are more than 16 listeners (67)")]
+    TooManyListeners,
+    #[error("the id is empty (1)")]
+    EmptyId,
+    #[error("the id has {length} bytes, and 128 are the most (2)")]
+    LongId { length: usize },
+    #[error("the id has the control byte {byte} (3)")]
+    ControlByte { byte: u8 },
+    #[error("the nominal voltage is {found} and must be above {bound} (10)")]
+    Nominal { found: i64, bound: i64 },
+    #[error("the low voltage limit {found} is above the high one, {bound} (11)")]
+    VoltageLimits { found: i64, bound: i64 },
+    #[error("the least power {found} is above the greatest, {bound} (12)")]
+    PowerLimits { found: i64, bound: i64 },
+    #[error("{found} sections are in service, and from 0 to {bound} may be (13)")]
+    Sections { found: i64, bound: i64 },
+    #[error("a rated voltage is {found} and must be above {bound} (14)")]
+    Rated { found: i64, bound: i64 },
+    #[error("node {node} is not from 0 to 65,535 (20)")]
+    NodeRange { node: i64 },
+    #[error("the node carries the terminal {}.{} (21)", .terminal.equipment.text(), .terminal.side)]
+    NodeTaken { terminal: Terminal },
+    #[error("both nodes are {node} (22)")]
+    SameNode { node: i64 },
+    #[error("there is no such internal connection (23)")]
+    NoEdge,
+    #[error("the level would have more than 1,024 different nodes (24)")]
+    TooManyNodes,
+    #[error("the level has 4,096 switches and internal connections, which are the most (25)")]
+    TooManyEdges,
+    #[error("a substation, level, switch or equipment has this id already (30)")]
+    IdTaken,
+    #[error("no substation has the id that is named (31)")]
+    NoSubstation,
+    #[error("no level has the id that is named (32)")]
+    NoLevel,
+    #[error("nothing that could be removed has the id (33)")]
+    NoSuchId,
+    #[error("the transformer's end {side} is in a level of another substation (34)")]
+    OtherSubstation { side: u8 },
+    #[error("the network has 10,000 levels, which are the most (35)")]
+    TooManyLevels,
+    #[error("the network has 200,000 switches, which are the most (36)")]
+    TooManySwitches,
+    #[error("memory ran out")]
+    NoMemory,
+}
+
+/// Why a record breaks its rule.
+fn of_check(fault: CheckFault) -> Why {
+    match fault {
+        CheckFault::NominalNotPositive { found, bound } => Why::Nominal { found, bound },
+        CheckFault::VoltageLimits { found, bound } => Why::VoltageLimits { found, bound },
+        CheckFault::PowerLimits { found, bound } => Why::PowerLimits { found, bound },
+        CheckFault::Sections { found, bound } => Why::Sections { found, bound },
+        CheckFault::RatedNotPositive { found, bound } => Why::Rated { found, bound },
+    }
+}
+
+/// Why an edit is refused.
+fn of_edit(fault: EditFault) -> Why {
+    match fault {
+        EditFault::Check(fault) => of_check(fault),
+        EditFault::NodeRange { node } => Why::NodeRange { node },
+        EditFault::NodeTaken { terminal } => Why::NodeTaken { terminal },
+        EditFault::SameNode { node } => Why::SameNode { node },
+        EditFault::NoEdge => Why::NoEdge,
+        EditFault::TooManyNodes => Why::TooManyNodes,
+        EditFault::TooManyEdges => Why::TooManyEdges,
+        EditFault::IdTaken => Why::IdTaken,
+        EditFault::NoSubstation => Why::NoSubstation,
+        EditFault::NoLevel => Why::NoLevel,
+        EditFault::NoSuchId => Why::NoSuchId,
+        EditFault::OtherSubstation { side } => Why::OtherSubstation { side },
+        EditFault::TooManyLevels => Why::TooManyLevels,
+        EditFault::TooManySwitches => Why::TooManySwitches,
+    }
+}
+
+/// Why a text is no id.
+fn of_name(fault: IdFault) -> Why {
+    match fault {
+        IdFault::Empty => Why::EmptyId,
+        IdFault::TooLong(length) => Why::LongId { length },
+        IdFault::Control(byte) => Why::ControlByte { byte },
+        IdFault::Memory => Why::NoMemory,
+    }
+}
+
+/// Why a job has a fault at a place.
+pub fn why_of(reason: Reason) -> Why {
+    match reason {
+        Reason::Missing => Why::Missing,
+        Reason::WrongKind => Why::WrongKind,
+        Reason::NotWhole => Why::NotWhole,
+        Reason::Unknown => Why::Unknown,
+        Reason::Schedule => Why::Schedule,
+        Reason::TooManyCommands => Why::TooManyCommands,
+        Reason::TooManyWorkers => Why::TooManyWorkers,
+        Reason::TooManyListeners => Why::TooManyListeners,
+        Reason::Name(fault) => of_name(fault),
+        Reason::Load(fault) => of_edit(fault),
+    }
+}

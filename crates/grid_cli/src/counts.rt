@@ -1,0 +1,84 @@
+// What a job has, counted.
+ghost use Rattle.std.specs.Prelude.{◌≡◌, ◌≤◌, ◌++◌, OnOk, OnErr, Err, decimal};
+ghost use Rattle.std.specs.Io.KnownBytes.{Appends};
+ghost use Rattle.grid_source.specs.Causes.{Rose};
+ghost use Rattle.grid_source.specs.Whole.{IsBegun};
+ghost use Rattle.grid_json.specs.Job.{command_total};
+ghost use Rattle.grid_cli.specs.Counts.{counts_of, check_text};
+
+use grid_core::Script;
+use grid_ids::Memory;
+use grid_json::Job;
+use grid_report::{ReportFault, Shown, Text, write_blocks};
+use grid_source::Sink;
+use std::alloc::Global;
+
+/// How many of each a job has.
+#[derive(Clone, Copy, Debug)]
+pub struct Counts {
+    pub substations: u32,
+    pub levels: u32,
+    pub switches: u32,
+    pub commands: usize,
+}
+
+impl Shown for Counts {
+    ghost use Rattle.grid_cli.specs.Counts.{counts_text};
+
+    ghost shown = { counts_text };
+
+    #[tactic(auto, unfolding(crate::specs::Counts::counts_text))]
+    fn show(&self, out: &mut Text) -> Result<(), Memory> {
+        out.put("ok: ")?;
+        put_counted(out, u64::from(self.substations), " substations, ")?;
+        put_counted(out, u64::from(self.levels), " levels, ")?;
+        put_counted(out, u64::from(self.switches), " switches, ")?;
+        put_counted(out, self.commands as u64, " commands\n")
+    }
+}
+
+/// Puts a number and the word for what it counts.
+fn put_counted(out: &mut Text, number: u64, word: &str) -> Result<(), Memory>
+    ensures { OnOk result (out.new ≡ out.old ++ decimal number ++ word.now) }
+{
+    out.put_unsigned(number)?;
+    out.put(word)
+}
+
+/// How many commands all scripts have.
+fn count_commands(scripts: &[Script]) -> usize
+    requires { command_total scripts.now ≤ 20000 }
+    ensures { result ≡ command_total scripts.now }
+{
+    let mut total = 0;
+    for script in scripts {
+        total += script.len();
+    }
+    total
+}
+
+/// What a job has.
+#[tactic(auto, unfolding(crate::specs::Counts::counts_of))]
+fn counts_of(job: &Job) -> Counts
+    requires { command_total job.now.scripts ≤ 20000 }
+    ensures { result ≡ counts_of job.now }
+{
+    Counts {
+        substations: job.network.substation_count(),
+        levels: job.network.level_count(),
+        switches: job.network.switch_total(),
+        commands: count_commands(job.scripts.slice()),
+    }
+}
+
+/// Writes the line of a job's counts.
+#[tactic(auto, unfolding(crate::specs::Counts::check_text))]
+pub fn write_counts<K: Sink>(alloc: Global, job: &Job, sink: &mut K) -> Result<(), ReportFault>
+    requires { command_total job.now.scripts ≤ 20000 }
+    ensures ok { OnOk result (Appends (K.written sink.old) (K.written sink.new) (check_text job.now)) }
+    ensures err { OnErr result (IsBegun (K.written sink.old) (check_text job.now) (K.written sink.new)) }
+    ensures later { K.faults sink.old ≤ K.faults sink.new }
+    ensures cause { result ≡ Err ReportFault.Stopped → Rose (K.faults sink.old) (K.faults sink.new) }
+{
+    write_blocks(alloc, &[counts_of(job)], sink)
+}

@@ -1,0 +1,91 @@
+// Jobs from bytes.
+ghost use Rattle.std.specs.Prelude.{◌≡◌, ◌≤◌, IfOk};
+ghost use Rattle.grid_json.specs.Job.{command_total, max_commands};
+ghost use Rattle.grid_json.specs.Reading.{Gives};
+ghost use Rattle.grid_json.specs.Whole.{loaded, draft_of, job_of, JobGives};
+
+use crate::job::{JobDraft, Order, read_draft};
+use crate::load::load_network;
+use crate::value::{ByteFault, value_of};
+use crate::{Place, ReadError, Reason};
+use grid_core::Scripts;
+use grid_events::Filters;
+use grid_structure::Structure;
+use std::alloc::Global;
+
+/// A network with its listeners, the scripts of its workers, and the order of their steps, where one is given.
+#[derive(Drop)]
+pub struct Job {
+    pub network: Structure,
+    pub filters: Filters,
+    pub scripts: Scripts,
+    pub order: Option<Order>,
+}
+
+/// Why bytes are no job.
+#[derive(Drop)]
+pub enum JobFault {
+    /// `serde_json` has no reading of the bytes.
+    BadJson,
+    /// The first fault of the job, and its place.
+    BadJob { place: Place, reason: Reason },
+    /// Memory is wanting.
+    Memory,
+}
+
+/// The first pass over the bytes. The value is given up then.
+#[tactic(auto, unfolding(crate::specs::Whole::draft_of))]
+fn read_bytes(alloc: Global, bytes: &[u8]) -> Result<JobDraft, JobFault>
+    ensures draft { JobGives result (draft_of bytes.now) }
+    ensures total { IfOk result (λ draft. command_total draft.scripts ≤ max_commands) }
+{
+    let value = match value_of(alloc, bytes) {
+        Ok(value) => value,
+        Err(ByteFault::NotJson) => return Err(JobFault::BadJson),
+        Err(ByteFault::Memory) => return Err(JobFault::Memory),
+    };
+    match read_draft(alloc, &value) {
+        Ok(draft) => Ok(draft),
+        Err(ReadError::Memory) => Err(JobFault::Memory),
+        Err(ReadError::Fault(fault)) => Err(JobFault::BadJob {
+            place: fault.place,
+            reason: fault.reason,
+        }),
+    }
+}
+
+/// The second pass: the draft with its network loaded.
+#[tactic(auto, unfolding(crate::specs::Whole::loaded))]
+fn load(alloc: Global, draft: JobDraft) -> Result<Job, ReadError>
+    ensures job { Gives result (loaded draft) }
+    ensures scripts { IfOk result (λ job. job.scripts ≡ draft.scripts) }
+{
+    let network = load_network(alloc, &draft.network)?;
+    Ok(Job {
+        network,
+        filters: draft.filters,
+        scripts: draft.scripts,
+        order: draft.order,
+    })
+}
+
+/// The job of the bytes: BadJson exactly where `serde_json` has no reading of them, BadJob exactly where the job has a
+/// fault, with the first one.
+#[tactic(auto, unfolding(crate::specs::Whole::job_of))]
+pub fn read_job(alloc: Global, bytes: &[u8]) -> Result<Job, JobFault>
+    ensures job { JobGives result (job_of bytes.now) }
+    ensures total { IfOk result (λ job. command_total job.scripts ≤ max_commands) }
+{
+    let draft = match read_bytes(alloc, bytes) {
+        Ok(draft) => draft,
+        Err(fault) => return Err(fault),
+    };
+    match load(alloc, draft) {
+        Ok(job) => Ok(job),
+        Err(ReadError::Memory) => Err(JobFault::Memory),
+        Err(ReadError::Fault(fault)) => Err(JobFault::BadJob {
+            place: fault.place,
+            reason: fault.reason,
+        }),
+    }
+}
