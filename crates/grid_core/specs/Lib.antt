@@ -1,0 +1,6 @@
+pub mod Solo
+pub mod History
+pub mod Replies
+pub mod Fitting
+pub mod Slotted
+pub mod Laws
