@@ -13,9 +13,8 @@ use Rattle.grid_level.specs.Kept.{among}
 use Rattle.grid_states.specs.Rows.{row_at}
 use Rattle.grid_structure.specs.Network.{Network}
 use Rattle.grid_structure.specs.Sites.{levels, first_found, find_level, find_switch, site}
-use Rattle.grid_structure.proofs.Places.{got_below}
+use Rattle.grid_structure.proofs.Places.{got_below, position_found}
 use Rattle.grid_structure.proofs.Found.{level_below}
-use Rattle.grid_structure.proofs.ListOfLevels.{counted}
 use Rattle.grid_core.specs.Solo.{State, level_at}
 use Rattle.grid_core.specs.Fitting.{RowsFit, switch_counts}
 use Rattle.grid_core.proofs.Counting.{row_length, length-rows}
@@ -50,8 +49,9 @@ found_from {A} {B} test (x ∷ xs) c k y h = by (test x) refl h (found_from test
     by : (o : Option B) → test x ≡ o → ◌≡◌ {A = Option (ℕ × B)} (elim o [ Some z ↦ Some (c, z) | None ↦ first_found (c + 1) test xs ]) (Some (k, y))
         → (first_found (c + 1) test xs ≡ Some (k, y) → (c + 1 ≤ k) × FoundAt test xs (k - (c + 1)) y) → (c ≤ k) × FoundAt test (x ∷ xs) (k - c) y
     by (Some z) e h again =
-        let here : c ≡ k = cc in
-        let value : z ≡ y = cc in
+        let pair : ◌≡◌ {A = ℕ × B} (c, z) (k, y) = cc (h) in
+        let here : c ≡ k = ap (λ (w : ℕ × B). w.0) pair in
+        let value : z ≡ y = ap (λ (w : ℕ × B). w.1) pair in
         (omega (arith, here), record { item = x; at = (let e : k - c ≡ 0 = omega (arith, here) in rw e refl); is = e ∙ ap Some value })
     by None e h again = let r = again h in (omega (arith, r.0), moved c k test x xs y r.0 r.1)
 
@@ -61,7 +61,7 @@ unfolding find_switch level_at
 switch_in_rows net rows id level place fit h =
     let f = (found_from (λ (l : VoltageLevel). position (λ (s : Switch). same_id id s.id) l.switches) (levels net) 0 level place h).1 in
     let at : slice_get (levels net) level ≡ Some f.item = (let e : level - 0 ≡ level = omega arith in rw e at f.at) in
-    let within : place < length f.item.switches = (counted (λ (s : Switch). same_id id s.id) f.item.switches place f.is).1 in
+    let within : place < length f.item.switches = (position_found (λ (s : Switch). same_id id s.id) f.item.switches place f.is).0 in
     (omega (arith, rows_of_levels net rows fit, got_below (levels net) level f.item at), omega (arith, row_of_level net rows level f.item fit at, within))
 
 -- the level of an id
