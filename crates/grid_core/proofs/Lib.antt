@@ -6,3 +6,4 @@ pub mod Stepping
 pub mod Naming
 pub mod Holding
 pub mod Ranges
+pub mod Planned

@@ -187,8 +187,8 @@ switched_step origin before worker request switching alive = record {
   working_is = λ w. switching-working (live before) (worker == w) request (working before w) switching;
   own = own;
   others = λ u other. state_left origin before (command worker request) u
-    (not_kept origin before (command worker request) u (switching-edit (structure origin before) request switching) (switched_elsewhere before (command worker request) u other))
-    (switching-clone before request u switching);
+      (not_kept origin before (command worker request) u (switching-edit (structure origin before) request switching) (switched_elsewhere before (command worker request) u other))
+      (switching-clone before request u switching);
 }
   where
     own : state_of origin (command worker request ∷ before) (working before worker) ≡ (solo (state_of origin before (working before worker)) request).0
@@ -203,8 +203,8 @@ dead_step origin before worker request switching dead = record {
   live_is = switching-live (live before) request switching;
   working_is = λ w. switching-working (live before) (worker == w) request (working before w) switching;
   state_is = λ v. state_left origin before (command worker request) v
-    (not_kept origin before (command worker request) v (switching-edit (structure origin before) request switching) (switched_dead before (command worker request) v dead))
-    (switching-clone before request v switching);
+      (not_kept origin before (command worker request) v (switching-edit (structure origin before) request switching) (switched_dead before (command worker request) v dead))
+      (switching-clone before request v switching);
 }
 
 -- with an answer that leaves the state, as a refusal or a flag that is set already
@@ -225,21 +225,27 @@ unswitched_step origin before worker request switching alive same =
 pub bus_breaker_view_step : (origin : Network) (before : List Command) (worker : ℕ) (level : List ℕ) → Unmoved origin before (command worker (requests.BusBreakerView level))
 unfolding structure structure_after live live_after working name_after is_switching edit_passes clones_into
 bus_breaker_view_step origin before worker level = record {
-  structure_is = refl; live_is = refl; working_is = λ w. refl;
+  structure_is = refl;
+  live_is = refl;
+  working_is = λ w. refl;
   state_is = λ v. state_left origin before _ v (not_kept origin before _ v refl (not_switching before _ v refl)) refl;
 }
 
 pub bus_view_step : (origin : Network) (before : List Command) (worker : ℕ) (level : List ℕ) → Unmoved origin before (command worker (requests.BusView level))
 unfolding structure structure_after live live_after working name_after is_switching edit_passes clones_into
 bus_view_step origin before worker level = record {
-  structure_is = refl; live_is = refl; working_is = λ w. refl;
+  structure_is = refl;
+  live_is = refl;
+  working_is = λ w. refl;
   state_is = λ v. state_left origin before _ v (not_kept origin before _ v refl (not_switching before _ v refl)) refl;
 }
 
 pub components_step : (origin : Network) (before : List Command) (worker : ℕ) (level : List ℕ) → Unmoved origin before (command worker (requests.Components level))
 unfolding structure structure_after live live_after working name_after is_switching edit_passes clones_into
 components_step origin before worker level = record {
-  structure_is = refl; live_is = refl; working_is = λ w. refl;
+  structure_is = refl;
+  live_is = refl;
+  working_is = λ w. refl;
   state_is = λ v. state_left origin before _ v (not_kept origin before _ v refl (not_switching before _ v refl)) refl;
 }
 
@@ -266,7 +272,9 @@ pub refused_edit_step : (origin : Network) (before : List Command) (worker : ℕ
     → Unmoved origin before (command worker (requests.Change edit))
 unfolding structure structure_after live live_after working name_after is_switching clones_into changed_or edit_passes
 refused_edit_step origin before worker edit fault h = record {
-  structure_is = is; live_is = refl; working_is = λ w. refl;
+  structure_is = is;
+  live_is = refl;
+  working_is = λ w. refl;
   state_is = λ v. state_left origin before _ v (not_kept origin before _ v fails (not_switching before _ v refl)) refl;
 }
   where
@@ -282,7 +290,9 @@ pub cloned_step : (origin : Network) (before : List Command) (worker : ℕ) (fro
     → Cloned origin before (command worker (requests.CloneVariant from to overwrite)) from to
 unfolding state_of structure structure_after live live_after working name_after is_switching edit_passes clones_into
 cloned_step origin before worker from to overwrite h = record {
-  structure_is = refl; live_is = rw h refl; working_is = λ w. refl;
+  structure_is = refl;
+  live_is = rw h refl;
+  working_is = λ w. refl;
   target = target;
   others = λ v other. state_left origin before _ v (not_kept origin before _ v refl (not_switching before _ v refl)) (and-false_right (may_clone (live before) from to overwrite) (same_id v to) other);
 }
@@ -294,7 +304,9 @@ pub refused_clone_step : (origin : Network) (before : List Command) (worker : �
     → Unmoved origin before (command worker (requests.CloneVariant from to overwrite))
 unfolding structure structure_after live live_after working name_after is_switching edit_passes clones_into
 refused_clone_step origin before worker from to overwrite h = record {
-  structure_is = refl; live_is = rw h refl; working_is = λ w. refl;
+  structure_is = refl;
+  live_is = rw h refl;
+  working_is = λ w. refl;
   state_is = λ v. state_left origin before _ v (not_kept origin before _ v refl (not_switching before _ v refl)) (and-false_left (may_clone (live before) from to overwrite) (same_id v to) h);
 }
 
@@ -302,7 +314,9 @@ pub removed_step : (origin : Network) (before : List Command) (worker : ℕ) (na
     → Removed origin before (command worker (requests.RemoveVariant name)) name
 unfolding structure structure_after live live_after working name_after is_switching edit_passes clones_into
 removed_step origin before worker name h = record {
-  structure_is = refl; live_is = rw h refl; working_is = λ w. refl;
+  structure_is = refl;
+  live_is = rw h refl;
+  working_is = λ w. refl;
   state_is = λ v. state_left origin before _ v (not_kept origin before _ v refl (not_switching before _ v refl)) refl;
 }
 
@@ -310,7 +324,9 @@ pub refused_removal_step : (origin : Network) (before : List Command) (worker : 
     → Unmoved origin before (command worker (requests.RemoveVariant name))
 unfolding structure structure_after live live_after working name_after is_switching edit_passes clones_into
 refused_removal_step origin before worker name h = record {
-  structure_is = refl; live_is = rw h refl; working_is = λ w. refl;
+  structure_is = refl;
+  live_is = rw h refl;
+  working_is = λ w. refl;
   state_is = λ v. state_left origin before _ v (not_kept origin before _ v refl (not_switching before _ v refl)) refl;
 }
 
@@ -321,7 +337,8 @@ pub used_step : (origin : Network) (before : List Command) (worker : ℕ) (name 
     → Used origin before (command worker (requests.UseVariant name)) name
 unfolding structure structure_after live live_after working name_after is_switching edit_passes clones_into
 used_step origin before worker name h = record {
-  structure_is = refl; live_is = refl;
+  structure_is = refl;
+  live_is = refl;
   own = rw (own_number worker, h) refl;
   others = λ w other. rw other refl;
   state_is = λ v. state_left origin before _ v (not_kept origin before _ v refl (not_switching before _ v refl)) refl;
@@ -331,7 +348,8 @@ pub refused_use_step : (origin : Network) (before : List Command) (worker : ℕ)
     → Unmoved origin before (command worker (requests.UseVariant name))
 unfolding structure structure_after live live_after working name_after is_switching edit_passes clones_into
 refused_use_step origin before worker name h = record {
-  structure_is = refl; live_is = refl;
+  structure_is = refl;
+  live_is = refl;
   working_is = λ w. cond_false (◌&&◌ (worker == w) (has_id (live before) name)) name (working before w) (and-false_right (worker == w) (has_id (live before) name) h);
   state_is = λ v. state_left origin before _ v (not_kept origin before _ v refl (not_switching before _ v refl)) refl;
 }
