@@ -30,19 +30,19 @@ rows_next : (name : List ℕ) (v : Variant) (vs : List Variant) → same_id name
 unfolding rows_of variant_of
 rows_next name v vs e = rw e refl
 
-live_first : (name : List ℕ) (v : Variant) (vs : List Variant) → same_id name v.name ≡ true → is_live (v ∷ vs) name ≡ true
+pub live_first : (name : List ℕ) (v : Variant) (vs : List Variant) → same_id name v.name ≡ true → is_live (v ∷ vs) name ≡ true
 unfolding is_live names has_id
 live_first name v vs e = rw e refl
 
-live_next : (name : List ℕ) (v : Variant) (vs : List Variant) → same_id name v.name ≡ false → is_live (v ∷ vs) name ≡ is_live vs name
+pub live_next : (name : List ℕ) (v : Variant) (vs : List Variant) → same_id name v.name ≡ false → is_live (v ∷ vs) name ≡ is_live vs name
 unfolding is_live names has_id
 live_next name v vs e = rw e refl
 
-none_live : (name : List ℕ) → is_live [] name ≡ false
+pub none_live : (name : List ℕ) → is_live [] name ≡ false
 unfolding is_live names has_id
 none_live name = refl
 
-slot_first : (name : List ℕ) (v : Variant) (vs : List Variant) (slot : ℕ) → same_id name v.name ≡ true → slot_of (v ∷ vs) name ≡ Some slot → v.slot ≡ slot
+pub slot_first : (name : List ℕ) (v : Variant) (vs : List Variant) (slot : ℕ) → same_id name v.name ≡ true → slot_of (v ∷ vs) name ≡ Some slot → v.slot ≡ slot
 unfolding slot_of variant_of
 slot_first name v vs slot e h = by (same_id name v.name) e h
   where
@@ -50,7 +50,7 @@ slot_first name v vs slot e h = by (same_id name v.name) e h
     by true e h = cc
     by false e h = absurd (false≢true e)
 
-slot_next : (name : List ℕ) (v : Variant) (vs : List Variant) → same_id name v.name ≡ false → slot_of (v ∷ vs) name ≡ slot_of vs name
+pub slot_next : (name : List ℕ) (v : Variant) (vs : List Variant) → same_id name v.name ≡ false → slot_of (v ∷ vs) name ≡ slot_of vs name
 unfolding slot_of variant_of
 slot_next name v vs e = rw e refl
 
@@ -75,7 +75,7 @@ pub record Apart (v : Variant) (vs : List Variant) : Type 0 where
   pub fresh : has_slot vs v.slot ≡ false
   pub rest : numbers_differ (slots vs) ≡ true
 
-apart : (v : Variant) (vs : List Variant) → numbers_differ (slots (v ∷ vs)) ≡ true → Apart v vs
+pub apart : (v : Variant) (vs : List Variant) → numbers_differ (slots (v ∷ vs)) ≡ true → Apart v vs
 unfolding slots numbers_differ
 apart v vs h =
     let both = and_parts (not (list_any (λ m. m == v.slot) (map (λ (u : Variant). u.slot) vs))) (numbers_differ (map (λ (u : Variant). u.slot) vs)) h in
@@ -116,7 +116,7 @@ rows_at-slot (v ∷ vs) name slot differ h = by (same_id name v.name) refl (rows
 
 -- ---- a change of the rows at one slot
 
-with_rows-name : (t : Bool) (v : Variant) (rows : Rows) → (cond t (with_rows v rows) v).name ≡ v.name
+pub with_rows-name : (t : Bool) (v : Variant) (rows : Rows) → (cond t (with_rows v rows) v).name ≡ v.name
 unfolding with_rows
 with_rows-name true v rows = refl
 with_rows-name false v rows = refl
@@ -232,17 +232,17 @@ holds_alike told next vs holds same u alive = holds u alive ∙ sym (same u aliv
 
 -- ---- one variant less
 
-without-next : (name : List ℕ) (v : Variant) (vs : List Variant) (t : Bool) → same_id name v.name ≡ t → without_variant name (v ∷ vs) ≡ (if t then without_variant name vs else v ∷ without_variant name vs)
+pub without-next : (name : List ℕ) (v : Variant) (vs : List Variant) (t : Bool) → same_id name v.name ≡ t → without_variant name (v ∷ vs) ≡ (if t then without_variant name vs else v ∷ without_variant name vs)
 unfolding without_variant
 without-next name v vs true e = rw e refl
 without-next name v vs false e = rw e refl
 
-without-none : (name : List ℕ) → without_variant name [] ≡ []
+pub without-none : (name : List ℕ) → without_variant name [] ≡ []
 unfolding without_variant
 without-none name = refl
 
 -- the name that is gone is not live
-never : (name : List ℕ) (vs : List Variant) → is_live (without_variant name vs) name ≡ false
+pub never : (name : List ℕ) (vs : List Variant) → is_live (without_variant name vs) name ≡ false
 never name [] = ap (λ z. is_live z name) (without-none name) ∙ none_live name
 never name (v ∷ vs) = by (same_id name v.name) refl (never name vs)
   where
@@ -287,11 +287,11 @@ holds_removed told next vs name holds same u alive = let l = live_without name v
 
 -- ---- a clone
 
-with-next : (w v : Variant) (vs : List Variant) → with_variant w (v ∷ vs) ≡ (if id_below w.name v.name then w ∷ v ∷ vs else v ∷ with_variant w vs)
+pub with-next : (w v : Variant) (vs : List Variant) → with_variant w (v ∷ vs) ≡ (if id_below w.name v.name then w ∷ v ∷ vs else v ∷ with_variant w vs)
 unfolding with_variant
 with-next w v vs = refl
 
-with-alone : (w : Variant) → with_variant w [] ≡ w ∷ []
+pub with-alone : (w : Variant) → with_variant w [] ≡ w ∷ []
 unfolding with_variant
 with-alone w = refl
 

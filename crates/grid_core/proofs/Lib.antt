@@ -5,5 +5,6 @@ pub mod Keeping
 pub mod Stepping
 pub mod Naming
 pub mod Holding
+pub mod ByNumber
 pub mod Ranges
 pub mod Planned
