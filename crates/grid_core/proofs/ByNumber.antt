@@ -17,7 +17,7 @@ use Rattle.grid_core.proofs.Holding.{Rows, Apart, apart, slot_there, slot_first,
 
 -- ---- lists by number
 
-get-set : {X : Type 0} (xs : List X) (k : ℕ) (x : X) → k < length xs → slice_get (slice_set xs k x) k ≡ Some x
+pub get-set : {X : Type 0} (xs : List X) (k : ℕ) (x : X) → k < length xs → slice_get (slice_set xs k x) k ≡ Some x
 get-set [] k x h = absurd (omega arith)
 get-set (y ∷ ys) zero x h = refl
 get-set (y ∷ ys) (suc k) x h = get-set ys k x (omega arith)
@@ -30,7 +30,7 @@ set_other (y ∷ ys) zero (suc j) x h = refl
 set_other (y ∷ ys) (suc k) zero x h = refl
 set_other (y ∷ ys) (suc k) (suc j) x h = set_other ys k j x (λ e. h (ap suc e))
 
-get-set_other : {X : Type 0} (xs : List X) (k j : ℕ) (x : X) → (k == j) ≡ false → slice_get (slice_set xs k x) j ≡ slice_get xs j
+pub get-set_other : {X : Type 0} (xs : List X) (k j : ℕ) (x : X) → (k == j) ≡ false → slice_get (slice_set xs k x) j ≡ slice_get xs j
 get-set_other xs k j x h = set_other xs k j x (λ e. true≢false (sym (eq-eqb k j e) ∙ h))
 
 get_below : {X : Type 0} (xs : List X) (k : ℕ) (x : X) → slice_get xs k ≡ Some x → k < length xs
@@ -40,7 +40,7 @@ get_below (y ∷ ys) (suc k) x h = omega (arith, get_below ys k x h)
 
 -- ---- slots of names
 
-none_slotted : (name : List ℕ) (slot : ℕ) → slot_of [] name ≡ Some slot → ⊥
+pub none_slotted : (name : List ℕ) (slot : ℕ) → slot_of [] name ≡ Some slot → ⊥
 none_slotted name slot h = false≢true (sym (none_live name) ∙ slot_live [] name slot h)
 
 first_slot : (name : List ℕ) (v : Variant) (vs : List Variant) → same_id name v.name ≡ true → slot_of (v ∷ vs) name ≡ Some v.slot

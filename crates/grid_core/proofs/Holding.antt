@@ -22,7 +22,7 @@ Rows = List (List Bool)
 -- ---- the first variant, and the others
 
 -- of a name that is the first variant's, and of another
-rows_first : (name : List ℕ) (v : Variant) (vs : List Variant) → same_id name v.name ≡ true → rows_of (v ∷ vs) name ≡ v.rows
+pub rows_first : (name : List ℕ) (v : Variant) (vs : List Variant) → same_id name v.name ≡ true → rows_of (v ∷ vs) name ≡ v.rows
 unfolding rows_of variant_of
 rows_first name v vs e = rw e refl
 

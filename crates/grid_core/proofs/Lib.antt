@@ -6,5 +6,6 @@ pub mod Stepping
 pub mod Naming
 pub mod Holding
 pub mod ByNumber
+pub mod Together
 pub mod Ranges
 pub mod Planned

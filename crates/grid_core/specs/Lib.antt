@@ -3,4 +3,5 @@ pub mod History
 pub mod Replies
 pub mod Fitting
 pub mod Slotted
+pub mod Parts
 pub mod Laws
