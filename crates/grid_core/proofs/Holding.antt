@@ -1,6 +1,6 @@
 -- What is told of each name's rows, through the changes of the slots.
-use Rattle.std.proofs.Common.{◌≡◌, refl, sym, ap, ◌∙◌, subst, ℕ, Bool, true, false, cond, not, ◌&&◌, ◌||◌, List, [], ◌∷◌, length, map, Option, Some, None}
-use Rattle.std.specs.Prelude.{if◌then◌else◌, ◌==◌, unwrap_or, filter, find, option_map}
+use Rattle.std.proofs.Common.{◌≡◌, refl, sym, ap, ◌∙◌, subst, ℕ, zero, suc, arith, Bool, true, false, cond, not, ◌&&◌, ◌||◌, List, [], ◌∷◌, length, map, Option, Some, None}
+use Rattle.std.specs.Prelude.{All, ◌<◌, if◌then◌else◌, ◌==◌, unwrap_or, filter, find, option_map}
 use Rattle.std.specs.List.{list_any, list_all}
 use Rattle.std.proofs.lemmas.Bool.{and_parts, and_from, false≢true, true≢false, eqb-true, eq-eqb}
 use Rattle.grid_ids.specs.Name.{same_id, has_id, id_below}
@@ -8,9 +8,10 @@ use Rattle.grid_slots.specs.declared.slots.Variant.{Variant}
 use Rattle.grid_slots.specs.declared.slots.Cloned.{Cloned}
 use Rattle.grid_slots.specs.declared.slots.Cloned.TheVariants as clones
 use Rattle.grid_slots.specs.Variants.{names, is_live, variant_of, slot_of, rows_of, has_slot, rows_at, with_rows, changed, all_changed, with_variant, without_variant, slots, numbers_differ}
+use Rattle.grid_slots.specs.Names.{names_rise}
 use Rattle.grid_slots.specs.Places.{variant}
 use Rattle.grid_slots.specs.Answers.{IsClone}
-use Rattle.grid_slots.proofs.Order.{same_is, same_as_itself, same_back}
+use Rattle.grid_slots.proofs.Order.{same_is, same_as_itself, same_back, above_differs}
 use Rattle.grid_slots.proofs.Changing.{NonePass, changed_none, names-changed, names-all_changed}
 use Rattle.grid_slots.proofs.Tables.{or_false, has_slot-slots}
 use Rattle.grid_core.specs.Slotted.{Holds}
@@ -389,3 +390,41 @@ holds_cloned told next old new from to (clones.Overwritten slot) (found, is) sou
         let same : u ≡ to = same_is u to e in
         subst (λ (z : List ℕ). rows_of new z ≡ next z) (sym same) (ap (λ z. rows_of z to) is ∙ named-own to (rows_of old from) old (slot_live old to slot found) ∙ holds from source ∙ sym own)
     by false e = ap (λ z. rows_of z u) is ∙ named-other to (rows_of old from) old u e ∙ holds u was ∙ sym (others u e)
+
+-- ---- each variant, by its place
+
+passes_of : (p : List ℕ → Bool) (ns : List (List ℕ)) (name : List ℕ) → list_all p ns ≡ true → has_id ns name ≡ true → p name ≡ true
+unfolding has_id
+passes_of p [] name all h = absurd (false≢true h)
+passes_of p (n ∷ ns) name all h = let both = and_parts (p n) (list_all p ns) all in by (same_id name n) refl h both.0 (passes_of p ns name both.1)
+  where
+    by : (t : Bool) → same_id name n ≡ t → t || list_any (same_id name) ns ≡ true → p n ≡ true → (list_any (same_id name) ns ≡ true → p name ≡ true) → p name ≡ true
+    by true e h here again = ap p (same_is name n e) ∙ here
+    by false e h here again = again h
+
+rises_on : (v : Variant) (vs : List Variant) → names_rise (names (v ∷ vs)) ≡ true → (list_all (id_below v.name) (names vs) ≡ true) × (names_rise (names vs) ≡ true)
+unfolding names names_rise
+rises_on v vs h = and_parts (list_all (id_below v.name) (map (λ (u : Variant). u.name) vs)) (names_rise (map (λ (u : Variant). u.name) vs)) h
+
+live_later : (v : Variant) (vs : List Variant) (name : List ℕ) → is_live vs name ≡ true → is_live (v ∷ vs) name ≡ true
+live_later v vs name h = by (same_id name v.name) refl
+  where
+    by : (t : Bool) → same_id name v.name ≡ t → is_live (v ∷ vs) name ≡ true
+    by true e = live_first name v vs e
+    by false e = live_next name v vs e ∙ h
+
+live_names : (vs : List Variant) (name : List ℕ) → is_live vs name ≡ true → has_id (names vs) name ≡ true
+unfolding is_live
+live_names vs name h = h
+
+-- what is so of the rows of each live name is so of each variant's rows
+pub each_variant : (P : Rows → Type 0) (vs : List Variant) → names_rise (names vs) ≡ true → ((name : List ℕ) → is_live vs name ≡ true → P (rows_of vs name)) → All (λ v. P v.rows) vs
+each_variant P [] rise each k d below = absurd (omega arith)
+each_variant P (v ∷ vs) rise each zero d below = subst P (rows_first v.name v vs (same_as_itself v.name)) (each v.name (live_first v.name v vs (same_as_itself v.name)))
+each_variant P (v ∷ vs) rise each (suc k) d below =
+    let parts = rises_on v vs rise in
+    each_variant P vs parts.1 (λ name alive. subst P (rows_next name v vs (above_differs v.name name (passes_of (id_below v.name) (names vs) name parts.0 (live_names vs name alive)))) (each name (live_later v vs name alive))) k d (omega (arith, below))
+
+-- and where rows are told of each live name
+pub each_held : (P : Rows → Type 0) (told : List ℕ → Rows) (vs : List Variant) → names_rise (names vs) ≡ true → Holds told vs → ((name : List ℕ) → is_live vs name ≡ true → P (told name)) → All (λ v. P v.rows) vs
+each_held P told vs rise holds each = each_variant P vs rise (λ name alive. subst P (sym (holds name alive)) (each name alive))

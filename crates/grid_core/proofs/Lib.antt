@@ -9,3 +9,5 @@ pub mod ByNumber
 pub mod Together
 pub mod Ranges
 pub mod Planned
+pub mod Sited
+pub mod Journaled
