@@ -139,10 +139,15 @@ by_slot_set told next vs kept name slot rows differ at holds own others u s h = 
         (get-set kept slot rows (get_below kept slot (told name) (holds name slot at)) ∙ ap (λ (z : Rows). Some z) (sym own ∙ ap next (sym same)))
     by false e = get-set_other kept slot s rows (other_number vs name u slot s differ at h e) ∙ holds u s h ∙ ap (λ (z : Rows). Some z) (sym (others u e))
 
--- a change of all
+-- a change of the rows at each slot that some variant has
+pub by_slot_changed : (told next : List ℕ → Rows) (change : Rows → Rows) (vs : List Variant) (kept new : List Rows) → HoldsBySlot told vs kept
+    → ((slot : ℕ) → has_slot vs slot ≡ true → slice_get new slot ≡ option_map change (slice_get kept slot)) → ((u : List ℕ) → is_live vs u ≡ true → next u ≡ change (told u)) → HoldsBySlot next vs new
+by_slot_changed told next change vs kept new holds made each u s h =
+    made s (slot_there vs u s h) ∙ ap (option_map change) (holds u s h) ∙ ap (λ (z : Rows). Some z) (sym (each u (slot_live vs u s h)))
+
+-- as of all
 pub by_slot_all : (told next : List ℕ → Rows) (change : Rows → Rows) (vs : List Variant) (kept : List Rows) → HoldsBySlot told vs kept → ((u : List ℕ) → is_live vs u ≡ true → next u ≡ change (told u)) → HoldsBySlot next vs (map change kept)
-by_slot_all told next change vs kept holds each u s h =
-    slice_get-map change kept s ∙ ap (option_map change) (holds u s h) ∙ ap (λ (z : Rows). Some z) (sym (each u (slot_live vs u s h)))
+by_slot_all told next change vs kept holds each = by_slot_changed told next change vs kept (map change kept) holds (λ slot there. slice_get-map change kept slot) each
 
 -- one variant less
 slot-without : (name : List ℕ) (vs : List Variant) (u : List ℕ) (s : ℕ) → numbers_differ (slots vs) ≡ true → is_live (without_variant name vs) u ≡ true → slot_of (without_variant name vs) u ≡ slot_of vs u

@@ -229,7 +229,7 @@ named_as (x ∷ ls) id l h = by (same_id id x.id) refl h (named_as ls id l)
     by true e h again = let same : x ≡ l = cc in same_is id x.id e ∙ ap (λ z. z.id) same
     by false e h again = again h
 
-found_still : (net : Network) (new : VoltageLevel) (id : List ℕ) → find_level (editing.with_level new net) id ≡ find_level net id
+pub found_still : (net : Network) (new : VoltageLevel) (id : List ℕ) → find_level (editing.with_level new net) id ≡ find_level net id
 unfolding find_level editing.with_level
 found_still net new id = position_alike id (levels (editing.with_level new net)) (levels net) (ap ids_of (levels-with_levels (put new) net) ∙ ids-put new (levels net))
 
@@ -262,13 +262,13 @@ level-fit net new id substation nominal_v low_v high_v rows s h e =
     rw (k.1, k.2) (fit_level rows (levels net) k.0 _ e refl)
 
 -- where the switch that is to be removed stands
-record Spot (net : Network) (id : List ℕ) : Type 0 where
-  level : ℕ
-  place : ℕ
-  old : VoltageLevel
-  at : slice_get (levels net) level ≡ Some old
-  there : position (λ (s : Switch). same_id id s.id) old.switches ≡ Some place
-  is : find_switch net id ≡ Some (level, place)
+pub record Spot (net : Network) (id : List ℕ) : Type 0 where
+  pub level : ℕ
+  pub place : ℕ
+  pub old : VoltageLevel
+  pub at : slice_get (levels net) level ≡ Some old
+  pub there : position (λ (s : Switch). same_id id s.id) old.switches ≡ Some place
+  pub is : find_switch net id ≡ Some (level, place)
 
 some-of : {X : Type 0} (o : Option X) → is_some o ≡ true → (x : X) × (o ≡ Some x)
 some-of (Some x) h = (x, refl)
@@ -279,7 +279,7 @@ got-level [] k h = absurd (omega arith)
 got-level (l ∷ ls) zero h = (l, refl)
 got-level (l ∷ ls) (suc k) h = got-level ls k (omega arith)
 
-spot-of : (net : Network) (id : List ℕ) → has_id (switch_ids net) id ≡ true → Spot net id
+pub spot-of : (net : Network) (id : List ℕ) → has_id (switch_ids net) id ≡ true → Spot net id
 spot-of net id h =
     let k = some-of (level_of_switch net id) (sym (switch_there net id) ∙ h) in
     let has = switch_has net id k.0 k.1 in

@@ -5,6 +5,7 @@ pub mod Keeping
 pub mod Stepping
 pub mod Naming
 pub mod Holding
+pub mod EditRows
 pub mod ByNumber
 pub mod Together
 pub mod Ranges

@@ -1,6 +1,6 @@
 -- The parts of a machine of all variants hold its history, step by step.
 use Rattle.std.proofs.Common.{◌≡◌, refl, sym, ap, ◌∙◌, subst, ℕ, zero, suc, ◌<◌, Bool, true, false, cond, not, List, [], ◌∷◌, length, map, arith, replicate, Option, Some, None}
-use Rattle.std.specs.Prelude.{slice_get, slice_set, ◌==◌, Ok}
+use Rattle.std.specs.Prelude.{slice_get, slice_set, ◌==◌, Ok, option_map}
 use Rattle.std.proofs.lemmas.Bool.{true≢false, eqb-true, eq-eqb}
 use Rattle.std.proofs.lemmas.List.{length-set}
 use Rattle.grid_ids.specs.Name.{same_id, has_id}
@@ -10,7 +10,7 @@ use Rattle.grid_structure.specs.Soundness.{IsSound}
 use Rattle.grid_slots.specs.declared.slots.Variant.{Variant}
 use Rattle.grid_slots.specs.declared.slots.Cloned.{Cloned}
 use Rattle.grid_slots.specs.Names.{initial_state, with_name, without_name}
-use Rattle.grid_slots.specs.Variants.{names, is_live, slot_of, rows_of, rows_at, slots, numbers_differ, with_rows, changed, all_changed, without_variant}
+use Rattle.grid_slots.specs.Variants.{names, is_live, slot_of, rows_of, rows_at, has_slot, slots, numbers_differ, with_rows, changed, all_changed, without_variant}
 use Rattle.grid_slots.specs.Places.{variant}
 use Rattle.grid_slots.specs.Answers.{IsClone}
 use Rattle.grid_slots.proofs.Order.{same_is, same_as_itself}
@@ -29,7 +29,7 @@ use Rattle.grid_core.proofs.Lineages.{structure_of_lineage}
 use Rattle.grid_core.proofs.Stepping.{Unmoved, Switched, Edited, Cloned as CloneStep, Removed, Used}
 use Rattle.grid_core.proofs.Naming.{live_slot}
 use Rattle.grid_core.proofs.Holding.{Rows, rows_at-slot, rows_first, slot_first, slot_next, live_next, none_live, holds_changed, holds_all, holds_alike, holds_removed, holds_cloned}
-use Rattle.grid_core.proofs.ByNumber.{get-set, get-set_other, none_slotted, slot-changed, slot-all_changed, by_slot_alike, by_slot_set, by_slot_all, by_slot_removed, by_slot_cloned}
+use Rattle.grid_core.proofs.ByNumber.{get-set, get-set_other, none_slotted, slot-changed, slot-all_changed, by_slot_alike, by_slot_set, by_slot_changed, by_slot_removed, by_slot_cloned}
 
 -- ---- what is read
 
@@ -126,18 +126,19 @@ parts_retained origin before step v now variants kept works slot rows s differ a
         subst (λ (z : List ℕ). (state_of origin (step ∷ before) z).opened ≡ (state_of origin before z).opened) (sym (same_is u v e)) (ap (λ (z : State). z.opened) (s.own ∙ does))
     each u false e = ap (λ (z : State). z.opened) (s.others u e)
 
--- an accepted edit
-pub parts_edited : (origin : Network) (before : List Command) (step : Command) (edit : Edit) (now new : Network) (variants : List Variant) (kept : List Rows) (works : List (List ℕ)) → Edited origin before step edit new
+-- an accepted edit, with the flags retained changed at each slot that some variant has
+pub parts_edited : (origin : Network) (before : List Command) (step : Command) (edit : Edit) (now new : Network) (variants : List Variant) (kept next : List Rows) (works : List (List ℕ)) → Edited origin before step edit new
+    → ((slot : ℕ) → has_slot variants slot ≡ true → slice_get next slot ≡ option_map (rows_after the_retained now new edit) (slice_get kept slot))
     → PartsHold origin before now variants kept works
-    → PartsHold origin (step ∷ before) new (all_changed (rows_after the_opened now new edit) variants) (map (rows_after the_retained now new edit) kept) works
+    → PartsHold origin (step ∷ before) new (all_changed (rows_after the_opened now new edit) variants) next works
 unfolding is_live lives changed_state
-parts_edited origin before step edit now new variants kept works e p = record {
+parts_edited origin before step edit now new variants kept next works e made p = record {
   sound = p.sound;
   structure_is = sym e.structure_is;
   names_are = names-all_changed (rows_after the_opened now new edit) variants ∙ p.names_are ∙ sym e.live_is;
   opened = holds_all (opened_rows origin before) (opened_rows origin (step ∷ before)) (rows_after the_opened now new edit) variants p.opened (λ v alive. of_opened v (ap (λ ns. has_id ns v) (sym p.names_are) ∙ alive));
-  retained = by_slot_alike (retained_rows origin (step ∷ before)) (retained_rows origin (step ∷ before)) variants (all_changed (rows_after the_opened now new edit) variants) (map (rows_after the_retained now new edit) kept)
-      (by_slot_all (retained_rows origin before) (retained_rows origin (step ∷ before)) (rows_after the_retained now new edit) variants kept p.retained (λ v alive. of_retained v (ap (λ ns. has_id ns v) (sym p.names_are) ∙ alive)))
+  retained = by_slot_alike (retained_rows origin (step ∷ before)) (retained_rows origin (step ∷ before)) variants (all_changed (rows_after the_opened now new edit) variants) next
+      (by_slot_changed (retained_rows origin before) (retained_rows origin (step ∷ before)) (rows_after the_retained now new edit) variants kept next p.retained made (λ v alive. of_retained v (ap (λ ns. has_id ns v) (sym p.names_are) ∙ alive)))
       (slot-all_changed (rows_after the_opened now new edit) variants) (λ v alive. refl);
   working_are = λ w h. p.working_are w h ∙ ap (λ (z : List ℕ). Some z) (sym (e.working_is w));
 }
@@ -156,18 +157,17 @@ unfolding all_changed with_rows
 all_same change [] same = refl
 all_same change (v ∷ vs) same = ap (λ (rows : Rows). (record v { rows = rows }) ∷ map (λ (u : Variant). record u { rows = change u.rows }) vs) (same v.rows) ∙ ap (λ z. v ∷ z) (all_same change vs same)
 
-map_same : (change : Rows → Rows) (kept : List Rows) → ((rows : Rows) → change rows ≡ rows) → map change kept ≡ kept
-map_same change [] same = refl
-map_same change (rows ∷ kept) same = ap (λ z. z ∷ map change kept) (same rows) ∙ ap (λ z. rows ∷ z) (map_same change kept same)
+option_same : (change : Rows → Rows) (o : Option Rows) → ((rows : Rows) → change rows ≡ rows) → o ≡ option_map change o
+option_same change (Some rows) same = ap (λ (z : Rows). Some z) (sym (same rows))
+option_same change None same = refl
 
 -- an accepted edit that leaves the rows
 pub parts_edited_alone : (origin : Network) (before : List Command) (step : Command) (edit : Edit) (now new : Network) (variants : List Variant) (kept : List Rows) (works : List (List ℕ)) → Edited origin before step edit new
     → ((flag : Flag) (rows : Rows) → rows_after flag now new edit rows ≡ rows)
     → PartsHold origin before now variants kept works → PartsHold origin (step ∷ before) new variants kept works
 parts_edited_alone origin before step edit now new variants kept works e leaves p =
-    let q = parts_edited origin before step edit now new variants kept works e p in
     subst (λ (z : List Variant). PartsHold origin (step ∷ before) new z kept works) (all_same (rows_after the_opened now new edit) variants (leaves the_opened))
-    (subst (λ (z : List Rows). PartsHold origin (step ∷ before) new (all_changed (rows_after the_opened now new edit) variants) z works) (map_same (rows_after the_retained now new edit) kept (leaves the_retained)) q)
+    (parts_edited origin before step edit now new variants kept kept works e (λ slot there. option_same (rows_after the_retained now new edit) (slice_get kept slot) (leaves the_retained)) p)
 
 -- an accepted clone
 pub parts_cloned : (origin : Network) (before : List Command) (step : Command) (from to : List ℕ) (now : Network) (old new : List Variant) (kept : List Rows) (works : List (List ℕ)) (cloned : Cloned) (rows : Rows)
