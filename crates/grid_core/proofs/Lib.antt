@@ -12,3 +12,4 @@ pub mod Ranges
 pub mod Planned
 pub mod Sited
 pub mod Journaled
+pub mod Asking
