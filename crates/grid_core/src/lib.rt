@@ -1,6 +1,12 @@
-//! Requests, and scripts of them.
+//! Requests, replies, and what a list of steps by several workers means for each variant.
 #![tactic(auto)]
 
+mod journal;
+pub mod laws;
+mod reply;
 mod request;
 
+pub use grid_islands::{BusComponent, BusComponents};
+pub use journal::{Entry, Journal};
+pub use reply::{Refusal, Reply};
 pub use request::{Request, Script, Scripts};

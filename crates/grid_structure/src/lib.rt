@@ -106,7 +106,7 @@ pub enum Edit {
 }
 
 /// Why an edit is refused. The rules are the IIDM documentation's, the limits this project's own.
-#[derive(Debug, Drop)]
+#[derive(Clone, Debug, Drop)]
 pub enum EditFault {
     /// 10 to 14: the record breaks its rule.
     Check(CheckFault),

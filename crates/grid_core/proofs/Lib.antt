@@ -1,0 +1,15 @@
+pub mod Lineages
+pub mod Counting
+pub mod Fits
+pub mod Keeping
+pub mod Stepping
+pub mod Naming
+pub mod Holding
+pub mod EditRows
+pub mod ByNumber
+pub mod Together
+pub mod Ranges
+pub mod Planned
+pub mod Sited
+pub mod Journaled
+pub mod Asking
