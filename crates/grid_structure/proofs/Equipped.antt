@@ -122,7 +122,7 @@ flat_less look other places heads less ls bs e n alike some is f =
 
 -- ---- a busbar section or an injection is no branch
 
-two_or_more : (shape : Branch) → 2 ≤ length (branch_ends shape)
+pub two_or_more : (shape : Branch) → 2 ≤ length (branch_ends shape)
 unfolding branch_ends
 two_or_more (Line end1 end2) = omega arith
 two_or_more (TwoWindings substation end1 end2 rated_u1 rated_u2) = omega arith

@@ -36,3 +36,4 @@ pub mod Dropping
 pub mod Uniquely
 pub mod Cleared
 pub mod Equipped
+pub mod Sited

@@ -1,5 +1,5 @@
 -- What stands in a network, and where.
-use Rattle.std.specs.Prelude.{ℕ, ℤ, ◌+◌, Bool, not, ◌&&◌, ◌==◌, if◌then◌else◌, Option, Some, None, List, [], ◌∷◌, ◌++◌, length, map, filter, find, flat_map, option_map, position, ◌-◌, nat_lt}
+use Rattle.std.specs.Prelude.{ℕ, ℤ, ◌+◌, Bool, not, ◌&&◌, ◌==◌, if◌then◌else◌, Option, Some, None, List, [], ◌∷◌, ◌++◌, length, map, filter, find, flat_map, option_map, position, ◌-◌, nat_lt, ◌≡◌}
 use Rattle.std.specs.List.{list_any}
 use Rattle.grid_ids.specs.Name.{same_id, has_id}
 use Rattle.grid_level.specs.declared.Switch.{Switch}
@@ -11,6 +11,7 @@ use Rattle.grid_structure.specs.declared.Branch.TheVariants.{Line, TwoWindings, 
 use Rattle.grid_structure.specs.declared.End.{End}
 use Rattle.grid_structure.specs.declared.SwitchAt.{SwitchAt}
 use Rattle.grid_structure.specs.declared.Site.{Site}
+use Rattle.grid_structure.specs.declared.BranchSites.{BranchSites}
 use Rattle.grid_structure.specs.Network.{Network, Substation}
 
 -- the substations' levels, one list after the other; a level's place is its position there
@@ -115,3 +116,9 @@ switch_spot pair = record { level = pair.0; place = pair.1 }
 
 abbrev pub terminal_spot : ℕ × ℕ → Site
 terminal_spot pair = record { level = pair.0; node = pair.1 }
+
+-- where the ends of a branch stand
+abbrev pub AreSites : Network → Option NamedBranch → BranchSites → Type 0
+AreSites net None found = ⊥
+AreSites net (Some branch) found =
+    (option_map terminal_spot (site net branch.id 1) ≡ Some found.end1) × (option_map terminal_spot (site net branch.id 2) ≡ Some found.end2) × (option_map terminal_spot (site net branch.id 3) ≡ found.end3)

@@ -1,11 +1,13 @@
 // What a structure tells of itself. None of these takes memory.
-ghost use Rattle.std.specs.Prelude.{◌≡◌, ◌<◌, ◌^◌, length, Some, slice_get};
+ghost use Rattle.std.specs.Prelude.{◌≡◌, ◌<◌, ◌^◌, length, Some, IsSome, slice_get};
 ghost use Rattle.std.specs.Option.{option_map};
 ghost use Rattle.grid_structure.specs.Cutting.{level_total, head_place};
+ghost use Rattle.grid_structure.specs.Soundness.{IsSound};
 ghost use Rattle.grid_structure.specs.Sites as sites;
+ghost use Rattle.grid_structure.specs.Sites.{AreSites, terminal_spot};
 
 use crate::structure::Head;
-use crate::{Branch, Structure};
+use crate::{Branch, BranchSites, Site, Structure};
 use grid_ids::Id;
 use grid_level::Level;
 
@@ -101,5 +103,37 @@ impl Structure {
             return &self.transformers[place].shape;
         }
         &self.lines[place - self.transformers.len()].shape
+    }
+
+    /// Tells what every structure keeps: it is sound.
+    pub fn keeps(&self)
+        ensures { IsSound self.now }
+    {
+        let _ = &self.id;
+    }
+
+    // Where the terminal of a side is that stands in a level.
+    fn end_site(&self, id: &Id, side: u8) -> Site
+        requires { IsSome (sites.site self.now id.now side) }
+        ensures { option_map terminal_spot (sites.site self.now id.now side) ≡ Some result }
+    {
+        match self.site(id, side) {
+            Some(site) => site,
+            None => Site { level: 0, node: 0 },
+        }
+    }
+
+    /// Where the ends of the branch at a place are.
+    pub fn branch_sites(&self, place: u32) -> BranchSites
+        requires { place < length (sites.branches self.now) }
+        ensures { AreSites self.now (slice_get (sites.branches self.now) place) result }
+    {
+        self.keeps();
+        let id = self.branch_id(place);
+        BranchSites {
+            end1: self.end_site(id, 1),
+            end2: self.end_site(id, 2),
+            end3: self.site(id, 3),
+        }
     }
 }

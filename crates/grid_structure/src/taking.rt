@@ -6,7 +6,7 @@ ghost use Rattle.grid_level.specs.LevelEdits.{level_without_equipment};
 ghost use Rattle.grid_structure.specs.Clearing.{IsDropped, cleared, winding_place};
 ghost use Rattle.grid_structure.specs.Cutting.{transformer_total};
 ghost use Rattle.grid_structure.specs.Editing as editing;
-ghost use Rattle.grid_structure.specs.Editing.{IsRefused, IsTold, without_branch};
+ghost use Rattle.grid_structure.specs.Editing.{IsRefused, IsTold, takes_away, without_branch};
 
 use crate::finding::{drop_entry, entry_of, level_of_terminal, sides_of_entry};
 use crate::structure::Head;
@@ -124,11 +124,14 @@ impl Structure {
         Ok(())
     }
 
-    /// Makes a change, or answers why it is not made; then the structure is as before.
+    /// Makes a change, or answers why it is not made; then the structure is as before. What takes away takes no
+    /// memory.
+    #[tactic(auto, unfolding(crate::specs::Editing::takes_away))]
     pub fn apply(&mut self, edit: &Edit) -> Result<(), ApplyFault>
         ensures done { OnOk result (editing.apply self.old edit.now ≡ Ok self.new) }
         ensures same { OnErr result (self.new ≡ self.old) }
         ensures refused { IfErr result (IsTold (editing.apply self.old edit.now)) }
+        ensures sure { IsTrue (takes_away edit.now) → IfErr result IsRefused }
     {
         match edit {
             Edit::AddSubstation { id } => self.add_substation(id),
