@@ -173,6 +173,3 @@ pub struct BranchSites {
     pub end2: Site,
     pub end3: Option<Site>,
 }
-
-#[cfg(test)]
-mod tests;
