@@ -4,12 +4,9 @@ use Rattle.std.specs.Prelude.{filter}
 use Rattle.std.specs.List.{flat_map}
 use Rattle.std.proofs.lemmas.List.Concat.{flat_map-append}
 use Rattle.std.proofs.lemmas.List.Elements.{filter-append}
-use Rattle.grid_structure.specs.Network.{Network}
-use Rattle.grid_events.specs.declared.event.Event.{Event}
 use Rattle.grid_events.specs.declared.filter.Filter.{Filter}
 use Rattle.grid_events.specs.Filters.{matches}
 use Rattle.grid_core.specs.declared.journal.Entry.{Entry}
-use Rattle.grid_core.specs.History.{Command}
 use Rattle.grid_core.specs.Replies.{heard, step_events}
 use Rattle.grid_core.specs.Journals.{journal_of, entry_of}
 use Rattle.grid_report.specs.Outcomes.{heard_in}

@@ -1,8 +1,5 @@
-use Rattle.std.proofs.Common.{◌≡◌, ◌++◌, [], sym, append-nil}
-use Rattle.std.specs.Prelude.{filter}
+use Rattle.std.proofs.Common.{sym, append-nil}
 use Rattle.std.specs.List.{flat_map}
-use Rattle.grid_events.specs.Filters.{matches}
-use Rattle.grid_report.specs.Events.{event_line}
 use Rattle.grid_report.specs.Outcomes.{heard_in}
 use Rattle.grid_report.specs.Blocks.{block_text}
 use Rattle.grid_report.proofs.Planned.{part_more, heard_text_more}

@@ -1,4 +1,4 @@
-use Rattle.std.proofs.Common.{◌≡◌, ◌++◌, [], sym, append-nil}
+use Rattle.std.proofs.Common.{sym, append-nil}
 use Rattle.std.specs.List.{flat_map}
 use Rattle.grid_report.specs.Outcomes.{numbered, listener_text}
 use Rattle.grid_report.specs.Blocks.{block_text}

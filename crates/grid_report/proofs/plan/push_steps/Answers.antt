@@ -1,4 +1,4 @@
-use Rattle.std.proofs.Common.{List, ◌≡◌, ◌++◌, ◌≤◌, ◌+◌, ℕ, [], ◌∷◌, take, length, refl, sym, ap, ◌∙◌, append-nil, arith}
+use Rattle.std.proofs.Common.{List, ◌≡◌, ◌++◌, [], ◌∷◌, take, length, refl, sym, ap, ◌∙◌, append-nil, arith}
 use Rattle.std.specs.List.{flat_map}
 use Rattle.grid_report.specs.Outcomes.{numbered, step_text, steps_by}
 use Rattle.std.proofs.lemmas.List.{length-take}
