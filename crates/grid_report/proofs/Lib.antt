@@ -1,4 +1,5 @@
 pub mod Begun
 pub mod Listening
+pub mod Ordered
 pub mod Planned
 pub mod Writing

@@ -84,7 +84,7 @@ steps_more worker number journal i e lt is own counted =
 
 -- ---- workers
 
-range_last : (a n : ℕ) → range_with_len a (suc n) ≡ range_with_len a n ++ (a + n) ∷ []
+pub range_last : (a n : ℕ) → range_with_len a (suc n) ≡ range_with_len a n ++ (a + n) ∷ []
 range_last a zero =
     let e : a ≡ a + 0 = omega arith in
     ap (λ x. x ∷ []) e

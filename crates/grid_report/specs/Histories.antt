@@ -1,11 +1,11 @@
 -- The report of a history: of scripts that are run in some order on a network.
-use Rattle.std.specs.Prelude.{◌≡◌, ℕ, suc, ◌==◌, List, [], ◌∷◌, ◌++◌, Option, length, map, reverse, take, slice_get, option_map, option_and_then}
+use Rattle.std.specs.Prelude.{◌≡◌, ℕ, suc, ◌==◌, List, [], ◌∷◌, ◌++◌, Option, Some, None, length, map, reverse, take, slice_get, option_map, option_and_then}
 use Rattle.std.specs.List.{filter_map, count_by, range_with_len}
 use Rattle.grid_structure.specs.Network.{Network}
 use Rattle.grid_structure.specs.Sites.{levels}
 use Rattle.grid_events.specs.declared.filter.Filter.{Filter}
 use Rattle.grid_core.specs.declared.request.Request.{Request}
-use Rattle.grid_core.specs.History.{Command, History, command, live, structure}
+use Rattle.grid_core.specs.History.{Command, History, command, live, structure, asked_by}
 use Rattle.grid_core.specs.Replies.{view, heard}
 use Rattle.grid_core.specs.Journals.{journal_of}
 use Rattle.grid_report.specs.declared.outcome.VariantView.{VariantView}
@@ -51,6 +51,19 @@ steps_of scripts order = reverse (filter_map (step_at scripts order) (range_with
 unfoldable pub history_of : Network → List (List Request) → List ℕ → History
 history_of origin scripts order = record { origin = origin; workers = length scripts; steps = steps_of scripts order }
 
+-- the order that steps were made in
+unfoldable pub told_order : List Command → List ℕ
+told_order steps = reverse (map (λ step. step.worker) steps)
+
+-- a worker beyond the scripts has none
+unfoldable pub script_of : Option (List Request) → List Request
+script_of None = []
+script_of (Some script) = script
+
+-- each worker asked just its script, and no other worker asked
+abbrev pub AsksScripts : List (List Request) → List Command → Type 0
+AsksScripts scripts steps = (worker : ℕ) → reverse (asked_by worker steps) ≡ script_of (slice_get scripts worker)
+
 -- these workers in turn, the first of which has this number, each as often as its script has commands
 unfoldable pub in_turn_from : ℕ → List (List Request) → List ℕ
 in_turn_from worker [] = []
@@ -64,6 +77,10 @@ in_turn scripts = in_turn_from 0 scripts
 
 unfoldable pub report_text : Network → List (List Request) → List Filter → List ℕ → List ℕ
 report_text origin scripts filters order = report_of (outcome_of (history_of origin scripts order) filters)
+
+-- steps in which each worker asked its script are those of the scripts in the steps' order
+abbrev pub OrderTellsSteps : Type 0
+OrderTellsSteps = (scripts : List (List Request)) (steps : List Command) → AsksScripts scripts steps → steps_of scripts (told_order steps) ≡ steps
 
 -- a listener of a history hears just the events of its journal that its filter matches
 abbrev pub HearsItsJournal : Type 0

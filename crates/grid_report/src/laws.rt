@@ -1,8 +1,13 @@
 //! Laws of reports, each the contract of a function that does nothing.
 
-ghost use Rattle.grid_report.specs.Histories.{HearsItsJournal};
+ghost use Rattle.grid_report.specs.Histories.{HearsItsJournal, OrderTellsSteps};
 
 /// What a report tells of a listener is what the listener of that history heard.
 pub fn listeners_hear_the_journal()
     ensures { HearsItsJournal }
+{}
+
+/// Steps in which each worker asked just its script are the steps of the scripts in the order in which they were made.
+pub fn order_tells_steps()
+    ensures { OrderTellsSteps }
 {}
