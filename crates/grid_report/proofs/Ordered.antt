@@ -71,7 +71,7 @@ module _ (scripts : List (List Request)) (order : List ℕ) (worker : ℕ) where
 
 -- ---- what was asked
 
-told_last : (step : Command) (before : List Command) → told_order (step ∷ before) ≡ told_order before ++ step.worker ∷ []
+pub told_last : (step : Command) (before : List Command) → told_order (step ∷ before) ≡ told_order before ++ step.worker ∷ []
 unfolding told_order
 told_last step before = last_first step.worker (map (λ (s : Command). s.worker) before)
 
@@ -91,7 +91,7 @@ asked_none : (worker : ℕ) → 0 ≡ length (asked_by worker [])
 unfolding asked_by
 asked_none worker = refl
 
-told_none : told_order [] ≡ []
+pub told_none : told_order [] ≡ []
 unfolding told_order
 told_none = refl
 
@@ -152,7 +152,7 @@ own_next scripts step before more e =
     (next_in (slice_get scripts step.worker) (reverse asked) more step.request (count_by (λ w. w == step.worker) (told_order before))
     (own_front (script_of (slice_get scripts step.worker)) step.worker step before more (eq-eqb step.worker step.worker refl) e) count)
 
-steps_none : (scripts : List (List Request)) → steps_of scripts [] ≡ []
+pub steps_none : (scripts : List (List Request)) → steps_of scripts [] ≡ []
 unfolding steps_of
 steps_none scripts = refl
 

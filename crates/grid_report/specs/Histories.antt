@@ -64,6 +64,10 @@ script_of (Some script) = script
 abbrev pub AsksScripts : List (List Request) → List Command → Type 0
 AsksScripts scripts steps = (worker : ℕ) → reverse (asked_by worker steps) ≡ script_of (slice_get scripts worker)
 
+-- an order of scripts: each worker stands as often as its script has commands, and no other number stands
+abbrev pub IsOrder : List (List Request) → List ℕ → Type 0
+IsOrder scripts order = (worker : ℕ) → count_by (λ w. w == worker) order ≡ length (script_of (slice_get scripts worker))
+
 -- these workers in turn, the first of which has this number, each as often as its script has commands
 unfoldable pub in_turn_from : ℕ → List (List Request) → List ℕ
 in_turn_from worker [] = []
@@ -81,6 +85,14 @@ report_text origin scripts filters order = report_of (outcome_of (history_of ori
 -- steps in which each worker asked its script are those of the scripts in the steps' order
 abbrev pub OrderTellsSteps : Type 0
 OrderTellsSteps = (scripts : List (List Request)) (steps : List Command) → AsksScripts scripts steps → steps_of scripts (told_order steps) ≡ steps
+
+-- the steps of scripts in an order of theirs were made in that order
+abbrev pub StepsTellOrder : Type 0
+StepsTellOrder = (scripts : List (List Request)) (order : List ℕ) → IsOrder scripts order → told_order (steps_of scripts order) ≡ order
+
+-- the workers in turn are such an order
+abbrev pub InTurnIsOrder : Type 0
+InTurnIsOrder = (scripts : List (List Request)) → IsOrder scripts (in_turn scripts)
 
 -- a listener of a history hears just the events of its journal that its filter matches
 abbrev pub HearsItsJournal : Type 0

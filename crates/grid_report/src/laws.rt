@@ -1,6 +1,6 @@
 //! Laws of reports, each the contract of a function that does nothing.
 
-ghost use Rattle.grid_report.specs.Histories.{HearsItsJournal, OrderTellsSteps};
+ghost use Rattle.grid_report.specs.Histories.{HearsItsJournal, InTurnIsOrder, OrderTellsSteps, StepsTellOrder};
 
 /// What a report tells of a listener is what the listener of that history heard.
 pub fn listeners_hear_the_journal()
@@ -10,4 +10,10 @@ pub fn listeners_hear_the_journal()
 /// Steps in which each worker asked just its script are the steps of the scripts in the order in which they were made.
 pub fn order_tells_steps()
     ensures { OrderTellsSteps }
+{}
+
+/// The steps of scripts in an order of theirs were made in that order, and the workers in turn are one.
+pub fn steps_tell_order()
+    ensures told { StepsTellOrder }
+    ensures in_turn { InTurnIsOrder }
 {}
