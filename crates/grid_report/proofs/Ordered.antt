@@ -1,7 +1,7 @@
 -- Steps of scripts in an order, one more at a time.
 use Rattle.std.proofs.Common.{◌≡◌, ℕ, zero, suc, ◌+◌, ◌<◌, ◌≤◌, ◌==◌, cond, Bool, true, false, List, [], ◌∷◌, ◌++◌, Option, None, Some, map, take, length, refl, sym, ap, ◌∙◌, append_assoc, append-nil, length-append, arith}
 use Rattle.std.specs.Prelude.{reverse, filter, slice_get, option_map, option_and_then}
-use Rattle.std.specs.List.{filter_map, cons_option, count_by, sum_by, range_with_len}
+use Rattle.std.specs.List.{filter_map, cons_option, count_by, range_with_len}
 use Rattle.std.proofs.lemmas.Bool.{eq-eqb}
 use Rattle.std.proofs.lemmas.List.{reverse-append, length-reverse, take-append-le}
 use Rattle.std.proofs.Math.Seq.{take-append_seam}
@@ -9,7 +9,7 @@ use Rattle.std.proofs.lemmas.List.Elements.{filter_map-append}
 use Rattle.std.proofs.lemmas.List.Sums.{sum_by-append}
 use Rattle.grid_core.specs.declared.request.Request.{Request}
 use Rattle.grid_core.specs.History.{Command, command, asked_by}
-use Rattle.grid_report.specs.Histories.{next_of, step_at, steps_of, told_order, script_of, AsksScripts, OrderTellsSteps}
+use Rattle.grid_report.specs.Histories.{next_of, step_at, steps_of, told_order, script_of, OrderTellsSteps}
 use Rattle.grid_report.proofs.Planned.{range_last}
 
 -- ---- lists

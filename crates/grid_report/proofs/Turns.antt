@@ -1,16 +1,17 @@
 -- Orders of scripts, one place more at a time, and the workers in turn.
-use Rattle.std.proofs.Common.{◌≡◌, ℕ, zero, suc, ◌+◌, ◌-◌, ◌<◌, ◌≤◌, ◌==◌, cond, Bool, true, false, List, [], ◌∷◌, ◌++◌, Option, None, Some, map, take, drop, get_or, length, refl, sym, ap, ◌∙◌, append_assoc, append-nil, length-append, take-append-drop, add-one, arith}
-use Rattle.std.specs.Prelude.{reverse, slice_get, option_map, option_and_then}
-use Rattle.std.specs.List.{cons_option, count_by, sum_by}
+use Rattle.std.proofs.Common.{◌≡◌, ℕ, zero, suc, ◌+◌, ◌<◌, ◌≤◌, ◌==◌, cond, Bool, List, [], ◌∷◌, ◌++◌, Option, None, Some, map, take, drop, get_or, length, refl, sym, ap, ◌∙◌, subst, take-append-drop, add-one, arith}
+use Rattle.std.specs.Prelude.{slice_get, option_map, option_and_then}
+use Rattle.std.specs.List.{All, cons_option, count_by}
 use Rattle.std.proofs.lemmas.Bool.{eq-eqb, ne_eqb}
 use Rattle.std.proofs.lemmas.Grind.{get_or_default_zero}
 use Rattle.std.proofs.Math.Seq.{take-suc}
 use Rattle.std.proofs.lemmas.List.{take_more, take_all}
 use Rattle.std.proofs.lemmas.List.Sums.{sum_by-append, sum_by-cons, count_by_more_yes}
-use Rattle.std.proofs.lemmas.Option.{slice_get-get_or}
+use Rattle.std.proofs.lemmas.Option.{slice_get-get_or, slice_get_within}
+use Rattle.std.proofs.lemmas.List.Elements.{All-cons}
 use Rattle.grid_core.specs.declared.request.Request.{Request}
 use Rattle.grid_core.specs.History.{Command, command}
-use Rattle.grid_report.specs.Histories.{next_of, steps_of, told_order, script_of, in_turn, in_turn_from, IsOrder, StepsTellOrder, InTurnIsOrder}
+use Rattle.grid_report.specs.Histories.{next_of, steps_of, history_of, told_order, script_of, in_turn, in_turn_from, IsOrder, OrdersMakeHistories, StepsTellOrder, InTurnIsOrder}
 use Rattle.grid_report.proofs.Ordered.{steps_longer, told_last, told_none, steps_none}
 
 -- ---- places of an order
@@ -63,6 +64,44 @@ told_so_far scripts order ordered (suc i) le =
 
 pub order_told : StepsTellOrder
 order_told scripts order ordered = ap (λ l. told_order (steps_of scripts l)) (sym (take_all (length order) order (omega arith))) ∙ told_so_far scripts order ordered (length order) (omega arith) ∙ take_all (length order) order (omega arith)
+
+-- ---- the workers of steps
+
+next_is_by : (o : Option Request) (worker n : ℕ) (step : Command) → worker < n → option_map (command worker) o ≡ Some step → step.worker < n
+next_is_by None worker n step lt e = absurd cc
+next_is_by (Some r) worker n step lt e =
+    let same : command worker r ≡ step = cc in
+    subst (λ (s : Command). s.worker < n) same lt
+
+next_by : (scripts : List (List Request)) (before : List ℕ) (worker : ℕ) (step : Command) → next_of scripts before worker ≡ Some step → step.worker < length scripts
+unfolding next_of
+next_by scripts before worker step e = by_script (slice_get scripts worker) refl e
+  where
+    by_script : (o : Option (List Request)) → slice_get scripts worker ≡ o → option_map (command worker) (option_and_then (λ script. slice_get script (count_by (λ w. w == worker) before)) o) ≡ Some step → step.worker < length scripts
+    by_script None is e = absurd cc
+    by_script (Some script) is e = next_is_by (slice_get script (count_by (λ w. w == worker) before)) worker (length scripts) step (slice_get_within scripts worker script is) e
+
+all_pushed : {X : Type 0} (P : X → Type 0) (o : Option X) (xs : List X) → ((x : X) → o ≡ Some x → P x) → All P xs → All P (cons_option o xs)
+all_pushed P None xs h all = all
+all_pushed P (Some x) xs h all = All-cons P x xs (h x refl) all
+
+none_all : {X : Type 0} (P : X → Type 0) → All P []
+none_all P k d lt =
+    let no : ⊥ = omega (arith, lt) in
+    absurd no
+
+workers_so_far : (scripts : List (List Request)) (order : List ℕ) (i : ℕ) → i ≤ length order → All (λ (s : Command). s.worker < length scripts) (steps_of scripts (take i order))
+workers_so_far scripts order zero le = subst (All (λ (s : Command). s.worker < length scripts)) (sym (steps_none scripts)) (none_all (λ (s : Command). s.worker < length scripts))
+workers_so_far scripts order (suc i) le =
+    let lt : i < length order = omega (arith, le) in
+    let is : get_or order i 0 ≡ get_or order i (get_or order i 0) = sym (get_or_default_zero order i (get_or order i 0) lt) in
+    let longer = sym (steps_taken scripts order i (get_or order i 0) lt is) ∙ ap (λ n. steps_of scripts (take n order)) (add-one i) in
+    subst (All (λ (s : Command). s.worker < length scripts)) longer
+    (all_pushed (λ (s : Command). s.worker < length scripts) (next_of scripts (take i order) (get_or order i 0)) (steps_of scripts (take i order)) (next_by scripts (take i order) (get_or order i 0)) (workers_so_far scripts order i (omega (arith, le))))
+
+pub by_workers : OrdersMakeHistories
+unfolding history_of
+by_workers origin scripts order = subst (λ l. All (λ (s : Command). s.worker < length scripts) (steps_of scripts l)) (take_all (length order) order (omega arith)) (workers_so_far scripts order (length order) (omega arith))
 
 -- ---- in turn
 

@@ -5,7 +5,7 @@ use Rattle.grid_structure.specs.Network.{Network}
 use Rattle.grid_structure.specs.Sites.{levels}
 use Rattle.grid_events.specs.declared.filter.Filter.{Filter}
 use Rattle.grid_core.specs.declared.request.Request.{Request}
-use Rattle.grid_core.specs.History.{Command, History, command, live, structure, asked_by}
+use Rattle.grid_core.specs.History.{Command, History, IsHistory, command, live, structure, asked_by}
 use Rattle.grid_core.specs.Replies.{view, heard}
 use Rattle.grid_core.specs.Journals.{journal_of}
 use Rattle.grid_report.specs.declared.outcome.VariantView.{VariantView}
@@ -77,10 +77,19 @@ in_turn_from worker (script ∷ rest) = map (λ request. worker) script ++ in_tu
 unfoldable pub in_turn : List (List Request) → List ℕ
 in_turn scripts = in_turn_from 0 scripts
 
+-- the order that is given, or else the workers in turn
+unfoldable pub chosen_order : List (List Request) → Option (List ℕ) → List ℕ
+chosen_order scripts None = in_turn scripts
+chosen_order scripts (Some order) = order
+
 -- ---- the report
 
 unfoldable pub report_text : Network → List (List Request) → List Filter → List ℕ → List ℕ
 report_text origin scripts filters order = report_of (outcome_of (history_of origin scripts order) filters)
+
+-- the steps of scripts are by workers that have one
+abbrev pub OrdersMakeHistories : Type 0
+OrdersMakeHistories = (origin : Network) (scripts : List (List Request)) (order : List ℕ) → IsHistory (history_of origin scripts order)
 
 -- steps in which each worker asked its script are those of the scripts in the steps' order
 abbrev pub OrderTellsSteps : Type 0

@@ -1,6 +1,6 @@
 //! Laws of reports, each the contract of a function that does nothing.
 
-ghost use Rattle.grid_report.specs.Histories.{HearsItsJournal, InTurnIsOrder, OrderTellsSteps, StepsTellOrder};
+ghost use Rattle.grid_report.specs.Histories.{HearsItsJournal, InTurnIsOrder, OrderTellsSteps, OrdersMakeHistories, StepsTellOrder};
 
 /// What a report tells of a listener is what the listener of that history heard.
 pub fn listeners_hear_the_journal()
@@ -16,4 +16,9 @@ pub fn order_tells_steps()
 pub fn steps_tell_order()
     ensures told { StepsTellOrder }
     ensures in_turn { InTurnIsOrder }
+{}
+
+/// The steps of scripts, in whatever order, are a history of their workers.
+pub fn orders_make_histories()
+    ensures { OrdersMakeHistories }
 {}
