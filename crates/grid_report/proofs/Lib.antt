@@ -2,5 +2,6 @@ pub mod Begun
 pub mod Listening
 pub mod Ordered
 pub mod Planned
+pub mod Scripts
 pub mod Turns
 pub mod Writing

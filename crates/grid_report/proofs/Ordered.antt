@@ -14,7 +14,7 @@ use Rattle.grid_report.proofs.Planned.{range_last}
 
 -- ---- lists
 
-last_first : {X : Type 0} (x : X) (xs : List X) → reverse (x ∷ xs) ≡ reverse xs ++ x ∷ []
+pub last_first : {X : Type 0} (x : X) (xs : List X) → reverse (x ∷ xs) ≡ reverse xs ++ x ∷ []
 last_first x xs = reverse-append (x ∷ []) xs
 
 get_front : {X : Type 0} (xs ys : List X) (i : ℕ) → i < length xs → slice_get (xs ++ ys) i ≡ slice_get xs i
@@ -75,13 +75,13 @@ pub told_last : (step : Command) (before : List Command) → told_order (step �
 unfolding told_order
 told_last step before = last_first step.worker (map (λ (s : Command). s.worker) before)
 
-asked_own : (worker : ℕ) (step : Command) (before : List Command) → (step.worker == worker) ≡ true → asked_by worker (step ∷ before) ≡ step.request ∷ asked_by worker before
+pub asked_own : (worker : ℕ) (step : Command) (before : List Command) → (step.worker == worker) ≡ true → asked_by worker (step ∷ before) ≡ step.request ∷ asked_by worker before
 unfolding asked_by
 asked_own worker step before own =
     let rest = filter (λ (s : Command). s.worker == worker) before in
     ap (λ b. map (λ (s : Command). s.request) (cond b (step ∷ rest) rest)) own
 
-asked_other : (worker : ℕ) (step : Command) (before : List Command) → (step.worker == worker) ≡ false → asked_by worker (step ∷ before) ≡ asked_by worker before
+pub asked_other : (worker : ℕ) (step : Command) (before : List Command) → (step.worker == worker) ≡ false → asked_by worker (step ∷ before) ≡ asked_by worker before
 unfolding asked_by
 asked_other worker step before other =
     let rest = filter (λ (s : Command). s.worker == worker) before in

@@ -1,6 +1,6 @@
 -- The report of a history: of scripts that are run in some order on a network.
-use Rattle.std.specs.Prelude.{◌≡◌, ℕ, suc, ◌==◌, List, [], ◌∷◌, ◌++◌, Option, Some, None, length, map, reverse, take, slice_get, option_map, option_and_then}
-use Rattle.std.specs.List.{filter_map, count_by, range_with_len}
+use Rattle.std.specs.Prelude.{◌≡◌, ℕ, suc, ◌==◌, List, [], ◌∷◌, ◌++◌, Option, Some, None, length, map, reverse, take, slice_get, option_map, option_and_then, codes, decimal}
+use Rattle.std.specs.List.{flat_map, filter_map, count_by, range_with_len}
 use Rattle.grid_structure.specs.Network.{Network}
 use Rattle.grid_structure.specs.Sites.{levels}
 use Rattle.grid_events.specs.declared.filter.Filter.{Filter}
@@ -10,7 +10,7 @@ use Rattle.grid_core.specs.Replies.{view, heard}
 use Rattle.grid_core.specs.Journals.{journal_of}
 use Rattle.grid_report.specs.declared.outcome.VariantView.{VariantView}
 use Rattle.grid_report.specs.declared.outcome.Outcome.{Outcome}
-use Rattle.grid_report.specs.Outcomes.{heard_in, report_of}
+use Rattle.grid_report.specs.Outcomes.{order_line, steps_by, heard_in, report_of}
 
 -- ---- what comes of a history
 
@@ -94,6 +94,14 @@ OrdersMakeHistories = (origin : Network) (scripts : List (List Request)) (order 
 -- steps in which each worker asked its script are those of the scripts in the steps' order
 abbrev pub OrderTellsSteps : Type 0
 OrderTellsSteps = (scripts : List (List Request)) (steps : List Command) → AsksScripts scripts steps → steps_of scripts (told_order steps) ≡ steps
+
+-- the first line of the report of a history tells the order of its steps
+abbrev pub ReportShowsOrder : Type 0
+ReportShowsOrder = (origin : Network) (steps : List Command) → order_line (journal_of origin steps) ≡ codes "order" ++ flat_map (λ worker. codes " " ++ decimal worker) (told_order steps) ++ codes "\n"
+
+-- the report of scripts in an order of theirs has for each worker its script, in order
+abbrev pub ReportShowsScripts : Type 0
+ReportShowsScripts = (origin : Network) (scripts : List (List Request)) (order : List ℕ) → IsOrder scripts order → (worker : ℕ) → map (λ e. e.request) (steps_by worker (journal_of origin (steps_of scripts order))) ≡ script_of (slice_get scripts worker)
 
 -- the steps of scripts in an order of theirs were made in that order
 abbrev pub StepsTellOrder : Type 0

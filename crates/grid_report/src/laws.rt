@@ -1,6 +1,6 @@
 //! Laws of reports, each the contract of a function that does nothing.
 
-ghost use Rattle.grid_report.specs.Histories.{HearsItsJournal, InTurnIsOrder, OrderTellsSteps, OrdersMakeHistories, StepsTellOrder};
+ghost use Rattle.grid_report.specs.Histories.{HearsItsJournal, InTurnIsOrder, OrderTellsSteps, OrdersMakeHistories, ReportShowsOrder, ReportShowsScripts, StepsTellOrder};
 
 /// What a report tells of a listener is what the listener of that history heard.
 pub fn listeners_hear_the_journal()
@@ -21,4 +21,14 @@ pub fn steps_tell_order()
 /// The steps of scripts, in whatever order, are a history of their workers.
 pub fn orders_make_histories()
     ensures { OrdersMakeHistories }
+{}
+
+/// The first line of a report names the worker of each step, in order.
+pub fn report_shows_order()
+    ensures { ReportShowsOrder }
+{}
+
+/// The report of scripts in an order of theirs has for each worker its script.
+pub fn report_shows_scripts()
+    ensures { ReportShowsScripts }
 {}
