@@ -5,4 +5,6 @@ pub mod Journals
 pub mod Fitting
 pub mod Slotted
 pub mod Parts
+pub mod Made
+pub mod Machines
 pub mod Laws

@@ -3,6 +3,7 @@
 
 mod journal;
 pub mod laws;
+mod machine;
 mod reply;
 mod request;
 
