@@ -13,3 +13,7 @@ pub mod Planned
 pub mod Sited
 pub mod Journaled
 pub mod Asking
+pub mod Making
+pub mod Flagging
+pub mod Copying
+pub mod Looking

@@ -1,8 +1,9 @@
 -- What the machine of all variants holds of a history, and what a step makes of it.
-use Rattle.std.specs.Prelude.{◌≡◌, ℕ, Some, List, ◌∷◌, length, slice_get, IsTrue, IsFalse}
+use Rattle.std.specs.Prelude.{◌≡◌, ℕ, Bool, true, false, Some, List, ◌∷◌, length, slice_get, IsTrue, IsFalse}
 use Rattle.grid_slots.specs.Names.{max_variants}
 use Rattle.grid_slots.specs.Variants.{slot_of, rows_at, has_slot}
 use Rattle.grid_core.specs.declared.request.Request.{Request}
+use Rattle.grid_core.specs.declared.request.Request.TheVariants as requests
 use Rattle.grid_core.specs.declared.machine.Machine.{Machine}
 use Rattle.grid_core.specs.declared.machine.Made.{Made}
 use Rattle.grid_structure.specs.Network.{Network}
@@ -45,3 +46,16 @@ pub record Makes (origin : Network) (before : List Command) (step : Command) (ma
 -- after whatever history the machine held
 abbrev pub Steps : Machine → Machine → ℕ → Request → Made → Type 0
 Steps old new worker request made = (origin : Network) (before : List Command) → Held origin before old → Makes origin before (command worker request) made new
+
+-- the worker works on this variant
+abbrev pub WorksOn : Machine → ℕ → List ℕ → Type 0
+WorksOn machine worker name = slice_get machine.working.items worker ≡ Some name
+
+-- the request that puts a switch into a position
+abbrev pub switching : List ℕ → Bool → Request
+switching id true = requests.OpenSwitch id
+switching id false = requests.CloseSwitch id
+
+-- the same parts
+abbrev pub IsSame : Machine → Machine → Type 0
+IsSame old new = (new.structure ≡ old.structure) × (new.slots ≡ old.slots) × (new.retained.items ≡ old.retained.items) × (new.working.items ≡ old.working.items)

@@ -6,6 +6,8 @@ pub mod laws;
 mod machine;
 mod reply;
 mod request;
+mod switching;
+mod viewing;
 
 pub use grid_islands::{BusComponent, BusComponents};
 pub use journal::{Entry, Journal};

@@ -1,13 +1,13 @@
 // All variants at once: their structure, their flags and the workers' names.
 ghost use Rattle.std.specs.Prelude.{◌≡◌, ◌<◌, [], ◌∷◌, length, MatchOption, OnErr, IfOk};
-ghost use Rattle.grid_core.specs.Slotted.{slot_refusal};
-ghost use Rattle.grid_core.specs.Made.{made_of, IsRefusal};
-ghost use Rattle.grid_core.specs.Machines.{IsMachine, IsDead, StandsAt, Steps};
+ghost use Rattle.grid_core.specs.Slotted.{slot_refusal, cloned_reply, target_slot};
+ghost use Rattle.grid_core.specs.Made.{made_of, cloned_event, IsRefusal};
+ghost use Rattle.grid_core.specs.Machines.{IsMachine, IsSame, IsDead, StandsAt, Steps};
 
-use crate::{Refusal, Reply};
+use crate::{Refusal, Reply, Request};
 use grid_events::{Event, Events};
 use grid_ids::{Duplicate, Id, Memory};
-use grid_slots::{SlotFault, Slots};
+use grid_slots::{Cloned, SlotFault, Slots};
 use grid_states::States;
 use grid_structure::Structure;
 use std::alloc::Global;
@@ -58,6 +58,7 @@ pub(crate) fn one_event(alloc: Global, event: Event) -> Result<Events, Memory>
 }
 
 // The refusal that a fault of the slots is.
+#[tactic(auto, unfolding(crate::specs::Slotted::slot_refusal))]
 fn refusal_of(fault: SlotFault) -> Option<Refusal>
     ensures { result ≡ slot_refusal fault }
 {
@@ -100,7 +101,7 @@ impl Machine {
         requires held { IsMachine self.old }
         requires worker { worker < length self.old.working.items }
         ensures made { IfOk result (Steps self.old self.new worker (Request.UseVariant name.now)) }
-        ensures same { OnErr result (self.new ≡ self.old) }
+        ensures same { OnErr result (IsSame self.old self.new) }
     {
         match self.slot_of(name) {
             Some(_) => {
@@ -121,7 +122,7 @@ impl Machine {
     ) -> Result<Made, Memory>
         requires held { IsMachine self.old }
         ensures made { IfOk result (Steps self.old self.new worker (Request.RemoveVariant name.now)) }
-        ensures same { OnErr result (self.new ≡ self.old) }
+        ensures same { OnErr result (IsSame self.old self.new) }
     {
         self.slots.keeps();
         let event = Event::VariantRemoved { name: name.copy()? };
@@ -130,5 +131,75 @@ impl Machine {
             Ok(_) => Ok(made),
             Err(fault) => refuse(alloc, fault),
         }
+    }
+
+    /// Copies a variant's flags into another variant.
+    pub(crate) fn clone_variant(
+        &mut self,
+        alloc: Global,
+        worker: u32,
+        from: &Id,
+        to: &Id,
+        overwrite: bool,
+    ) -> Result<Made, Memory>
+        requires held { IsMachine self.old }
+        ensures made { IfOk result (Steps self.old self.new worker (Request.CloneVariant from.now to.now overwrite)) }
+        ensures same { OnErr result (IsSame self.old self.new) }
+    {
+        self.slots.keeps();
+        let source = match self.slot_of(from) {
+            Some(source) => source,
+            None => return answer(alloc, Reply::Refused(Refusal::NoVariant)),
+        };
+        let rows = self.retained[source as usize].copy()?;
+        let mut told = Vec::with_capacity(alloc, 1)?;
+        let source_name = from.copy()?;
+        let target_name = to.copy()?;
+        match self.slots.clone_into(from, to, overwrite) {
+            Ok(cloned) => {
+                self.slots.keeps();
+                self.retained[slot_cloned(cloned) as usize] = rows;
+                told.push_reserved(event_cloned(cloned, source_name, target_name));
+                Ok(Made {
+                    reply: reply_cloned(cloned),
+                    copy: reply_cloned(cloned),
+                    events: Events::from_vec(told),
+                })
+            }
+            Err(fault) => refuse(alloc, fault),
+        }
+    }
+}
+
+// The slot of a clone's target.
+#[tactic(auto, unfolding(crate::specs::Slotted::target_slot))]
+fn slot_cloned(cloned: Cloned) -> u32
+    ensures { result ≡ target_slot cloned }
+{
+    match cloned {
+        Cloned::Created(slot) => slot,
+        Cloned::Overwritten(slot) => slot,
+    }
+}
+
+// The reply to a clone that was made.
+#[tactic(auto, unfolding(crate::specs::Slotted::cloned_reply))]
+fn reply_cloned(cloned: Cloned) -> Reply
+    ensures { result ≡ cloned_reply cloned }
+{
+    match cloned {
+        Cloned::Created(_) => Reply::Created,
+        Cloned::Overwritten(_) => Reply::Overwritten,
+    }
+}
+
+// The event of a clone that was made.
+#[tactic(auto, unfolding(crate::specs::Made::cloned_event))]
+fn event_cloned(cloned: Cloned, from: Id, to: Id) -> Event
+    ensures { result ≡ cloned_event cloned from to }
+{
+    match cloned {
+        Cloned::Created(_) => Event::VariantCreated { from, to },
+        Cloned::Overwritten(_) => Event::VariantOverwritten { from, to },
     }
 }
