@@ -17,3 +17,4 @@ pub mod Making
 pub mod Flagging
 pub mod Copying
 pub mod Looking
+pub mod Operating

@@ -7,4 +7,5 @@ pub mod Slotted
 pub mod Parts
 pub mod Made
 pub mod Machines
+pub mod Worlds
 pub mod Laws

@@ -3,13 +3,16 @@
 
 mod journal;
 pub mod laws;
+mod editing;
 mod machine;
 mod reply;
 mod request;
 mod switching;
 mod viewing;
+mod world;
 
 pub use grid_islands::{BusComponent, BusComponents};
 pub use journal::{Entry, Journal};
 pub use reply::{Refusal, Reply};
 pub use request::{Request, Script, Scripts};
+pub use world::World;

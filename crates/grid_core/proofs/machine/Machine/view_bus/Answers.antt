@@ -1,4 +1,5 @@
 use Rattle.std.proofs.Common.{sym, ap, ◌∙◌, subst, ◌<◌, ◌≡◌, length, arith}
+use Rattle.std.proofs.lemmas.List.{length-map}
 use Rattle.grid_busview.specs.Views.{record_watts, bus_view_of}
 use Rattle.grid_level.specs.Passing.{positioned}
 use Rattle.grid_states.specs.Rows.{row_at}
@@ -29,7 +30,7 @@ bus_view-requires-clause-states c =
 
 pub bus_view-requires-clause-powers : goal.bus_view-requires-clause-powers
 unfolding record_watts
-bus_view-requires-clause-powers c = ?
+bus_view-requires-clause-powers c = ap length (c.slice.ensures ∙ c.in_ok-watts.ensures) ∙ length-map c.level-found.result.now.placed _
 
 pub returns : goal.returns
 returns c =
