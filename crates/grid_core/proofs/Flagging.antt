@@ -59,7 +59,7 @@ same_get (y ∷ xs) zero d e h = refl
 same_get (y ∷ xs) (suc k) d e h = same_get xs k d e (omega arith)
 
 -- the worker's variant
-working_of : (origin : Network) (before : List Command) (m : Machine) (worker : ℕ) (v : List ℕ) → Held origin before m → WorksOn m worker v → working before worker ≡ v
+pub working_of : (origin : Network) (before : List Command) (m : Machine) (worker : ℕ) (v : List ℕ) → Held origin before m → WorksOn m worker v → working before worker ≡ v
 working_of origin before m worker v h works = let is = h.parts.working_are worker (got_within m.working.items worker v works) in cc (is, works)
 
 -- a live variant has a slot

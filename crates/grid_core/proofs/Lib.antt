@@ -18,3 +18,4 @@ pub mod Flagging
 pub mod Copying
 pub mod Looking
 pub mod Operating
+pub mod Entering

@@ -1,5 +1,5 @@
 // Edits of the structure, for every variant.
-ghost use Rattle.std.specs.Prelude.{◌≡◌, OnErr, IfOk};
+ghost use Rattle.std.specs.Prelude.{◌≡◌, length, OnErr, IfOk};
 ghost use Rattle.grid_core.specs.Machines.{IsMachine, IsSame, Steps};
 
 use crate::machine::{Machine, Made};
@@ -19,6 +19,7 @@ impl Machine {
         requires held { IsMachine self.old }
         ensures made { IfOk result (Steps self.old self.new worker (Request.Change edit.now)) }
         ensures same { OnErr result (IsSame self.old self.new) }
+        ensures count { length self.new.working.items ≡ length self.old.working.items }
     {
         Err(Memory)
     }

@@ -54,6 +54,7 @@ impl Machine {
         requires works { WorksOn self.old worker variant.now }
         ensures made { IfOk result (Steps self.old self.new worker request.now) }
         ensures same { OnErr result (IsSame self.old self.new) }
+        ensures count { length self.new.working.items ≡ length self.old.working.items }
     {
         match request {
             Request::UseVariant { name } => self.use_variant(alloc, worker, name),
