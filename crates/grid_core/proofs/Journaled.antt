@@ -6,7 +6,7 @@ use Rattle.grid_core.specs.declared.journal.Entry.{Entry}
 use Rattle.grid_core.specs.History.{Command, command}
 use Rattle.grid_core.specs.Journals.{entry_of, journal_of, steps_told}
 
-none_told : steps_told [] ≡ []
+pub none_told : steps_told [] ≡ []
 unfolding steps_told
 none_told = refl
 

@@ -19,3 +19,5 @@ pub mod Copying
 pub mod Looking
 pub mod Operating
 pub mod Entering
+pub mod Beginning
+pub mod Reshaping

@@ -21,13 +21,14 @@ use Rattle.grid_core.specs.declared.reply.Refusal.TheVariants as refusals
 use Rattle.grid_core.specs.declared.machine.Machine.{Machine}
 use Rattle.grid_core.specs.declared.machine.Made.{Made}
 use Rattle.grid_core.specs.Solo.{State, solo, level_at}
-use Rattle.grid_core.specs.Replies.{events_of}
+use Rattle.grid_core.specs.History.{Command}
+use Rattle.grid_core.specs.Replies.{state_of, view, events_of}
 use Rattle.grid_core.specs.Fitting.{RowsFit}
 use Rattle.grid_core.specs.Made.{made_of}
-use Rattle.grid_core.specs.Machines.{IsDead, StandsAt, Steps, WorksOn}
+use Rattle.grid_core.specs.Machines.{Held, IsDead, StandsAt, Steps, WorksOn}
 use Rattle.grid_core.proofs.Holding.{Rows}
 use Rattle.grid_core.proofs.Ranges.{rows_of_levels, row_of_level}
-use Rattle.grid_core.proofs.Asking.{bus_breaker_reply, bus_reply, components_reply, bus_breaker_nowhere, bus_nowhere, components_nowhere}
+use Rattle.grid_core.proofs.Asking.{bus_breaker_reply, bus_reply, components_reply, bus_breaker_nowhere, bus_nowhere, components_nowhere, view_read}
 use Rattle.grid_core.proofs.Flagging.{of_variant, dead_made, stays, Flagged, got_within, got_is}
 
 -- ---- rows
@@ -148,3 +149,11 @@ level_exists net place h = got (levels net) place h
     got [] k h = absurd (omega arith)
     got (l ∷ ls) zero h = (l, refl)
     got (l ∷ ls) (suc k) h = got ls k (omega arith)
+
+-- the bus view of a variant in a history
+pub view_told : (origin : Network) (steps : List Command) (m : Machine) (name : List ℕ) (slot place : ℕ) (level : VoltageLevel) (row : List Bool) (seen : BusView) → Held origin steps m → StandsAt m name slot
+    → slice_get (levels m.structure) place ≡ Some level → row ≡ row_at (rows_at m.slots slot) place → seen ≡ bus_view_of (positioned level row) (record_watts level) → view origin steps name place ≡ Some seen
+view_told origin steps m name slot place level row seen h at there is told =
+    let s = at.1 origin steps h in
+    view_read origin steps name place level (level_in m (state_of origin steps name) place level s.structure_is there)
+    ∙ ap (λ (z : BusView). Some z) (sym (told ∙ ap (λ (z : List Bool). bus_view_of (positioned level z) (record_watts level)) (is ∙ ap (λ (rows : Rows). row_at rows place) s.opened)))

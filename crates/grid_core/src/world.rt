@@ -1,5 +1,5 @@
 // A machine of all variants with its journal, seen as its history.
-ghost use Rattle.std.specs.Prelude.{◌≡◌, ◌<◌, [], ◌∷◌, length, slice_get, Some, OnOk, OnErr, IfOk};
+ghost use Rattle.std.specs.Prelude.{◌≡◌, ◌<◌, [], ◌∷◌, length, slice_get, Some, IsTrue, OnOk, OnErr, IfOk};
 ghost use Rattle.std.specs.Option.{option_map};
 ghost use Rattle.grid_structure.specs.Sites.{levels};
 ghost use Rattle.grid_core.specs.History as histories;
@@ -10,11 +10,11 @@ ghost use Rattle.grid_core.specs.Machines.{IsMachine, IsSame, Steps, WorksOn};
 ghost use Rattle.grid_core.specs.Worlds.{begun};
 
 use crate::machine::{Machine, Made};
+use crate::starting::{kept_rows, opened_rows, retained_rows, working_names};
 use crate::{Entry, Journal, Reply, Request};
 use grid_busview::{BusView, bus_view, record_watts};
 use grid_ids::{Duplicate, Id, Memory};
-use grid_slots::{INITIAL_STATE, MOST_VARIANTS, Slots};
-use grid_states::States;
+use grid_slots::Slots;
 use grid_structure::Structure;
 use std::alloc::Global;
 use std::marker::Model;
@@ -82,6 +82,28 @@ impl Machine {
 }
 
 impl World {
+    /// Workers on the variants of a structure, at first each on the initial variant, with the positions and the flags
+    /// retained of the records.
+    pub fn start(alloc: Global, structure: Structure, workers: u32) -> Result<World, Memory>
+        ensures { IfOk result (λ world. world ≡ begun structure workers) }
+    {
+        structure.keeps();
+        let origin = Snapshot::of(&structure);
+        let slots = Slots::start(alloc, opened_rows(alloc, &structure)?)?;
+        let retained = kept_rows(alloc, retained_rows(alloc, &structure)?)?;
+        let working = working_names(alloc, slots.name_at(0), workers)?;
+        Ok(World {
+            origin,
+            machine: Machine {
+                structure,
+                slots,
+                retained,
+                working,
+            },
+            journal: Vec::new(alloc),
+        })
+    }
+
     /// Makes one step of a worker, whose number is below the count, and answers its reply. After want of memory the world
     /// is as before.
     pub fn step(&mut self, worker: u32, request: &Request) -> Result<Reply, Memory>
@@ -130,6 +152,23 @@ impl World {
         ensures { slice_get (live self.now.steps) place ≡ Some result.now }
     {
         self.machine.slots.name_at(place)
+    }
+
+    /// The bus view of the level at a place in a live variant.
+    pub fn view(&self, name: &Id, level: u32) -> Result<BusView, Memory>
+        requires live { IsTrue (histories.is_live self.now.steps name.now) }
+        requires level { level < length (levels (structure self.now.origin self.now.steps)) }
+        ensures { IfOk result (λ view. replies.view self.now.origin self.now.steps name.now level ≡ Some view) }
+    {
+        let alloc = *self.journal.allocator();
+        let slot = match self.machine.slot_of(name) {
+            Some(slot) => slot,
+            None => unreachable!(),
+        };
+        let found = self.machine.structure.level(level);
+        let watts = record_watts(alloc, found)?;
+        let row = self.machine.slots.states(slot).row(level);
+        bus_view(alloc, found, row, watts.slice())
     }
 
     /// The journal: of each step, in order, the worker, its working variant before it, the request, the reply and the

@@ -2,6 +2,7 @@
 ghost use Rattle.std.specs.Prelude.{◌≡◌, ◌<◌, ◌^◌, length, Some, slice_get};
 ghost use Rattle.std.specs.Option.{option_map};
 ghost use Rattle.grid_structure.specs.Cutting.{level_total, head_place};
+ghost use Rattle.grid_structure.specs.Soundness.{IsSound};
 ghost use Rattle.grid_structure.specs.Sites as sites;
 
 use crate::structure::Head;
@@ -101,5 +102,12 @@ impl Structure {
             return &self.transformers[place].shape;
         }
         &self.lines[place - self.transformers.len()].shape
+    }
+
+    /// Tells what every structure keeps: it is sound.
+    pub fn keeps(&self)
+        ensures { IsSound self.now }
+    {
+        let _ = &self.id;
     }
 }
