@@ -3,10 +3,19 @@
 
 mod journal;
 pub mod laws;
+mod editing;
+mod machine;
 mod reply;
 mod request;
+mod starting;
+mod switching;
+mod telling;
+mod viewing;
+mod world;
 
 pub use grid_islands::{BusComponent, BusComponents};
 pub use journal::{Entry, Journal};
 pub use reply::{Refusal, Reply};
 pub use request::{Request, Script, Scripts};
+pub use telling::ToldFault;
+pub use world::World;
