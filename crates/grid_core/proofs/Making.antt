@@ -44,7 +44,7 @@ any_err (Err e) p = p
 -- ---- what is found
 
 -- a live name by the slots is live in the history
-slots_live : (origin : Network) (steps : List Command) (m : Machine) (name : List ℕ) → Held origin steps m → has_name m.slots name ≡ is_live steps name
+pub slots_live : (origin : Network) (steps : List Command) (m : Machine) (name : List ℕ) → Held origin steps m → has_name m.slots name ≡ is_live steps name
 unfolding has_name is_live
 slots_live origin steps m name h = ap (λ ns. has_id ns name) h.parts.names_are
 

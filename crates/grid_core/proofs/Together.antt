@@ -27,7 +27,7 @@ use Rattle.grid_core.specs.Slotted.{Holds, HoldsBySlot, target_slot}
 use Rattle.grid_core.specs.Parts.{PartsHold}
 use Rattle.grid_core.proofs.Lineages.{structure_of_lineage}
 use Rattle.grid_core.proofs.Stepping.{Unmoved, Switched, Edited, Cloned as CloneStep, Removed, Used}
-use Rattle.grid_core.proofs.Naming.{live_slot}
+use Rattle.grid_core.proofs.Naming.{live_slot, slot_live}
 use Rattle.grid_core.proofs.Holding.{Rows, rows_at-slot, rows_first, slot_first, slot_next, live_next, none_live, holds_changed, holds_all, holds_alike, holds_removed, holds_cloned}
 use Rattle.grid_core.proofs.ByNumber.{get-set, get-set_other, none_slotted, slot-changed, slot-all_changed, by_slot_alike, by_slot_set, by_slot_changed, by_slot_removed, by_slot_cloned}
 
@@ -126,9 +126,15 @@ parts_retained origin before step v now variants kept works slot rows s differ a
         subst (λ (z : List ℕ). (state_of origin (step ∷ before) z).opened ≡ (state_of origin before z).opened) (sym (same_is u v e)) (ap (λ (z : State). z.opened) (s.own ∙ does))
     each u false e = ap (λ (z : State). z.opened) (s.others u e)
 
--- an accepted edit, with the flags retained changed at each slot that some variant has
+-- flags retained that are changed at the slot of each variant
+by_slot_named : (told next : List ℕ → Rows) (change : Rows → Rows) (vs : List Variant) (kept new : List Rows) → HoldsBySlot told vs kept
+    → ((name : List ℕ) (slot : ℕ) → slot_of vs name ≡ Some slot → slice_get new slot ≡ option_map change (slice_get kept slot)) → ((u : List ℕ) → is_live vs u ≡ true → next u ≡ change (told u)) → HoldsBySlot next vs new
+by_slot_named told next change vs kept new holds made each name slot at =
+    made name slot at ∙ ap (option_map change) (holds name slot at) ∙ ap (λ (z : Rows). Some z) (sym (each name (slot_live vs name slot at)))
+
+-- an accepted edit, with the flags retained changed at the slot of each variant
 pub parts_edited : (origin : Network) (before : List Command) (step : Command) (edit : Edit) (now new : Network) (variants : List Variant) (kept next : List Rows) (works : List (List ℕ)) → Edited origin before step edit new
-    → ((slot : ℕ) → has_slot variants slot ≡ true → slice_get next slot ≡ option_map (rows_after the_retained now new edit) (slice_get kept slot))
+    → ((name : List ℕ) (slot : ℕ) → slot_of variants name ≡ Some slot → slice_get next slot ≡ option_map (rows_after the_retained now new edit) (slice_get kept slot))
     → PartsHold origin before now variants kept works
     → PartsHold origin (step ∷ before) new (all_changed (rows_after the_opened now new edit) variants) next works
 unfolding is_live lives changed_state
@@ -138,7 +144,7 @@ parts_edited origin before step edit now new variants kept next works e made p =
   names_are = names-all_changed (rows_after the_opened now new edit) variants ∙ p.names_are ∙ sym e.live_is;
   opened = holds_all (opened_rows origin before) (opened_rows origin (step ∷ before)) (rows_after the_opened now new edit) variants p.opened (λ v alive. of_opened v (ap (λ ns. has_id ns v) (sym p.names_are) ∙ alive));
   retained = by_slot_alike (retained_rows origin (step ∷ before)) (retained_rows origin (step ∷ before)) variants (all_changed (rows_after the_opened now new edit) variants) next
-      (by_slot_changed (retained_rows origin before) (retained_rows origin (step ∷ before)) (rows_after the_retained now new edit) variants kept next p.retained made (λ v alive. of_retained v (ap (λ ns. has_id ns v) (sym p.names_are) ∙ alive)))
+      (by_slot_named (retained_rows origin before) (retained_rows origin (step ∷ before)) (rows_after the_retained now new edit) variants kept next p.retained made (λ v alive. of_retained v (ap (λ ns. has_id ns v) (sym p.names_are) ∙ alive)))
       (slot-all_changed (rows_after the_opened now new edit) variants) (λ v alive. refl);
   working_are = λ w h. p.working_are w h ∙ ap (λ (z : List ℕ). Some z) (sym (e.working_is w));
 }
@@ -167,7 +173,7 @@ pub parts_edited_alone : (origin : Network) (before : List Command) (step : Comm
     → PartsHold origin before now variants kept works → PartsHold origin (step ∷ before) new variants kept works
 parts_edited_alone origin before step edit now new variants kept works e leaves p =
     subst (λ (z : List Variant). PartsHold origin (step ∷ before) new z kept works) (all_same (rows_after the_opened now new edit) variants (leaves the_opened))
-    (parts_edited origin before step edit now new variants kept kept works e (λ slot there. option_same (rows_after the_retained now new edit) (slice_get kept slot) (leaves the_retained)) p)
+    (parts_edited origin before step edit now new variants kept kept works e (λ name slot there. option_same (rows_after the_retained now new edit) (slice_get kept slot) (leaves the_retained)) p)
 
 -- an accepted clone
 pub parts_cloned : (origin : Network) (before : List Command) (step : Command) (from to : List ℕ) (now : Network) (old new : List Variant) (kept : List Rows) (works : List (List ℕ)) (cloned : Cloned) (rows : Rows)

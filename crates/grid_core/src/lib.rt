@@ -7,6 +7,7 @@ mod editing;
 mod machine;
 mod reply;
 mod request;
+mod retaining;
 mod starting;
 mod switching;
 mod viewing;
