@@ -270,9 +270,9 @@ unfolding flag_at
 position_same m worker slot level place v id opened was made works at found now equal is =
     stays m worker slot v (switching id opened) replies.Unchanged made (of_switching id opened) works at
     (λ state st op re.
-        let flag : flag_at state.opened (level, place) ≡ was = got_is (row_at state.opened level) place was false (ap (λ (rows : Rows). slice_get (row_at rows level) place) (sym op) ∙ now) in
-        somewhere state id opened (level, place) (ap (λ (n : Network). find_switch n id) (sym st) ∙ found)
-        ∙ set_already state (flag_at state.opened (level, place)) opened (with_opened state (level, place) opened) (ap (λ b. beq b opened) flag ∙ equal))
+    let flag : flag_at state.opened (level, place) ≡ was = got_is (row_at state.opened level) place was false (ap (λ (rows : Rows). slice_get (row_at rows level) place) (sym op) ∙ now) in
+    somewhere state id opened (level, place) (ap (λ (n : Network). find_switch n id) (sym st) ∙ found)
+    ∙ set_already state (flag_at state.opened (level, place)) opened (with_opened state (level, place) opened) (ap (λ b. beq b opened) flag ∙ equal))
     (silent_switching v id opened) is
 
 pub position_made : (m : Machine) (worker slot level place : ℕ) (v id : List ℕ) (opened was : Bool) (made : Made) (variants : List Variant) → IsTable m.slots → WorksOn m worker v → StandsAt m v slot
@@ -283,9 +283,9 @@ unfolding flag_at with_opened
 position_made m worker slot level place v id opened was made variants table works at found now other is gone =
     moves m worker slot v (switching id opened) replies.Done (events.Updated v id opened ∷ []) made (λ rows. with_flag rows level place opened) variants (switches_switching id opened) (of_switching id opened) table works at
     (λ state st op re.
-        let flag : flag_at state.opened (level, place) ≡ was = got_is (row_at state.opened level) place was false (ap (λ (rows : Rows). slice_get (row_at rows level) place) (sym op) ∙ now) in
-        somewhere state id opened (level, place) (ap (λ (n : Network). find_switch n id) (sym st) ∙ found)
-        ∙ set_done state (flag_at state.opened (level, place)) opened (with_opened state (level, place) opened) (ap (λ b. beq b opened) flag ∙ other))
+    let flag : flag_at state.opened (level, place) ≡ was = got_is (row_at state.opened level) place was false (ap (λ (rows : Rows). slice_get (row_at rows level) place) (sym op) ∙ now) in
+    somewhere state id opened (level, place) (ap (λ (n : Network). find_switch n id) (sym st) ∙ found)
+    ∙ set_done state (flag_at state.opened (level, place)) opened (with_opened state (level, place) opened) (ap (λ b. beq b opened) flag ∙ other))
     (told_switching v id opened) is gone
 
 -- ---- the flag retained of a switch
@@ -314,8 +314,8 @@ unfolding of_variant events_of
 retain_same m worker slot level place v id flag was rows made works at found held now equal is =
     stays m worker slot v (requests.RetainSwitch id flag) replies.Unchanged made refl works at
     (λ state st op re.
-        retain_found state id flag (level, place) (ap (λ (n : Network). find_switch n id) (sym st) ∙ found)
-        ∙ set_already state (flag_at state.retained (level, place)) flag (with_retained state (level, place) flag) (ap (λ b. beq b flag) (kept_flag m slot level place rows state.retained was held now re) ∙ equal))
+    retain_found state id flag (level, place) (ap (λ (n : Network). find_switch n id) (sym st) ∙ found)
+    ∙ set_already state (flag_at state.retained (level, place)) flag (with_retained state (level, place) flag) (ap (λ b. beq b flag) (kept_flag m slot level place rows state.retained was held now re) ∙ equal))
     refl is
 
 pub retain_made : (m new : Machine) (worker slot level place : ℕ) (v id : List ℕ) (flag was : Bool) (rows : Rows) (made : Made) → IsTable m.slots → WorksOn m worker v → StandsAt m v slot → find_switch m.structure id ≡ Some (level, place)
@@ -326,8 +326,8 @@ unfolding of_variant is_switching events_of with_retained
 retain_made m new worker slot level place v id flag was rows made table works at found held now other is st sl wo re =
     retains m new worker slot v (requests.RetainSwitch id flag) replies.Done made (λ z. with_flag z level place flag) refl refl table works at
     (λ state same kept.
-        retain_found state id flag (level, place) (ap (λ (n : Network). find_switch n id) (sym same) ∙ found)
-        ∙ set_done state (flag_at state.retained (level, place)) flag (with_retained state (level, place) flag) (ap (λ b. beq b flag) (kept_flag m slot level place rows state.retained was held now kept) ∙ other))
+    retain_found state id flag (level, place) (ap (λ (n : Network). find_switch n id) (sym same) ∙ found)
+    ∙ set_done state (flag_at state.retained (level, place)) flag (with_retained state (level, place) flag) (ap (λ b. beq b flag) (kept_flag m slot level place rows state.retained was held now kept) ∙ other))
     refl is st sl wo (λ z at_slot. re ∙ ap (λ (y : Rows). slice_set m.retained.items slot (with_flag y level place flag)) (held ∙ got_is m.retained.items slot z rows at_slot))
 
 -- its rows are kept at its number

@@ -110,10 +110,10 @@ unfolding of_variant events_of solo
 bus_breaker_made m worker slot place v id level opened retained rows view made works at found there op kept re seen is =
     stays m worker slot v (requests.BusBreakerView id) (replies.BusBreaker view) made refl works at
     (λ state st o r.
-        let first : opened ≡ row_at state.opened place = op ∙ ap (λ (z : Rows). row_at z place) o in
-        let second : retained ≡ row_at state.retained place = re ∙ ap (λ (z : Rows). row_at z place) (kept ∙ got_is m.retained.items slot state.retained rows r) in
-        ap (λ (rep : Reply). (state, rep)) (bus_breaker_reply state id place level (in_state m state id (Some place) st found) (level_in m state place level st there)
-        ∙ sym (ap replies.BusBreaker (seen ∙ ap (λ (z : List Bool). bus_breaker_view_of (stood level z retained)) first ∙ ap (λ (z : List Bool). bus_breaker_view_of (stood level (row_at state.opened place) z)) second))))
+    let first : opened ≡ row_at state.opened place = op ∙ ap (λ (z : Rows). row_at z place) o in
+    let second : retained ≡ row_at state.retained place = re ∙ ap (λ (z : Rows). row_at z place) (kept ∙ got_is m.retained.items slot state.retained rows r) in
+    ap (λ (rep : Reply). (state, rep)) (bus_breaker_reply state id place level (in_state m state id (Some place) st found) (level_in m state place level st there)
+    ∙ sym (ap replies.BusBreaker (seen ∙ ap (λ (z : List Bool). bus_breaker_view_of (stood level z retained)) first ∙ ap (λ (z : List Bool). bus_breaker_view_of (stood level (row_at state.opened place) z)) second))))
     refl is
 
 pub bus_made : (m : Machine) (worker slot place : ℕ) (v id : List ℕ) (level : VoltageLevel) (opened : List Bool) (view : BusView) (made : Made) → WorksOn m worker v → StandsAt m v slot
@@ -124,9 +124,9 @@ unfolding of_variant events_of solo
 bus_made m worker slot place v id level opened view made works at found there op seen is =
     stays m worker slot v (requests.BusView id) (replies.Bus view) made refl works at
     (λ state st o r.
-        let first : opened ≡ row_at state.opened place = op ∙ ap (λ (z : Rows). row_at z place) o in
-        ap (λ (rep : Reply). (state, rep)) (bus_reply state id place level (in_state m state id (Some place) st found) (level_in m state place level st there)
-        ∙ sym (ap replies.Bus (seen ∙ ap (λ (z : List Bool). bus_view_of (positioned level z) (record_watts level)) first))))
+    let first : opened ≡ row_at state.opened place = op ∙ ap (λ (z : Rows). row_at z place) o in
+    ap (λ (rep : Reply). (state, rep)) (bus_reply state id place level (in_state m state id (Some place) st found) (level_in m state place level st there)
+    ∙ sym (ap replies.Bus (seen ∙ ap (λ (z : List Bool). bus_view_of (positioned level z) (record_watts level)) first))))
     refl is
 
 pub components_made : (m : Machine) (worker slot place : ℕ) (v id : List ℕ) (level : VoltageLevel) (opened : Rows) (list : List BusComponent) (made : Made) → WorksOn m worker v → StandsAt m v slot
@@ -137,8 +137,8 @@ unfolding of_variant events_of solo
 components_made m worker slot place v id level opened list made works at found there op seen is =
     stays m worker slot v (requests.Components id) (replies.Components list) made refl works at
     (λ state st o r.
-        ap (λ (rep : Reply). (state, rep)) (components_reply state id place level (in_state m state id (Some place) st found) (level_in m state place level st there)
-        ∙ sym (ap replies.Components (seen state.retained ∙ ap (λ (n : Network). level_components n opened state.retained place) st ∙ ap (λ (z : Rows). level_components state.structure z state.retained place) (op ∙ o)))))
+    ap (λ (rep : Reply). (state, rep)) (components_reply state id place level (in_state m state id (Some place) st found) (level_in m state place level st there)
+    ∙ sym (ap replies.Components (seen state.retained ∙ ap (λ (n : Network). level_components n opened state.retained place) st ∙ ap (λ (z : Rows). level_components state.structure z state.retained place) (op ∙ o)))))
     refl is
 
 -- a level that is there

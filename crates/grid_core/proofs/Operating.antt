@@ -146,7 +146,7 @@ unfolding level_at
 connect_within m slot place node level row places f there is planned =
     subst (λ (rows : Rows). All (λ p. p < length (row_at rows place)) places) (sym f.opened)
     (connect_places f.state.structure f.state.opened place level node places f.fits.opened (ap (λ (n : Network). slice_get (levels n) place) (sym f.structure_is) ∙ there)
-        (ap (λ (z : List Bool). connect_plan_of (positioned level z) node) (sym (is ∙ ap (λ (rows : Rows). row_at rows place) f.opened)) ∙ planned))
+    (ap (λ (z : List Bool). connect_plan_of (positioned level z) node) (sym (is ∙ ap (λ (rows : Rows). row_at rows place) f.opened)) ∙ planned))
 
 -- ---- disconnect
 
@@ -193,7 +193,7 @@ unfolding level_at
 disconnect_within m slot place node level row places f there is planned =
     subst (λ (rows : Rows). All (λ p. p < length (row_at rows place)) places) (sym f.opened)
     (disconnect_places f.state.structure f.state.opened place level node places f.fits.opened (ap (λ (n : Network). slice_get (levels n) place) (sym f.structure_is) ∙ there)
-        (ap (λ (z : List Bool). disconnect_plan_of (positioned level z) node) (sym (is ∙ ap (λ (rows : Rows). row_at rows place) f.opened)) ∙ planned))
+    (ap (λ (z : List Bool). disconnect_plan_of (positioned level z) node) (sym (is ∙ ap (λ (rows : Rows). row_at rows place) f.opened)) ∙ planned))
 
 pub already_connected : (state : State) (place : ℕ) (level : VoltageLevel) → connected state place level connects.AlreadyConnected ≡ (state, replies.AlreadyConnected)
 unfolding connected

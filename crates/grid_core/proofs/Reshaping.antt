@@ -132,11 +132,11 @@ pub level_rows : (m : Machine) (place : ℕ) → IsMachine m → IsTable m.slots
 level_rows m place held table below =
     each_held (λ rows. place < length rows) (λ v. (state_of held.0 held.1.0 v).opened) m.slots table.rise held.1.1.parts.opened
     (λ name alive.
-        let lives : is_live held.1.0 name ≡ true = sym (slots_live held.0 held.1.0 m name held.1.1) ∙ alive in
-        let same : m.structure ≡ (state_of held.0 held.1.0 name).structure = held.1.1.parts.structure_is ∙ sym (state_structure held.0 held.1.0 name lives) in
-        let count = rows_of_levels (state_of held.0 held.1.0 name).structure (state_of held.0 held.1.0 name).opened (state_of-fits held.0 held.1.0 name held.1.1.parts.sound).opened in
-        let levels_same : length (levels m.structure) ≡ length (levels (state_of held.0 held.1.0 name).structure) = ap (λ (n : Network). length (levels n)) same in
-        omega (arith, count, levels_same, below))
+    let lives : is_live held.1.0 name ≡ true = sym (slots_live held.0 held.1.0 m name held.1.1) ∙ alive in
+    let same : m.structure ≡ (state_of held.0 held.1.0 name).structure = held.1.1.parts.structure_is ∙ sym (state_structure held.0 held.1.0 name lives) in
+    let count = rows_of_levels (state_of held.0 held.1.0 name).structure (state_of held.0 held.1.0 name).opened (state_of-fits held.0 held.1.0 name held.1.1.parts.sound).opened in
+    let levels_same : length (levels m.structure) ≡ length (levels (state_of held.0 held.1.0 name).structure) = ap (λ (n : Network). length (levels n)) same in
+    omega (arith, count, levels_same, below))
 
 -- and a row of flags retained
 retained_level : (m : Machine) (place slot : ℕ) (name : List ℕ) → IsMachine m → place < length (levels m.structure) → slot_of m.slots name ≡ Some slot → (rows : Rows) × (slice_get m.retained.items slot ≡ Some rows) × (place < length rows)
@@ -162,11 +162,11 @@ gained m next worker place edit new opened retained rows kept made held below ga
     (sl ∙ ap (with_each_row place m.slots) made_rows ∙ with_each_row-map place (λ v. row_at v.rows place ++ opened ∷ []) (λ r. with_last r place opened) m.slots (λ v. refl) ∙ ap (λ f. all_changed f m.slots) (sym (gains the_opened new e)))
     (ap length all ∙ length-map m.retained.items (λ r. put_at place r (longer_at place retained r)))
     (λ name slot at.
-        let there = retained_level m place slot name held below at in
-        ap (λ rs. slice_get rs slot) all ∙ get-map (λ r. put_at place r (longer_at place retained r)) m.retained.items slot
-        ∙ ap (option_map (λ r. put_at place r (longer_at place retained r))) there.1
-        ∙ ap (λ (r : Rows). Some r) (longer_put place retained there.0 there.2 ∙ ap (λ (f : Rows → Rows). f there.0) (sym (gains the_retained new e)))
-        ∙ ap (option_map (rows_after the_retained m.structure new edit)) (sym there.1))
+    let there = retained_level m place slot name held below at in
+    ap (λ rs. slice_get rs slot) all ∙ get-map (λ r. put_at place r (longer_at place retained r)) m.retained.items slot
+    ∙ ap (option_map (λ r. put_at place r (longer_at place retained r))) there.1
+    ∙ ap (λ (r : Rows). Some r) (longer_put place retained there.0 there.2 ∙ ap (λ (f : Rows → Rows). f there.0) (sym (gains the_retained new e)))
+    ∙ ap (option_map (rows_after the_retained m.structure new edit)) (sym there.1))
 
 -- where the level stands
 pub gains_switch : (net : Network) (id level : List ℕ) (kind : SwitchKind) (node1 node2 : ℤ) (opened retained fictitious : Bool) (place : ℕ) → Some place ≡ find_level net level
@@ -187,16 +187,18 @@ each_opened : (P : Rows → Type 0) (m : Machine) → IsMachine m → IsTable m.
 each_opened P m held table fits =
     each_held P (λ v. (state_of held.0 held.1.0 v).opened) m.slots table.rise held.1.1.parts.opened
     (λ name alive.
-        let lives : is_live held.1.0 name ≡ true = sym (slots_live held.0 held.1.0 m name held.1.1) ∙ alive in
-        fits (state_of held.0 held.1.0 name) (state_of-fits held.0 held.1.0 name held.1.1.parts.sound) (held.1.1.parts.structure_is ∙ sym (state_structure held.0 held.1.0 name lives)))
+    let lives : is_live held.1.0 name ≡ true = sym (slots_live held.0 held.1.0 m name held.1.1) ∙ alive in
+    fits (state_of held.0 held.1.0 name) (state_of-fits held.0 held.1.0 name held.1.1.parts.sound) (held.1.1.parts.structure_is ∙ sym (state_structure held.0 held.1.0 name lives)))
 
 -- and of the flags retained
 kept_rows : (P : Rows → Type 0) (m : Machine) (slot : ℕ) (name : List ℕ) → IsMachine m → slot_of m.slots name ≡ Some slot → ((state : State) → StateFits state → m.structure ≡ state.structure → P state.retained)
     → (rows : Rows) × (slice_get m.retained.items slot ≡ Some rows) × P rows
 kept_rows P m slot name held at fits =
-    let lives : is_live held.1.0 name ≡ true = sym (slots_live held.0 held.1.0 m name held.1.1) ∙ slot_live m.slots name slot at in
-    ((state_of held.0 held.1.0 name).retained, held.1.1.parts.retained name slot at,
-        fits (state_of held.0 held.1.0 name) (state_of-fits held.0 held.1.0 name held.1.1.parts.sound) (held.1.1.parts.structure_is ∙ sym (state_structure held.0 held.1.0 name lives)))
+    let lives : is_live held.1.0 name ≡ true = sym (slots_live held.0 held.1.0 m name held.1.1) ∙ slot_live m.slots name slot at in (
+      (state_of held.0 held.1.0 name).retained,
+      held.1.1.parts.retained name slot at,
+      fits (state_of held.0 held.1.0 name) (state_of-fits held.0 held.1.0 name held.1.1.parts.sound) (held.1.1.parts.structure_is ∙ sym (state_structure held.0 held.1.0 name lives)),
+    )
 
 in_state : (m : Machine) (state : State) (id : List ℕ) (level place : ℕ) → find_switch m.structure id ≡ Some (level, place) → m.structure ≡ state.structure → find_switch state.structure id ≡ Some (level, place)
 in_state m state id level place h st = ap (λ (n : Network). find_switch n id) (sym st) ∙ h
@@ -225,11 +227,11 @@ lost m next worker level place id edit new rows kept made held found loses e is 
     (sl ∙ ap (with_each_row level m.slots) made_rows ∙ with_each_row-map level (λ v. remove (row_at v.rows level) place) (λ r. without_flag r level place) m.slots (λ v. refl) ∙ ap (λ f. all_changed f m.slots) (sym (loses the_opened new e)))
     (ap length all ∙ length-map m.retained.items (λ r. put_at level r (shorter_at level place r)))
     (λ name slot at.
-        let there = kept_rows (λ r. (level < length r) × (place < length (row_at r level))) m slot name held at (λ state f same. switch_in_rows state.structure state.retained id level place f.retained (in_state m state id level place found same)) in
-        ap (λ rs. slice_get rs slot) all ∙ get-map (λ r. put_at level r (shorter_at level place r)) m.retained.items slot
-        ∙ ap (option_map (λ r. put_at level r (shorter_at level place r))) there.1
-        ∙ ap (λ (r : Rows). Some r) (shorter_put level place there.0 there.2.0 there.2.1 ∙ ap (λ (f : Rows → Rows). f there.0) (sym (loses the_retained new e)))
-        ∙ ap (option_map (rows_after the_retained m.structure new edit)) (sym there.1))
+    let there = kept_rows (λ r. (level < length r) × (place < length (row_at r level))) m slot name held at (λ state f same. switch_in_rows state.structure state.retained id level place f.retained (in_state m state id level place found same)) in
+    ap (λ rs. slice_get rs slot) all ∙ get-map (λ r. put_at level r (shorter_at level place r)) m.retained.items slot
+    ∙ ap (option_map (λ r. put_at level r (shorter_at level place r))) there.1
+    ∙ ap (λ (r : Rows). Some r) (shorter_put level place there.0 there.2.0 there.2.1 ∙ ap (λ (f : Rows → Rows). f there.0) (sym (loses the_retained new e)))
+    ∙ ap (option_map (rows_after the_retained m.structure new edit)) (sym there.1))
 
 pub loses_switch : (net : Network) (id : List ℕ) (level place : ℕ) → find_switch net id ≡ Some (level, place) → LosesAt net (edits.RemoveSwitch id) level place
 loses_switch net id level place h flag new e = rows_after-removed flag net new id level place h

@@ -53,12 +53,7 @@ fn leaves_rows(edit: &Edit) -> bool
 
 impl Machine {
     // Changes the structure alone.
-    fn change_structure(
-        &mut self,
-        alloc: Global,
-        worker: u32,
-        edit: &Edit,
-    ) -> Result<Made, Memory>
+    fn change_structure(&mut self, alloc: Global, worker: u32, edit: &Edit) -> Result<Made, Memory>
         requires held { IsMachine self.old }
         requires rows { LeavesPresent self.old.structure edit.now }
         ensures made { IfOk result (Steps self.old self.new worker (Request.Change edit.now)) }
@@ -143,12 +138,7 @@ impl Machine {
     }
 
     /// Changes the structure, for every variant.
-    pub(crate) fn change(
-        &mut self,
-        alloc: Global,
-        worker: u32,
-        edit: &Edit,
-    ) -> Result<Made, Memory>
+    pub(crate) fn change(&mut self, alloc: Global, worker: u32, edit: &Edit) -> Result<Made, Memory>
         requires held { IsMachine self.old }
         ensures made { IfOk result (Steps self.old self.new worker (Request.Change edit.now)) }
         ensures same { OnErr result (IsSame self.old self.new) }

@@ -1,9 +1,9 @@
 //! Requests, replies, and what a list of steps by several workers means for each variant.
 #![tactic(auto)]
 
+mod editing;
 mod journal;
 pub mod laws;
-mod editing;
 mod machine;
 mod reply;
 mod request;

@@ -19,7 +19,7 @@ pub returns-in-Err-clause-made : goal.returns-in-Err-clause-made
 returns-in-Err-clause-made c =
     each_ok c.refuse.result c.refuse.ensures
     (λ made is. subst (λ slots. Steps c.args.self.now (record c.args.self.now { slots = slots }) c.args.worker (CloneVariant c.args.from.now c.args.to.now c.args.overwrite) made) (sym c.in-Err.ensures.same)
-        (clone_rejected c.args.self.now c.args.worker c.args.from.now c.args.to.now c.args.overwrite c.in-Err.fault made c.in-Err.ensures.refused is))
+    (clone_rejected c.args.self.now c.args.worker c.args.from.now c.args.to.now c.args.overwrite c.in-Err.fault made c.in-Err.ensures.refused is))
 
 pub returns-in-Ok-clause-made : goal.returns-in-Ok-clause-made
 returns-in-Ok-clause-made c =
@@ -27,8 +27,8 @@ returns-in-Ok-clause-made c =
     c.in-Ok.ensures.accepted c.in-Ok.ensures.cloned c.in-Ok.ensures.names
     (c.in_ok-rows.ensures ∙ c.index.ensures ∙ same_get c.args.self.now.retained.items c.in-Some.source c.in_ok-rows.rows c.index.result.now (slot_within c.args.self.now c.in-Some.source (flagged c.args.self.now c.args.from.now c.in-Some.source c.requires.held c.in-Some.ensures)))
     (made_by _ (cloned_reply c.in-Ok.cloned) (cloned_event c.in-Ok.cloned c.args.from.now c.args.to.now ∷ []) c.reply_cloned.ensures c.reply_cloned-in-Ok.ensures
-        (c.from_vec.ensures ∙ c.push_reserved.ensures.items ∙ ap (λ es. es ++ c.event_cloned.result ∷ []) c.in_ok-told.ensures.items
-        ∙ ap (λ e. e ∷ []) (c.event_cloned.ensures ∙ ap (λ n. cloned_event c.in-Ok.cloned n c.in_ok-target_name.target_name) c.in_ok-source_name.ensures ∙ ap (cloned_event c.in-Ok.cloned c.args.from.now) c.in_ok-target_name.ensures)))
+    (c.from_vec.ensures ∙ c.push_reserved.ensures.items ∙ ap (λ es. es ++ c.event_cloned.result ∷ []) c.in_ok-told.ensures.items
+    ∙ ap (λ e. e ∷ []) (c.event_cloned.ensures ∙ ap (λ n. cloned_event c.in-Ok.cloned n c.in_ok-target_name.target_name) c.in_ok-source_name.ensures ∙ ap (cloned_event c.in-Ok.cloned c.args.from.now) c.in_ok-target_name.ensures)))
     refl refl (ap (λ k. set c.args.self.now.retained.items k c.in_ok-rows.rows) c.slot_cloned.ensures)
 
 pub index_mut-requires : goal.index_mut-requires

@@ -23,7 +23,7 @@ pub returns-in-Err-clause-made : goal.returns-in-Err-clause-made
 returns-in-Err-clause-made c =
     each_ok c.answer-in-Err.result c.answer-in-Err.ensures
     (λ made is. connect_lost c.args.self.now c.args.worker c.in-Some.slot c.args.variant.now c.args.id.now c.args.side c.in-Err.refusal made c.requires.works c.in-Some.ensures
-        (ap (λ z. site_of_side c.args.self.now.structure c.args.id.now z) (sym (to_z-of_z w64 c.args.side c.ranges.side)) ∙ c.in-Err.ensures) is)
+    (ap (λ z. site_of_side c.args.self.now.structure c.args.id.now z) (sym (to_z-of_z w64 c.args.side c.ranges.side)) ∙ c.in-Err.ensures) is)
 
 pub level-level-requires : goal.level-level-requires
 level-level-requires c = side_level c.args.self.now.structure c.args.id.now c.args.side c.in-Ok.at.level c.in-Ok.at.node (ap (λ z. site_of_side c.args.self.now.structure c.args.id.now z) (sym (to_z-of_z w64 c.args.side c.ranges.side)) ∙ c.in-Ok.ensures)
@@ -58,15 +58,15 @@ pub returns-in-AlreadyConnected-clause-made : goal.returns-in-AlreadyConnected-c
 returns-in-AlreadyConnected-clause-made c =
     each_ok c.answer-in-AlreadyConnected.result c.answer-in-AlreadyConnected.ensures
     (λ made is. connect_stays c.args.self.now c.args.worker c.in-Some.slot c.in-Ok.at.level c.in-Ok.at.node c.args.variant.now c.args.id.now c.args.side c.level-level.result.now c.row.result.now connects.AlreadyConnected replies.AlreadyConnected made c.requires.works c.in-Some.ensures
-        (ap (λ z. site_of_side c.args.self.now.structure c.args.id.now z) (sym (to_z-of_z w64 c.args.side c.ranges.side)) ∙ c.in-Ok.ensures) c.level-level.ensures (c.row.ensures ∙ ap (λ (rows : Rows). row_at rows c.in-Ok.at.level) c.states.ensures) (sym c.in_ok-plan_connect.ensures.plan ∙ c.in-AlreadyConnected.is)
-        (λ state. already_connected state c.in-Ok.at.level c.level-level.result.now) (connect_silent c.args.variant.now c.args.id.now c.args.side).0 is)
+    (ap (λ z. site_of_side c.args.self.now.structure c.args.id.now z) (sym (to_z-of_z w64 c.args.side c.ranges.side)) ∙ c.in-Ok.ensures) c.level-level.ensures (c.row.ensures ∙ ap (λ (rows : Rows). row_at rows c.in-Ok.at.level) c.states.ensures) (sym c.in_ok-plan_connect.ensures.plan ∙ c.in-AlreadyConnected.is)
+    (λ state. already_connected state c.in-Ok.at.level c.level-level.result.now) (connect_silent c.args.variant.now c.args.id.now c.args.side).0 is)
 
 pub returns-in-NoPath-clause-made : goal.returns-in-NoPath-clause-made
 returns-in-NoPath-clause-made c =
     each_ok c.answer-in-NoPath.result c.answer-in-NoPath.ensures
     (λ made is. connect_stays c.args.self.now c.args.worker c.in-Some.slot c.in-Ok.at.level c.in-Ok.at.node c.args.variant.now c.args.id.now c.args.side c.level-level.result.now c.row.result.now connects.NoPath replies.NoPath made c.requires.works c.in-Some.ensures
-        (ap (λ z. site_of_side c.args.self.now.structure c.args.id.now z) (sym (to_z-of_z w64 c.args.side c.ranges.side)) ∙ c.in-Ok.ensures) c.level-level.ensures (c.row.ensures ∙ ap (λ (rows : Rows). row_at rows c.in-Ok.at.level) c.states.ensures) (sym c.in_ok-plan_connect.ensures.plan ∙ c.in-NoPath.is)
-        (λ state. no_path state c.in-Ok.at.level c.level-level.result.now) (connect_silent c.args.variant.now c.args.id.now c.args.side).1 is)
+    (ap (λ z. site_of_side c.args.self.now.structure c.args.id.now z) (sym (to_z-of_z w64 c.args.side c.ranges.side)) ∙ c.in-Ok.ensures) c.level-level.ensures (c.row.ensures ∙ ap (λ (rows : Rows). row_at rows c.in-Ok.at.level) c.states.ensures) (sym c.in_ok-plan_connect.ensures.plan ∙ c.in-NoPath.is)
+    (λ state. no_path state c.in-Ok.at.level c.level-level.result.now) (connect_silent c.args.variant.now c.args.id.now c.args.side).1 is)
 
 pub returns-in_ok-set_all-in-Close-clause-made : goal.returns-in_ok-set_all-in-Close-clause-made
 returns-in_ok-set_all-in-Close-clause-made c =

@@ -23,7 +23,7 @@ pub returns-in-Err-clause-made : goal.returns-in-Err-clause-made
 returns-in-Err-clause-made c =
     each_ok c.answer-in-Err.result c.answer-in-Err.ensures
     (λ made is. disconnect_lost c.args.self.now c.args.worker c.in-Some.slot c.args.variant.now c.args.id.now c.args.side c.in-Err.refusal made c.requires.works c.in-Some.ensures
-        (ap (λ z. site_of_side c.args.self.now.structure c.args.id.now z) (sym (to_z-of_z w64 c.args.side c.ranges.side)) ∙ c.in-Err.ensures) is)
+    (ap (λ z. site_of_side c.args.self.now.structure c.args.id.now z) (sym (to_z-of_z w64 c.args.side c.ranges.side)) ∙ c.in-Err.ensures) is)
 
 pub level-level-requires : goal.level-level-requires
 level-level-requires c = side_level c.args.self.now.structure c.args.id.now c.args.side c.in-Ok.at.level c.in-Ok.at.node (ap (λ z. site_of_side c.args.self.now.structure c.args.id.now z) (sym (to_z-of_z w64 c.args.side c.ranges.side)) ∙ c.in-Ok.ensures)
@@ -58,15 +58,15 @@ pub returns-in-AlreadyDisconnected-clause-made : goal.returns-in-AlreadyDisconne
 returns-in-AlreadyDisconnected-clause-made c =
     each_ok c.answer-in-AlreadyDisconnected.result c.answer-in-AlreadyDisconnected.ensures
     (λ made is. disconnect_stays c.args.self.now c.args.worker c.in-Some.slot c.in-Ok.at.level c.in-Ok.at.node c.args.variant.now c.args.id.now c.args.side c.level-level.result.now c.row.result.now disconnects.AlreadyDisconnected replies.AlreadyDisconnected made c.requires.works c.in-Some.ensures
-        (ap (λ z. site_of_side c.args.self.now.structure c.args.id.now z) (sym (to_z-of_z w64 c.args.side c.ranges.side)) ∙ c.in-Ok.ensures) c.level-level.ensures (c.row.ensures ∙ ap (λ (rows : Rows). row_at rows c.in-Ok.at.level) c.states.ensures) (sym c.in_ok-plan_disconnect.ensures.plan ∙ c.in-AlreadyDisconnected.is)
-        (λ state. already_disconnected state c.in-Ok.at.level c.level-level.result.now) (disconnect_silent c.args.variant.now c.args.id.now c.args.side (record { equipment = []; side = 0 })).0 is)
+    (ap (λ z. site_of_side c.args.self.now.structure c.args.id.now z) (sym (to_z-of_z w64 c.args.side c.ranges.side)) ∙ c.in-Ok.ensures) c.level-level.ensures (c.row.ensures ∙ ap (λ (rows : Rows). row_at rows c.in-Ok.at.level) c.states.ensures) (sym c.in_ok-plan_disconnect.ensures.plan ∙ c.in-AlreadyDisconnected.is)
+    (λ state. already_disconnected state c.in-Ok.at.level c.level-level.result.now) (disconnect_silent c.args.variant.now c.args.id.now c.args.side (record { equipment = []; side = 0 })).0 is)
 
 pub returns-in-NoBreaker-clause-made : goal.returns-in-NoBreaker-clause-made
 returns-in-NoBreaker-clause-made c =
     each_ok c.answer-in-NoBreaker.result c.answer-in-NoBreaker.ensures
     (λ made is. disconnect_stays c.args.self.now c.args.worker c.in-Some.slot c.in-Ok.at.level c.in-Ok.at.node c.args.variant.now c.args.id.now c.args.side c.level-level.result.now c.row.result.now (disconnects.NoBreaker c.in-NoBreaker.terminal) (replies.NoBreaker c.in-NoBreaker.terminal) made c.requires.works c.in-Some.ensures
-        (ap (λ z. site_of_side c.args.self.now.structure c.args.id.now z) (sym (to_z-of_z w64 c.args.side c.ranges.side)) ∙ c.in-Ok.ensures) c.level-level.ensures (c.row.ensures ∙ ap (λ (rows : Rows). row_at rows c.in-Ok.at.level) c.states.ensures) (sym c.in_ok-plan_disconnect.ensures.plan ∙ c.in-NoBreaker.is)
-        (λ state. no_breaker state c.in-Ok.at.level c.level-level.result.now c.in-NoBreaker.terminal) (disconnect_silent c.args.variant.now c.args.id.now c.args.side c.in-NoBreaker.terminal).1 is)
+    (ap (λ z. site_of_side c.args.self.now.structure c.args.id.now z) (sym (to_z-of_z w64 c.args.side c.ranges.side)) ∙ c.in-Ok.ensures) c.level-level.ensures (c.row.ensures ∙ ap (λ (rows : Rows). row_at rows c.in-Ok.at.level) c.states.ensures) (sym c.in_ok-plan_disconnect.ensures.plan ∙ c.in-NoBreaker.is)
+    (λ state. no_breaker state c.in-Ok.at.level c.level-level.result.now c.in-NoBreaker.terminal) (disconnect_silent c.args.variant.now c.args.id.now c.args.side c.in-NoBreaker.terminal).1 is)
 
 pub returns-in_ok-set_all-in-Opens-clause-made : goal.returns-in_ok-set_all-in-Opens-clause-made
 returns-in_ok-set_all-in-Opens-clause-made c =

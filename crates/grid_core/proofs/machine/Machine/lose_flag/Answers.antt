@@ -28,7 +28,7 @@ pub returns-in-Err-Refused-clause-made : goal.returns-in-Err-Refused-clause-made
 returns-in-Err-Refused-clause-made c =
     each_ok c.answer.result c.answer.ensures
     (λ made is. subst (λ net. Steps c.args.self.now (record c.args.self.now { structure = net }) c.args.worker (Change c.args.edit.now) made) (sym c.in-Err-Refused.ensures.same)
-        (edit_rejected c.args.self.now c.args.worker c.args.edit.now c.in-Err-Refused.fault made (subst (λ z. IsTold (apply c.args.self.now.structure c.args.edit.now) z) c.in-Err-Refused.field-0-is c.in-Err-Refused.ensures.refused) (cc (is, c.in-Err-Refused.fault-is))))
+    (edit_rejected c.args.self.now c.args.worker c.args.edit.now c.in-Err-Refused.fault made (subst (λ z. IsTold (apply c.args.self.now.structure c.args.edit.now) z) c.in-Err-Refused.field-0-is c.in-Err-Refused.ensures.refused) (cc (is, c.in-Err-Refused.fault-is))))
 
 pub returns-in-Err-Refused-clause-same : goal.returns-in-Err-Refused-clause-same
 returns-in-Err-Refused-clause-same c = any_err c.answer.result (c.in-Err-Refused.ensures.same, refl, refl, refl)

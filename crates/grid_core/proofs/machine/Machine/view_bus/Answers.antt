@@ -36,5 +36,5 @@ pub returns : goal.returns
 returns c =
     each_ok c.answer-2.result c.answer-2.ensures
     (λ made is. bus_made c.args.self.now c.args.worker c.in-Some.slot c.in-Some-find_level.place c.args.variant.now c.args.level.now c.level-found.result.now c.row.result.now c.in_ok-view.view made c.requires.works c.in-Some.ensures
-        c.in-Some-find_level.ensures.place c.level-found.ensures (c.row.ensures ∙ ap (λ (rows : Rows). row_at rows c.in-Some-find_level.place) c.states.ensures)
-        (c.in_ok-view.ensures ∙ ap (bus_view_of (positioned c.level-found.result.now c.row.result.now)) (c.slice.ensures ∙ c.in_ok-watts.ensures)) is)
+    c.in-Some-find_level.ensures.place c.level-found.ensures (c.row.ensures ∙ ap (λ (rows : Rows). row_at rows c.in-Some-find_level.place) c.states.ensures)
+    (c.in_ok-view.ensures ∙ ap (bus_view_of (positioned c.level-found.result.now c.row.result.now)) (c.slice.ensures ∙ c.in_ok-watts.ensures)) is)

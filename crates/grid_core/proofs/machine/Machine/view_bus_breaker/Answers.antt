@@ -41,4 +41,4 @@ pub returns : goal.returns
 returns c =
     each_ok c.answer-2.result c.answer-2.ensures
     (λ made is. bus_breaker_made c.args.self.now c.args.worker c.in-Some.slot c.in-Some-find_level.place c.args.variant.now c.args.level.now c.level.result.now c.row.result.now c.row-2.result.now c.index.result.now c.in_ok-view.view made c.requires.works c.in-Some.ensures
-        c.in-Some-find_level.ensures.place c.level.ensures (c.row.ensures ∙ ap (λ (rows : Rows). row_at rows c.in-Some-find_level.place) c.states.ensures) c.index.ensures c.row-2.ensures c.in_ok-view.ensures is)
+    c.in-Some-find_level.ensures.place c.level.ensures (c.row.ensures ∙ ap (λ (rows : Rows). row_at rows c.in-Some-find_level.place) c.states.ensures) c.index.ensures c.row-2.ensures c.in_ok-view.ensures is)

@@ -32,4 +32,4 @@ returns c =
     let level = level_exists c.args.self.now.structure c.in-Some-find_level.place c.in-Some-find_level.ensures.below in
     each_ok c.answer-2.result c.answer-2.ensures
     (λ made is. components_made c.args.self.now c.args.worker c.in-Some.slot c.in-Some-find_level.place c.args.variant.now c.args.level.now level.0 c.states.result.now c.in_ok-list.list made c.requires.works c.in-Some.ensures
-        c.in-Some-find_level.ensures.place level.1 c.states.ensures c.in_ok-list.ensures is)
+    c.in-Some-find_level.ensures.place level.1 c.states.ensures c.in_ok-list.ensures is)

@@ -14,5 +14,5 @@ returns-clause-ok c =
     grown c.self.inside.origin.value (length c.self.inside.machine.working.items) (length c.step.new.self.working.items) (steps_told c.self.inside.journal.items) (steps_told c.push_reserved.new.self.items) (command c.args.worker c.args.request.now) c.args.self.now
     c.in_ok-made.ensures.count
     (entered c.self.inside.journal.items c.push_reserved.new.self.items c.args.worker c.in_ok-variant.variant c.args.request.now c.in_ok-asked.asked c.in_ok-made.made c.in_ok-asked.ensures
-        (c.push_reserved.ensures.items ∙ ap (λ es. es ++ entry c.args.worker c.in_ok-variant.variant c.in_ok-asked.asked c.in_ok-made.made ∷ []) c.in_ok-reserve.ensures.items))
+    (c.push_reserved.ensures.items ∙ ap (λ es. es ++ entry c.args.worker c.in_ok-variant.variant c.in_ok-asked.asked c.in_ok-made.made ∷ []) c.in_ok-reserve.ensures.items))
     c.self.view_is

@@ -33,6 +33,6 @@ pub returns : goal.returns
 returns c =
     each_ok c.bus_view.result c.bus_view.ensures
     (λ view is. ap (λ (h : History). replies.view h.origin h.steps c.args.name.now c.args.level) (sym c.self.view_is)
-        ∙ view_told c.self.inside.origin.value (steps_told c.self.inside.journal.items) c.self.inside.machine c.args.name.now c.in-Some.slot c.args.level c.level-found.result.now c.row-row.result.now view c.self.invariant.held c.in-Some.ensures c.level-found.ensures
-        (c.row-row.ensures ∙ ap (λ (rows : Rows). row_at rows c.args.level) c.states.ensures)
-        (is ∙ ap (bus_view_of (positioned c.level-found.result.now c.row-row.result.now)) (c.slice.ensures ∙ c.in_ok-watts.ensures)))
+    ∙ view_told c.self.inside.origin.value (steps_told c.self.inside.journal.items) c.self.inside.machine c.args.name.now c.in-Some.slot c.args.level c.level-found.result.now c.row-row.result.now view c.self.invariant.held c.in-Some.ensures c.level-found.ensures
+    (c.row-row.ensures ∙ ap (λ (rows : Rows). row_at rows c.args.level) c.states.ensures)
+    (is ∙ ap (bus_view_of (positioned c.level-found.result.now c.row-row.result.now)) (c.slice.ensures ∙ c.in_ok-watts.ensures)))
