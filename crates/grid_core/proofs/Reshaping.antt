@@ -1,5 +1,5 @@
 -- What an edit makes of the machine of all variants.
-use Rattle.std.proofs.Common.{◌≡◌, refl, sym, ap, ◌∙◌, subst, ℕ, ℤ, zero, suc, ◌-◌, ◌<◌, ◌≤◌, Bool, true, List, [], ◌∷◌, ◌++◌, length, map, get_or, set, length-set, length-append, Option, Some, None, All, arith}
+use Rattle.std.proofs.Common.{◌≡◌, refl, sym, ap, ◌∙◌, ℕ, ℤ, zero, suc, ◌-◌, ◌<◌, ◌≤◌, Bool, true, List, [], ◌∷◌, ◌++◌, length, map, get_or, set, length-set, length-append, Some, None, All, arith}
 use Rattle.std.specs.Prelude.{slice_get, option_map, Ok, Err, Result}
 use Rattle.std.specs.Prelude.{nat_lt, remove}
 use Rattle.std.proofs.lemmas.Bool.{lt-ltb}
@@ -12,17 +12,15 @@ use Rattle.grid_structure.specs.declared.Edit.TheVariants as edits
 use Rattle.grid_structure.specs.declared.EditFault.{EditFault}
 use Rattle.grid_structure.specs.Network.{Network}
 use Rattle.grid_structure.specs.Editing.{apply}
-use Rattle.grid_slots.specs.declared.slots.Variant.{Variant}
-use Rattle.grid_slots.specs.Variants.{slots, slot_of, all_changed, with_each_row, IsTable}
+use Rattle.grid_slots.specs.Variants.{slot_of, all_changed, with_each_row, IsTable}
 use Rattle.grid_slots.proofs.Changing.{with_each_row-map}
 use Rattle.grid_core.specs.declared.request.Request.TheVariants as requests
-use Rattle.grid_core.specs.declared.reply.Reply.{Reply}
 use Rattle.grid_core.specs.declared.reply.Reply.TheVariants as replies
 use Rattle.grid_core.specs.declared.reply.Refusal.TheVariants as refusals
 use Rattle.grid_core.specs.declared.machine.Machine.{Machine}
 use Rattle.grid_core.specs.declared.machine.Made.{Made}
-use Rattle.grid_core.specs.Solo.{State, Flag, the_opened, the_retained, rows_after}
-use Rattle.grid_core.specs.History.{Command, command, structure, working, is_live}
+use Rattle.grid_core.specs.Solo.{State, the_opened, the_retained, rows_after}
+use Rattle.grid_core.specs.History.{Command, command, structure, is_live}
 use Rattle.grid_core.specs.Replies.{state_of, reply, reply_to, change_reply, edit_events, events_of}
 use Rattle.grid_core.specs.Fitting.{StateFits}
 use Rattle.grid_core.specs.Made.{made_of}

@@ -1,10 +1,9 @@
 -- In a sound structure a terminal stands on each side of an equipment.
-use Rattle.std.proofs.Common.{◌≡◌, ◌≢◌, refl, sym, ap, ◌∙◌, subst, ℕ, ℤ, pos, zero, suc, ◌+◌, ◌<◌, ◌≤◌, Bool, true, false, cond, not, ◌&&◌, ◌||◌, List, [], ◌∷◌, ◌++◌, length, map, arith, inl, inr, Option, Some, None}
-use Rattle.std.specs.Prelude.{if◌then◌else◌, ◌==◌, nat_le, filter, find, flat_map, is_some, option_map, slice_get, Ok, Err}
+use Rattle.std.proofs.Common.{◌≡◌, ◌≢◌, refl, sym, ap, ◌∙◌, subst, ℕ, ℤ, pos, ◌+◌, ◌<◌, ◌≤◌, Bool, true, false, cond, not, ◌&&◌, ◌||◌, List, [], ◌∷◌, length, map, arith, inl, inr, Option, Some, None}
+use Rattle.std.specs.Prelude.{if◌then◌else◌, ◌==◌, filter, find, flat_map, is_some, option_map, Ok}
 use Rattle.std.specs.List.{list_all, list_any}
 use Rattle.std.proofs.lemmas.Bool.{and_parts, and_from, or_cases, or_left, or_right, false≢true, true≢false, eqb-true, eq-eqb, le-leb}
 use Rattle.grid_ids.specs.Name.{same_id, has_id}
-use Rattle.grid_ids.specs.Refusing.{found_or}
 use Rattle.grid_level.specs.declared.Placed.{Placed}
 use Rattle.grid_level.specs.declared.Stand.{Stand}
 use Rattle.grid_level.specs.declared.Stand.TheVariants.{Busbar, Feeder, BranchEnd}
@@ -17,10 +16,9 @@ use Rattle.grid_structure.specs.declared.End.{End}
 use Rattle.grid_structure.specs.Network.{Network}
 use Rattle.grid_structure.specs.Sites.{levels, branches, single_ids, branch_named, branch_ends, sides, site, first_found}
 use Rattle.grid_structure.specs.Soundness.{IsSound, record_sides, placed_sides, sides_from, same_side, same_int, all_among}
-use Rattle.grid_structure.proofs.Found.{any-map, any-flat_map, some_find, some_mapped}
+use Rattle.grid_structure.proofs.Found.{any-flat_map, some_find, some_mapped}
 use Rattle.grid_structure.proofs.Framing.{same_is}
 use Rattle.grid_structure.proofs.Sides.{Side}
-use Rattle.grid_core.specs.declared.reply.Refusal.TheVariants as refusals
 use Rattle.grid_core.specs.Solo.{side_of, site_of_side, level_at}
 use Rattle.grid_core.proofs.Ranges.{site_level}
 
