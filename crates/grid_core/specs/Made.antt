@@ -1,5 +1,5 @@
 -- What a step made.
-use Rattle.std.specs.Prelude.{◌≡◌, ℕ, Some, List, [], ◌∷◌}
+use Rattle.std.specs.Prelude.{◌≡◌, ℕ, Some, List, []}
 use Rattle.grid_events.specs.declared.event.Event.{Event}
 use Rattle.grid_events.specs.declared.event.Event.TheVariants as events
 use Rattle.grid_slots.specs.declared.slots.Cloned.{Cloned}
