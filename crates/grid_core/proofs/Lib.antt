@@ -13,3 +13,11 @@ pub mod Planned
 pub mod Sited
 pub mod Journaled
 pub mod Asking
+pub mod Making
+pub mod Flagging
+pub mod Copying
+pub mod Looking
+pub mod Operating
+pub mod Entering
+pub mod Beginning
+pub mod Reshaping

@@ -1,9 +1,13 @@
 -- Telling one listener after the other.
-use Rattle.std.proofs.Common.{◌≡◌, refl, ap, ◌∙◌, ℕ, zero, suc, ◌+◌, ◌<◌, ◌≤◌, List, [], ◌∷◌, length, map, get_or, set, arith, add-one}
+use Rattle.std.proofs.Common.{◌≡◌, refl, sym, ap, ◌∙◌, ℕ, zero, suc, ◌+◌, ◌<◌, ◌≤◌, Bool, true, false, List, [], ◌∷◌, ◌++◌, length, map, take, drop, get_or, set, arith, add-one, append-nil, append_assoc}
+use Rattle.std.specs.Prelude.{filter}
+use Rattle.std.proofs.lemmas.List.Elements.{filter-append}
+use Rattle.std.proofs.Math.Seq.{split_at, take-suc}
 use Rattle.std.proofs.lemmas.List.{map-set, set-get_or}
 use Rattle.grid_events.specs.declared.event.Event.{Event}
 use Rattle.grid_events.specs.declared.listener.Subscription.{Subscription}
-use Rattle.grid_events.specs.Hearing.{Hearing, hearing, hearings, after_event, first_told}
+use Rattle.grid_events.specs.Filters.{matches}
+use Rattle.grid_events.specs.Hearing.{Hearing, hearing, hearings, after_event, after_events, first_told}
 
 module _ (event : Event) where
   pub told_next : (k : ℕ) (hs : List Hearing) (d : Hearing) → k < length hs
@@ -52,3 +56,34 @@ module _ (event : Event) where
         → hearings heard (set now k t) ≡ hearings heard now
     told_same now k s t is same =
         hearings_set now k t ∙ ap (set (hearings heard now) k) (same ∙ ap (hearing heard) is ∙ hearings_at now k s) ∙ set-get_or (hearings heard now) k (hearing heard s)
+
+-- ---- one event after the other
+
+with_heard : (h : Hearing) (x y : List Event) → x ≡ y → record h { heard = x } ≡ record h { heard = y }
+with_heard h x y same = ap (λ l. record h { heard = l }) same
+
+told_one : (events : List Event) (event : Event) (h : Hearing) (t : Bool) → matches h.filter event ≡ t → after_event event (after_events events h) ≡ after_events (events ++ event ∷ []) h
+unfolding after_event after_events
+told_one events event h true is =
+    rw is (with_heard h ((h.heard ++ filter (matches h.filter) events) ++ event ∷ []) (h.heard ++ filter (matches h.filter) (events ++ event ∷ []))
+    (append_assoc h.heard (filter (matches h.filter) events) (event ∷ []) ∙ ap (λ l. h.heard ++ l) (sym (filter-append (matches h.filter) events (event ∷ []) ∙ rw is refl))))
+told_one events event h false is =
+    rw is (with_heard h (h.heard ++ filter (matches h.filter) events) (h.heard ++ filter (matches h.filter) (events ++ event ∷ []))
+    (ap (λ l. h.heard ++ l) (sym (filter-append (matches h.filter) events (event ∷ []) ∙ rw is (append-nil (filter (matches h.filter) events))))))
+
+pub none_told : (hs : List Hearing) → hs ≡ map (after_events []) hs
+unfolding after_events
+none_told [] = refl
+none_told (h ∷ hs) = ap (λ x. x ∷ hs) (with_heard h h.heard (h.heard ++ []) (sym (append-nil h.heard))) ∙ ap (λ y. after_events [] h ∷ y) (none_told hs)
+
+pub told_next_event : (events : List Event) (event : Event) (hs : List Hearing) → map (after_event event) (map (after_events events) hs) ≡ map (after_events (events ++ event ∷ [])) hs
+told_next_event events event [] = refl
+told_next_event events event (h ∷ hs) =
+    ap (λ x. x ∷ map (after_event event) (map (after_events events) hs)) (told_one events event h (matches h.filter event) refl)
+    ∙ ap (λ y. after_events (events ++ event ∷ []) h ∷ y) (told_next_event events event hs)
+
+pub cut_at : (events : List Event) (i : ℕ) (event : Event) → i < length events → event ≡ get_or events i event → events ≡ take i events ++ event ∷ drop (suc i) events
+cut_at events i event lt is = split_at events i event lt ∙ ap (λ e. take i events ++ e ∷ drop (suc i) events) (sym is)
+
+pub one_more : (events : List Event) (i : ℕ) (event : Event) → i < length events → event ≡ get_or events i event → take (i + 1) events ≡ take i events ++ event ∷ []
+one_more events i event lt is = rw add-one (take-suc events i event lt ∙ ap (λ e. take i events ++ e ∷ []) (sym is))

@@ -1,5 +1,5 @@
 -- What the listeners have heard.
-use Rattle.std.specs.Prelude.{◌≡◌, ℕ, ◌<◌, zero, suc, if◌then◌else◌, List, [], ◌∷◌, ◌++◌, length, map}
+use Rattle.std.specs.Prelude.{◌≡◌, ℕ, ◌<◌, zero, suc, if◌then◌else◌, List, [], ◌∷◌, ◌++◌, length, map, filter}
 use Rattle.grid_events.specs.declared.event.Event.{Event}
 use Rattle.grid_events.specs.declared.filter.Filter.{Filter}
 use Rattle.grid_events.specs.declared.listener.Subscription.{Subscription}
@@ -30,3 +30,15 @@ first_told event (suc count) (h ∷ rest) = after_event event h ∷ first_told e
 -- the event was told to those before the place of one of them, and the others are as before
 abbrev pub IsToldBefore : Event → List Hearing → List Hearing → Type 0
 IsToldBefore event old new = (count : ℕ) × (count < length old) × (new ≡ first_told event count old)
+
+-- the events that the filter matches are heard last, in order
+unfoldable pub after_events : List Event → Hearing → Hearing
+after_events events h = record h { heard = h.heard ++ filter (matches h.filter) events }
+
+-- the events before some event were told, that event was told to those before the place of one of them, and no later one to any
+pub record IsToldInPart (events : List Event) (old new : List Hearing) : Type 0 where
+  pub told : List Event
+  pub last : Event
+  pub untold : List Event
+  pub all : events ≡ told ++ last ∷ untold
+  pub before : IsToldBefore last (map (after_events told) old) new

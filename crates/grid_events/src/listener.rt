@@ -1,6 +1,6 @@
 // Listeners, and who hears what.
 ghost use Rattle.std.specs.Prelude.{◌≡◌, [], ◌∷◌, ◌++◌, List, OnOk, OnErr, IfErr, map};
-ghost use Rattle.grid_events.specs.Hearing.{hearing, hearings, after_event, IsToldBefore};
+ghost use Rattle.grid_events.specs.Hearing.{hearing, hearings, after_event, after_events, IsToldBefore, IsToldInPart};
 
 use crate::{Event, Filter};
 use grid_ids::Memory;
@@ -106,6 +106,21 @@ impl<L: Listener> Subscriptions<L> {
     {
         for place in 0..self.items.len() {
             match self.items[place].hear(event) {
+                Ok(()) => {}
+                Err(memory) => return Err(memory),
+            }
+        }
+        Ok(())
+    }
+
+    /// Tells the events one after the other, each to every listener whose filter matches. After want of memory those
+    /// before some event have been told, that event stands as `hear` leaves it, and no later one has been told.
+    pub fn hear_all(&mut self, events: &[Event]) -> Result<(), Memory>
+        ensures ok { OnOk result (hearings L.heard self.new ≡ map (after_events events.now) (hearings L.heard self.old)) }
+        ensures err { OnErr result (IsToldInPart events.now (hearings L.heard self.old) (hearings L.heard self.new)) }
+    {
+        for event in events {
+            match self.hear(event) {
                 Ok(()) => {}
                 Err(memory) => return Err(memory),
             }

@@ -42,11 +42,11 @@ fn a_recorder_hears_what_its_filter_matches(rt: HostRuntime) -> Result<(), Fail>
         events: Events::empty(alloc),
     };
     assert!(rt; recorders.subscribe(filter.copy()?, recorder).is_ok());
-    recorders.hear(&other)?;
-    recorders.hear(&update)?;
+    let events = [other, update];
+    recorders.hear_all(&events)?;
     for subscription in recorders.slice() {
         assert_eq!(rt; subscription.listener.events.len(), 1);
-        assert!(rt; subscription.filter.matches(&update));
+        assert!(rt; subscription.filter.matches(&events[1]));
     }
     assert_eq!(rt; recorders.slice().len(), 1);
     Ok(())

@@ -2,7 +2,7 @@
 ghost use Rattle.std.specs.Prelude.{◌≡◌, ◌≢◌, ◌<◌, ◌≤◌, ◌==◌, [], ◌∷◌, ◌++◌, length, map, slice_get, slice_set, remove, take, drop, All, OnOk, OnErr, IfOk, IfErr, IsTrue, Some, None, unwrap_or};
 ghost use Rattle.grid_states.specs.Rows.{row_at, with_row, with_flag, with_flags, with_last, without_flag, with_level};
 ghost use Rattle.grid_slots.specs.Names.{initial_state, names_rise, with_name, without_name};
-ghost use Rattle.grid_slots.specs.Variants.{names, slot_of, has_slot, rows_at, with_rows, IsFreeSlot, changed, all_changed, first_changed, with_each_row, without_variant};
+ghost use Rattle.grid_slots.specs.Variants.{names, slot_of, has_slot, rows_at, with_rows, IsFreeSlot, IsTable, changed, all_changed, first_changed, with_each_row, without_variant};
 ghost use Rattle.grid_slots.specs.Places.{variant, variant_at, IsAt, IsSlotAt, IsGapFor, IsMadeAt};
 ghost use Rattle.grid_slots.specs.Answers.{clone_fault, remove_fault, IsClone};
 
@@ -297,6 +297,50 @@ impl Slots {
         ensures rest { self.new ≡ remove self.old place }
     {
         self.variants.remove(place).slot
+    }
+
+    /// Tells what every table keeps: names by byte order, the initial one among them, and distinct slots below 64.
+    pub fn keeps(&self)
+        ensures { IsTable self.now }
+    {
+        let _ = &self.variants;
+    }
+
+    /// The row of a level with a flag more, last, of each variant. With `put_rows` it makes `gain` in two steps, of which
+    /// the second takes no memory.
+    pub fn longer_rows(&self, level: u32, opened: bool) -> Result<Vec<Row>, Memory>
+        requires { All (λ v. level < length v.rows) self.now }
+        ensures { IfOk result (λ rows. rows.items ≡ map (λ v. row_at v.rows level ++ opened ∷ []) self.now) }
+    {
+        longer_rows(&self.variants, level, opened)
+    }
+
+    /// The row of a level without one flag, of each variant. With `put_rows` it makes `lose` in two steps, of which the
+    /// second takes no memory.
+    pub fn shorter_rows(&self, level: u32, place: u32) -> Result<Vec<Row>, Memory>
+        requires level { All (λ v. level < length v.rows) self.now }
+        requires place { All (λ v. place < length (row_at v.rows level)) self.now }
+        ensures { IfOk result (λ rows. rows.items ≡ map (λ v. remove (row_at v.rows level) place) self.now) }
+    {
+        shorter_rows(&self.variants, level, place)
+    }
+
+    /// Puts one of the rows in the place of a level's in each variant. It takes no memory.
+    pub fn put_rows(&mut self, level: u32, rows: Vec<Row>)
+        requires count { length rows.items ≡ length self.old }
+        requires level { All (λ v. level < length v.rows) self.old }
+        ensures { self.new ≡ with_each_row level self.old rows.items }
+    {
+        put_rows(&mut self.variants, level, rows);
+    }
+
+    /// Takes the row of a level out in every slot. It takes no memory.
+    pub fn lose_level(&mut self, level: u32)
+        requires { All (λ v. level < length v.rows) self.old }
+        ensures { self.new ≡ all_changed (λ rows. remove rows level) self.old }
+    {
+        let count = self.variants.len();
+        lose_levels(&mut self.variants, level, count);
     }
 
     /// Puts an empty row at this place in every slot, or after want of memory in none.
