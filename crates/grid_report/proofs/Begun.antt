@@ -50,3 +50,8 @@ module _ {X : Type 0} (f : X → List ℕ) where
 
   pub whole : (xs : List X) (i : ℕ) → length xs ≤ i → flat_map f (take i xs) ≡ flat_map f xs
   whole xs i le = ap (flat_map f) (take_all i xs le)
+
+-- nothing was written
+pub at_start : (old : Option (List ℕ)) (bytes : List ℕ) → IsBegun old bytes old
+at_start None bytes = tt
+at_start (Some written) bytes = (bytes, refl)

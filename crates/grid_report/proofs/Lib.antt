@@ -1,2 +1,4 @@
 pub mod Begun
+pub mod Listening
+pub mod Planned
 pub mod Writing

@@ -18,14 +18,17 @@ abbrev pub terminals_text : List Terminal → List ℕ
 terminals_text [] = codes " -"
 terminals_text (t ∷ ts) = flat_map (λ x. 32 ∷ terminal_text x) (t ∷ ts)
 
+-- a bus by its name, its nodes and its terminals
+abbrev pub bus_text : List ℕ → ℕ → List ℕ → List Terminal → List ℕ
+bus_text level least nodes terminals = codes "  bus " ++ bus_name level least
+    ++ codes " |" ++ flat_map (λ n. 32 ∷ decimal n) nodes
+    ++ codes " |" ++ terminals_text terminals
+
 abbrev pub flows_text : ℤ → ℤ → List ℕ
 flows_text load generation = codes " | load " ++ signed load ++ codes " | generation " ++ signed generation ++ codes "\n"
 
 abbrev pub bus_line : List ℕ → ViewBus → List ℕ
-bus_line level b = codes "  bus " ++ bus_name level b.least
-    ++ codes " |" ++ flat_map (λ n. 32 ∷ decimal n) b.nodes
-    ++ codes " |" ++ terminals_text b.terminals
-    ++ flows_text b.load b.generation
+bus_line level b = bus_text level b.least b.nodes b.terminals ++ flows_text b.load b.generation
 
 -- the lines of the buses of a view
 unfoldable pub bus_lines : BusView → List ℕ

@@ -1,6 +1,6 @@
 // The lines of buses.
 ghost use Rattle.std.specs.Prelude.{◌≡◌, ◌++◌, OnOk};
-ghost use Rattle.grid_report.specs.Lines.{bus_name, terminals_text, flows_text, bus_line, bus_lines, count_text, level_text};
+ghost use Rattle.grid_report.specs.Lines.{bus_name, terminals_text, bus_text, flows_text, bus_line, bus_lines, count_text, level_text};
 
 use crate::text::{Shown, Text, put_spaced};
 use grid_busview::{BusView, ViewBus};
@@ -49,16 +49,35 @@ fn put_flows(out: &mut Text, load: &i128, generation: &i128) -> Result<(), Memor
     Ok(())
 }
 
-/// Puts the line of a bus.
-fn put_bus(out: &mut Text, level: &Id, bus: &ViewBus) -> Result<(), Memory>
-    ensures { OnOk result (out.new ≡ out.old ++ bus_line level.now bus.now) }
+/// Puts a bus: its name, its nodes and its terminals.
+pub(crate) fn put_bus(
+    out: &mut Text,
+    level: &Id,
+    least: u16,
+    nodes: &[u16],
+    terminals: &[Terminal],
+) -> Result<(), Memory>
+    ensures { OnOk result (out.new ≡ out.old ++ bus_text level.now least nodes.now terminals.now) }
 {
     out.put("  bus ")?;
-    put_bus_name(out, level, bus.least)?;
+    put_bus_name(out, level, least)?;
     out.put(" |")?;
-    put_spaced(out, bus.nodes.slice())?;
+    put_spaced(out, nodes)?;
     out.put(" |")?;
-    put_terminals(out, bus.terminals.slice())?;
+    put_terminals(out, terminals)
+}
+
+/// Puts the line of a bus of a bus view.
+fn put_bus_line(out: &mut Text, level: &Id, bus: &ViewBus) -> Result<(), Memory>
+    ensures { OnOk result (out.new ≡ out.old ++ bus_line level.now bus.now) }
+{
+    put_bus(
+        out,
+        level,
+        bus.least,
+        bus.nodes.slice(),
+        bus.terminals.slice(),
+    )?;
     put_flows(out, &bus.load, &bus.generation)
 }
 
@@ -68,7 +87,7 @@ pub fn put_buses(out: &mut Text, view: &BusView) -> Result<(), Memory>
     ensures { OnOk result (out.new ≡ out.old ++ bus_lines view.now) }
 {
     for bus in view.buses.slice() {
-        put_bus(out, &view.level, bus)?;
+        put_bus_line(out, &view.level, bus)?;
     }
     Ok(())
 }

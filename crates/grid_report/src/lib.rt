@@ -1,12 +1,24 @@
-//! The report: texts that grow, the lines of buses, and blocks of text handed to a sink in pieces.
+//! The report of what came of a job: texts that grow, its lines, and blocks of text handed to a sink in pieces.
 #![tactic(auto)]
 
 mod bus;
+mod command;
+mod event;
+pub mod laws;
+mod outcome;
 mod pieces;
+mod plan;
+mod refusal;
+mod reply;
 mod report;
 mod text;
 
 pub use bus::{put_bus_name, put_buses, put_count, put_level};
+pub use command::put_command;
+pub use event::put_event_line;
+pub use outcome::{BusViews, Outcome, VariantView, VariantViews};
 pub use pieces::{PIECE, Pieces, ReportFault};
-pub use report::write_blocks;
+pub use refusal::put_refusal;
+pub use reply::{put_answer, put_details};
+pub use report::{write_blocks, write_report};
 pub use text::{Shown, Text, put_spaced};

@@ -4,9 +4,13 @@ ghost use Rattle.std.specs.List.{flat_map};
 ghost use Rattle.std.specs.Io.KnownBytes.{Appends};
 ghost use Rattle.grid_source.specs.Causes.{Rose};
 ghost use Rattle.grid_source.specs.Whole.{IsBegun};
+ghost use Rattle.grid_report.specs.Outcomes.{report_of};
 
+use crate::outcome::Outcome;
 use crate::pieces::{Pieces, ReportFault};
+use crate::plan::plan;
 use crate::text::{Shown, Text};
+use grid_ids::Memory;
 use grid_source::Sink;
 use std::alloc::Global;
 
@@ -33,4 +37,23 @@ pub fn write_blocks<T: Shown, K: Sink>(
         pieces.put(sink, text.as_bytes())?;
     }
     pieces.finish(sink)
+}
+
+/// Writes the report of an outcome, in pieces of `PIECE` bytes, the last one shorter. It stops only where the sink's
+/// count of faults rose; after that, or want of memory, a front of the text was written.
+pub fn write_report<K: Sink>(
+    alloc: Global,
+    outcome: &Outcome,
+    sink: &mut K,
+) -> Result<(), ReportFault>
+    ensures ok { OnOk result (Appends (K.written sink.old) (K.written sink.new) (report_of outcome.now)) }
+    ensures err { OnErr result (IsBegun (K.written sink.old) (report_of outcome.now) (K.written sink.new)) }
+    ensures later { K.faults sink.old ≤ K.faults sink.new }
+    ensures cause { result ≡ Err ReportFault.Stopped → Rose (K.faults sink.old) (K.faults sink.new) }
+{
+    let blocks = match plan(alloc, outcome) {
+        Ok(blocks) => blocks,
+        Err(Memory) => return Err(ReportFault::Memory),
+    };
+    write_blocks(alloc, blocks.as_slice(), sink)
 }

@@ -1,7 +1,7 @@
 // Text that grows, and what is shown of values.
 ghost use Rattle.std.specs.Prelude.{◌≡◌, [], ◌∷◌, ◌++◌, List as Seq, ℕ, string_bytes, OnOk, decimal};
 ghost use Rattle.std.specs.List.{flat_map};
-ghost use Rattle.grid_report.specs.Words.{signed};
+ghost use Rattle.grid_report.specs.Words.{signed, behind};
 
 use grid_ids::{Id, Memory};
 use std::alloc::Global;
@@ -59,6 +59,16 @@ impl Text {
         Ok(())
     }
 
+    /// Puts a whole number last, with a minus sign in front of its digits where it is below 0.
+    #[tactic(auto, unfolding(crate::specs::Words::signed))]
+    pub fn put_whole(&mut self, number: &i64) -> Result<(), Memory>
+        ensures { OnOk result (self.new ≡ self.old ++ signed number.now) }
+    {
+        let number = *number;
+        write!(self.bytes, "{number}")?;
+        Ok(())
+    }
+
     /// Puts a number last, with a minus sign in front of its digits where it is below 0.
     #[tactic(auto, unfolding(crate::specs::Words::signed))]
     pub fn put_signed(&mut self, number: &i128) -> Result<(), Memory>
@@ -78,6 +88,14 @@ pub trait Shown {
     /// Puts what is written of the value last.
     fn show(&self, out: &mut Text) -> Result<(), Memory>
         ensures { OnOk result (out.new ≡ out.old ++ shown self.now) };
+}
+
+impl Shown for u8 {
+    ghost shown = { decimal };
+
+    fn show(&self, out: &mut Text) -> Result<(), Memory> {
+        out.put_unsigned(u64::from(*self))
+    }
 }
 
 impl Shown for u16 {
@@ -105,4 +123,28 @@ pub fn put_spaced<T: Shown>(out: &mut Text, items: &[T]) -> Result<(), Memory>
         item.show(out)?;
     }
     Ok(())
+}
+
+/// Puts words and a value behind them.
+pub(crate) fn put_named<T: Shown>(out: &mut Text, words: &str, value: &T) -> Result<(), Memory>
+    ensures { OnOk result (out.new ≡ out.old ++ (words.now ++ T.shown value.now)) }
+{
+    out.put(words)?;
+    value.show(out)
+}
+
+/// Puts a space and a number behind it.
+pub(crate) fn put_behind(out: &mut Text, number: &i64) -> Result<(), Memory>
+    ensures { OnOk result (out.new ≡ out.old ++ behind number.now) }
+{
+    out.put(" ")?;
+    out.put_whole(number)
+}
+
+/// Puts two numbers, each behind a space.
+pub(crate) fn put_pair(out: &mut Text, first: &i64, second: &i64) -> Result<(), Memory>
+    ensures { OnOk result (out.new ≡ out.old ++ (behind first.now ++ behind second.now)) }
+{
+    put_behind(out, first)?;
+    put_behind(out, second)
 }

@@ -1,4 +1,4 @@
-use Rattle.std.proofs.Common.{append_assoc, rules}
+use Rattle.std.proofs.Common.{append_assoc}
 use Rattle.grid_report.proofs.bus.put_flows.Goals as goal
 
 pub returns : goal.returns

@@ -1,5 +1,4 @@
-use Rattle.std.proofs.Common.{◌≡◌, ◌<◌, ◌++◌, List, ℕ, length, arith}
-use Rattle.std.specs.Io.KnownBytes.{Appends, append_known}
+use Rattle.std.proofs.Common.{◌≡◌, ◌++◌, arith}
 use Rattle.grid_report.proofs.Writing.{waits_more, handed_over, begun, begun_in, further, on_err}
 use Rattle.grid_report.proofs.pieces.put_into.Goals as goal
 

@@ -1,6 +1,4 @@
-use Rattle.std.proofs.Common.{◌≡◌, ◌++◌, sym, ap, ◌∙◌, subst}
-use Rattle.std.specs.Io.KnownBytes.{Appends, append_known}
-use Rattle.grid_source.specs.Whole.{IsBegun}
+use Rattle.std.proofs.Common.{◌≡◌, ◌++◌, ap, ◌∙◌}
 use Rattle.grid_report.proofs.Begun.{on_err, on_err_map, before, within, at_end, cut, cut_at, whole}
 use Rattle.grid_report.proofs.report.write_blocks.Goals as goal
 

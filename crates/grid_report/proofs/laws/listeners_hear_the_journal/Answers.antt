@@ -1,0 +1,5 @@
+use Rattle.grid_report.proofs.Listening.{hears}
+use Rattle.grid_report.proofs.laws.listeners_hear_the_journal.Goals as goal
+
+pub returns : goal.returns
+returns c = hears

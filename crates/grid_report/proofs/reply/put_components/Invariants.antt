@@ -1,0 +1,8 @@
+use Rattle.std.proofs.Common.{◌≡◌, ◌++◌, take}
+use Rattle.std.specs.List.{flat_map}
+use Rattle.grid_report.specs.Replies.{component_line}
+use Rattle.grid_report.proofs.reply.put_components.Given as goal
+
+-- the lines so far
+abbrev pub invariant-loop-bus : goal.invariant-loop-bus
+invariant-loop-bus l = l.out ≡ l.fn.out ++ flat_map (component_line l.level) (take l.bus-index l.buses)
