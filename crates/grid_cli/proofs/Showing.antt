@@ -6,7 +6,15 @@ use Rattle.std.proofs.lemmas.List.{drop_all}
 use Rattle.std.proofs.lemmas.Slice.Eq.{bytes_eq-Decides}
 use Rattle.grid_ids.specs.Name.{same_id, has_id}
 use Rattle.grid_core.specs.declared.request.Request.{Request}
-use Rattle.grid_report.specs.Histories.{in_turn_from}
+use Rattle.grid_core.specs.declared.journal.Entry.{Entry}
+use Rattle.grid_core.specs.History.{History}
+use Rattle.grid_core.specs.Journals.{journal_of}
+use Rattle.grid_events.specs.declared.filter.Filter.{Filter}
+use Rattle.grid_json.specs.declared.whole.Job.{Job}
+use Rattle.grid_report.specs.declared.outcome.VariantView.{VariantView}
+use Rattle.grid_report.specs.declared.outcome.Outcome.{Outcome}
+use Rattle.grid_report.specs.Histories.{in_turn_from, variant_views, history_of, outcome_of}
+use Rattle.grid_cli.specs.Orders.{order_of}
 
 -- the first so many, and one more
 more : {X Y : Type 0} (f : X → Y) (xs : List X) (k : ℕ) (y : Y) → option_map f (slice_get xs k) ≡ Some y → map f (take (suc k) xs) ≡ map f (take k xs) ++ y ∷ []
@@ -44,3 +52,21 @@ unfolding in_turn_from
 turns_over scripts k so_far total le all =
     let none : drop k scripts ≡ [] = drop_all k scripts le in
     sym (append-nil so_far) ∙ rw none at all
+
+-- ---- what came of a job
+
+with_filters : List Filter → List Entry → ℕ → List VariantView → Outcome
+with_filters filters journal workers views = record { journal = journal; workers = workers; views = views; filters = filters }
+
+pub came : (job : Job) (order named : List ℕ) (scripts : List (List Request)) (world : History) (journal : List Entry) (workers : ℕ) (views : List VariantView)
+    → order ≡ order_of job → named ≡ order → scripts ≡ job.scripts → world ≡ history_of job.network scripts named
+    → journal ≡ journal_of world.origin world.steps → workers ≡ length job.scripts → views ≡ variant_views world.origin world.steps
+    → ◌≡◌ {A = Outcome} (record { journal = journal; workers = workers; views = views; filters = job.filters }) (outcome_of (history_of job.network job.scripts (order_of job)) job.filters)
+unfolding with_filters outcome_of history_of
+came job order named scripts world journal workers views ordered same own made told many seen =
+    let is : world ≡ history_of job.network job.scripts (order_of job) = made ∙ ap (λ s. history_of job.network s named) own ∙ ap (history_of job.network job.scripts) (same ∙ ordered) in
+    let counted : workers ≡ world.workers = many ∙ sym (ap (λ (h : History). h.workers) is) in
+    ap (λ j. with_filters job.filters j workers views) told
+    ∙ ap (λ n. with_filters job.filters (journal_of world.origin world.steps) n views) counted
+    ∙ ap (with_filters job.filters (journal_of world.origin world.steps) world.workers) seen
+    ∙ ap (λ h. outcome_of h job.filters) is

@@ -1,17 +1,16 @@
 -- The steps of an order, one after the other, as a loop makes them.
-use Rattle.std.proofs.Common.{◌≡◌, refl, sym, ap, ◌∙◌, subst, inl, inr, ℕ, zero, suc, ◌+◌, ◌<◌, ◌≤◌, Bool, true, false, cond, List, [], ◌∷◌, ◌++◌, length, get_or, replicate, arith, add-one, Option, Some, None}
-use Rattle.std.specs.Prelude.{◌==◌, slice_get, slice_set, count_by, reverse, take}
+use Rattle.std.proofs.Common.{◌≡◌, refl, sym, ap, ◌∙◌, subst, inl, inr, ℕ, zero, suc, ◌+◌, ◌<◌, ◌≤◌, Bool, true, false, cond, List, [], ◌∷◌, ◌++◌, length, get_or, set, replicate, arith, add-one, Option, Some, None}
+use Rattle.std.specs.Prelude.{◌==◌, slice_get, count_by, reverse, take}
 use Rattle.std.specs.List.{filter_map, range_with_len}
-use Rattle.std.proofs.lemmas.Bool.{cases_lt, eqb-true, eq-eqb}
-use Rattle.std.proofs.lemmas.List.{reverse-append, get_or-replicate, length-replicate, get_or_past}
-use Rattle.std.proofs.lemmas.List.Sums.{sum_by_more_le, count_by_more_yes, count_by_more_no}
+use Rattle.std.proofs.lemmas.Bool.{true≢false, cases_lt, eqb-true, eq-eqb}
+use Rattle.std.proofs.lemmas.List.{reverse-append, get_or-replicate, length-replicate, get_or_past, get_or_default, get_or-set_same, get_or-set_other, length-set, length-take}
+use Rattle.std.proofs.lemmas.List.Sums.{sum_by_more_le, count_by-le-length, count_by_more_yes, count_by_more_no}
 use Rattle.std.proofs.lemmas.List.Elements.{filter_map-append}
 use Rattle.std.proofs.lemmas.Option.{slice_get-get_or}
 use Rattle.grid_core.specs.declared.request.Request.{Request}
-use Rattle.grid_core.specs.History.{Command, command}
-use Rattle.grid_structure.proofs.Places.{length-slice_set}
-use Rattle.grid_core.proofs.ByNumber.{get-set, get-set_other}
-use Rattle.grid_report.specs.Histories.{next_of, step_at, steps_of}
+use Rattle.grid_structure.specs.Network.{Network}
+use Rattle.grid_core.specs.History.{Command, History, command, longer}
+use Rattle.grid_report.specs.Histories.{next_of, step_at, steps_of, history_of}
 use Rattle.grid_cli.specs.Orders.{IsOrder}
 
 -- so many steps of the order, the newest first
@@ -40,57 +39,84 @@ stood order k worker = count_by (λ w. w == worker) (take k order)
 -- each worker's cursor tells how many of its commands were made
 pub record Cursors (scripts : List (List Request)) (order : List ℕ) (k : ℕ) (cursors : List ℕ) : Type 0 where
   pub many : length cursors ≡ length scripts
-  pub each : (worker : ℕ) → worker < length scripts → slice_get cursors worker ≡ Some (stood order k worker)
+  pub each : (worker : ℕ) → worker < length scripts → get_or cursors worker 0 ≡ stood order k worker
 
-pub at_start : (scripts : List (List Request)) (order : List ℕ) → Cursors scripts order 0 (replicate (length scripts) 0)
-at_start scripts order = record {
-  many = length-replicate {A = ℕ} (length scripts) 0;
-  each = λ worker below. slice_get-get_or {X = ℕ} (replicate (length scripts) 0) worker 0 (rw (length-replicate {A = ℕ} (length scripts) 0) below) ∙ ap Some (get_or-replicate {A = ℕ} (length scripts) worker 0 0 below);
+pub at_start : (scripts : List (List Request)) (order : List ℕ) (cursors : List ℕ) → cursors ≡ replicate (length scripts) 0 → Cursors scripts order 0 cursors
+at_start scripts order cursors is = record {
+  many = ap length is ∙ length-replicate {A = ℕ} (length scripts) 0;
+  each = λ worker below. ap (λ cs. get_or cs worker 0) is ∙ get_or-replicate {A = ℕ} (length scripts) worker 0 0 below;
 }
 
-module _ (scripts : List (List Request)) (order : List ℕ) (k worker : ℕ) (lt : k < length order) (is : worker ≡ get_or order k worker) where
-  -- a worker that an order still names has a command left
-  pub left : IsOrder scripts order → stood order k worker < length (get_or scripts worker [])
-  left ordered =
-      let here : (get_or order k worker == worker) ≡ true = eq-eqb (get_or order k worker) worker (sym is) in
-      let more : stood order (k + 1) worker ≡ stood order k worker + 1 = count_by_more_yes (λ w. w == worker) order k worker lt here in
-      let within = sum_by_more_le (λ w. cond (w == worker) 1 0) order k worker lt in
-      let all = ordered worker in
-      let one : ◌≡◌ {A = ℕ} (cond (get_or order k worker == worker) 1 0) 1 = rw here refl in
-      omega (arith, within, one, all)
+-- no cursor is beyond the steps made
+pub behind : (order : List ℕ) (k worker : ℕ) → stood order k worker ≤ k
+behind order k worker = omega (arith, count_by-le-length (λ w. w == worker) (take k order), length-take k order)
 
-  pub known : IsOrder scripts order → worker < length scripts
-  known ordered = elim (cases_lt worker (length scripts)) [
+module _ (scripts : List (List Request)) (order : List ℕ) (k : ℕ) (lt : k < length order) where
+  named : (get_or order k 0 == get_or order k 0) ≡ true
+  named = eq-eqb (get_or order k 0) (get_or order k 0) refl
+
+  -- a worker that an order still names has a command left
+  has_left : IsOrder scripts order → stood order k (get_or order k 0) < length (get_or scripts (get_or order k 0) [])
+  has_left ordered =
+      let within = sum_by_more_le (λ w. cond (w == get_or order k 0) 1 0) order k 0 lt in
+      let one : ◌≡◌ {A = ℕ} (cond (get_or order k 0 == get_or order k 0) 1 0) 1 = rw named refl in
+      omega (arith, within, one, ordered (get_or order k 0))
+
+  pub known : IsOrder scripts order → get_or order k 0 < length scripts
+  known ordered = elim (cases_lt (get_or order k 0) (length scripts)) [
     | inl h ↦ h
-    | inr h ↦ absurd (omega (arith, left ordered, ap length (get_or_past scripts worker [] h)))
+    | inr h ↦ absurd (omega (arith, has_left ordered, ap length (get_or_past scripts (get_or order k 0) [] h)))
   ]
 
-  pub found : (request : Request) → worker < length scripts → stood order k worker < length (get_or scripts worker []) → request ≡ get_or (get_or scripts worker []) (stood order k worker) request
-      → step_at scripts order k ≡ Some (command worker request)
-  unfolding step_at next_of
-  found request below due same =
-      let at : slice_get order k ≡ Some worker = slice_get-get_or order k worker lt ∙ ap Some (sym is) in
-      let script : slice_get scripts worker ≡ Some (get_or scripts worker []) = slice_get-get_or scripts worker [] below in
-      let next : slice_get (get_or scripts worker []) (stood order k worker) ≡ Some request = slice_get-get_or (get_or scripts worker []) (stood order k worker) request due ∙ ap Some (sym same) in
-      rw (at, script, next) refl
+  script_is : (script : List Request) → get_or order k 0 < length scripts → script ≡ get_or scripts (get_or order k 0) script → script ≡ get_or scripts (get_or order k 0) []
+  script_is script below is = is ∙ get_or_default scripts (get_or order k 0) script [] below
 
-  pub moved : (cursors : List ℕ) → worker < length scripts → Cursors scripts order k cursors → Cursors scripts order (k + 1) (slice_set cursors worker (stood order k worker + 1))
-  moved cursors below c = record {
-    many = length-slice_set cursors worker (stood order k worker + 1) ∙ c.many;
-    each = λ other less. by other less (worker == other) refl;
+  pub cursor_is : (cursors : List ℕ) (cursor : ℕ) → IsOrder scripts order → Cursors scripts order k cursors → cursor ≡ get_or cursors (get_or order k 0) cursor → cursor ≡ stood order k (get_or order k 0)
+  cursor_is cursors cursor ordered c is =
+      let below = known ordered in
+      is ∙ get_or_default cursors (get_or order k 0) cursor 0 (rw c.many below) ∙ c.each (get_or order k 0) below
+
+  pub left : (script : List Request) (cursor : ℕ) → IsOrder scripts order → script ≡ get_or scripts (get_or order k 0) script → cursor ≡ stood order k (get_or order k 0) → cursor < length script
+  left script cursor ordered is at = omega (arith, has_left ordered, at, ap length (script_is script (known ordered) is))
+
+  pub found : (script : List Request) (cursor : ℕ) (request : Request) → IsOrder scripts order → script ≡ get_or scripts (get_or order k 0) script → cursor ≡ stood order k (get_or order k 0)
+      → request ≡ get_or script cursor request → step_at scripts order k ≡ Some (command (get_or order k 0) request)
+  unfolding step_at next_of
+  found script cursor request ordered is at same =
+      let here : slice_get order k ≡ Some (get_or order k 0) = slice_get-get_or order k 0 lt in
+      let own : slice_get scripts (get_or order k 0) ≡ Some script = slice_get-get_or scripts (get_or order k 0) [] (known ordered) ∙ ap Some (sym (script_is script (known ordered) is)) in
+      let next : slice_get script cursor ≡ Some request = slice_get-get_or script cursor request (left script cursor ordered is at) ∙ ap Some (sym same) in
+      let counted : slice_get script (stood order k (get_or order k 0)) ≡ Some request = subst (λ n. slice_get script n ≡ Some request) at next in
+      rw (here, own, counted) refl
+
+  pub moved : (cursors : List ℕ) (cursor : ℕ) → IsOrder scripts order → Cursors scripts order k cursors → cursor ≡ stood order k (get_or order k 0) → Cursors scripts order (k + 1) (set cursors (get_or order k 0) (cursor + 1))
+  moved cursors cursor ordered c at = record {
+    many = length-set cursors (get_or order k 0) (cursor + 1) ∙ c.many;
+    each = λ other less. by other less (get_or order k 0 == other) refl;
   }
     where
-      by : (other : ℕ) → other < length scripts → (same : Bool) → (worker == other) ≡ same → slice_get (slice_set cursors worker (stood order k worker + 1)) other ≡ Some (stood order (k + 1) other)
+      by : (other : ℕ) → other < length scripts → (same : Bool) → (get_or order k 0 == other) ≡ same → get_or (set cursors (get_or order k 0) (cursor + 1)) other 0 ≡ stood order (k + 1) other
       by other less true same =
-          let here : (get_or order k worker == worker) ≡ true = eq-eqb (get_or order k worker) worker (sym is) in
-          let more : stood order (k + 1) worker ≡ stood order k worker + 1 = count_by_more_yes (λ w. w == worker) order k worker lt here in
-          let own : slice_get (slice_set cursors worker (stood order k worker + 1)) worker ≡ Some (stood order (k + 1) worker) = get-set cursors worker (stood order k worker + 1) (rw c.many below) ∙ ap Some (sym more) in
-          subst (λ z. slice_get (slice_set cursors worker (stood order k worker + 1)) z ≡ Some (stood order (k + 1) z)) (eqb-true worker other same) own
+          let below : get_or order k 0 < length cursors = rw c.many (known ordered) in
+          let more : stood order (k + 1) (get_or order k 0) ≡ stood order k (get_or order k 0) + 1 = count_by_more_yes (λ w. w == get_or order k 0) order k 0 lt named in
+          let own : get_or (set cursors (get_or order k 0) (cursor + 1)) (get_or order k 0) 0 ≡ stood order (k + 1) (get_or order k 0) = get_or-set_same cursors (get_or order k 0) (cursor + 1) 0 below ∙ ap (λ n. n + 1) at ∙ sym more in
+          subst (λ z. get_or (set cursors (get_or order k 0) (cursor + 1)) z 0 ≡ stood order (k + 1) z) (eqb-true (get_or order k 0) other same) own
       by other less false same =
-          let not_here : (get_or order k worker == other) ≡ false = ap (λ w. w == other) (sym is) ∙ same in
-          get-set_other cursors worker other (stood order k worker + 1) same ∙ c.each other less ∙ ap Some (sym (count_by_more_no (λ w. w == other) order k worker lt not_here))
+          let apart : other ≡ get_or order k 0 → ⊥ = λ e. true≢false (sym (eq-eqb (get_or order k 0) other (sym e)) ∙ same) in
+          get_or-set_other cursors (get_or order k 0) other (cursor + 1) 0 apart ∙ c.each other less ∙ sym (count_by_more_no (λ w. w == other) order k 0 lt same)
 
--- all steps of an order
-pub all_made : (scripts : List (List Request)) (order : List ℕ) (k : ℕ) → k ≡ length order → made scripts order k ≡ steps_of scripts order
-unfolding steps_of
-all_made scripts order k is = ap (made scripts order) is
+-- ---- the history
+
+-- the history after so many steps of the order
+abbrev pub history_at : Network → List (List Request) → List ℕ → ℕ → History
+history_at network scripts order k = record { origin = network; workers = length scripts; steps = made scripts order k }
+
+pub grown : (network : Network) (scripts : List (List Request)) (order : List ℕ) (k : ℕ) (step : Command) (world new : History) → step_at scripts order k ≡ Some step
+    → world ≡ history_at network scripts order k → new ≡ longer world step → new ≡ history_at network scripts order (k + 1)
+grown network scripts order k step world new is was grows =
+    let with_steps : List Command → History = λ steps. record { origin = network; workers = length scripts; steps = steps } in
+    grows ∙ ap (λ w. longer w step) was ∙ ap with_steps (sym (made_more scripts order k step is))
+
+pub whole : (network : Network) (scripts : List (List Request)) (order : List ℕ) (k : ℕ) (world : History) → k ≡ length order → world ≡ history_at network scripts order k → world ≡ history_of network scripts order
+unfolding history_of steps_of
+whole network scripts order k world all is = is ∙ ap (history_at network scripts order) all
