@@ -1,11 +1,11 @@
 -- What is planned of a report, one item more at a time.
-use Rattle.std.proofs.Common.{◌≡◌, ℕ, zero, suc, ◌+◌, ◌<◌, ◌≤◌, ◌==◌, cond, Bool, true, false, List, [], ◌∷◌, ◌++◌, take, get_or, length, sym, ap, ◌∙◌, append_assoc, append-nil, length-append, arith, add-one}
+use Rattle.std.proofs.Common.{◌≡◌, ℕ, zero, suc, ◌+◌, ◌<◌, ◌≤◌, ◌==◌, cond, Bool, true, false, List, [], ◌∷◌, Option, Some, ◌++◌, take, get_or, length, sym, ap, ◌∙◌, append_assoc, append-nil, length-append, arith, add-one}
 use Rattle.std.specs.Prelude.{filter}
-use Rattle.std.specs.List.{flat_map, range_with_len}
+use Rattle.std.specs.List.{flat_map, filter_map, cons_option, range_with_len}
 use Rattle.std.proofs.lemmas.Bool.{eq-eqb, ne_eqb}
 use Rattle.std.proofs.lemmas.List.{take_more, length-take-le}
 use Rattle.std.proofs.lemmas.List.Concat.{flat_map-append}
-use Rattle.std.proofs.lemmas.List.Elements.{filter-append}
+use Rattle.std.proofs.lemmas.List.Elements.{filter-append, filter_map-append}
 use Rattle.grid_events.specs.declared.filter.Filter.{Filter}
 use Rattle.grid_events.specs.Filters.{matches}
 use Rattle.grid_core.specs.declared.journal.Entry.{Entry}
@@ -91,6 +91,15 @@ range_last a zero =
 range_last a (suc n) =
     let e : (a + 1) + n ≡ a + suc n = omega arith in
     ap (λ l. a ∷ l) (range_last (a + 1) n ∙ ap (λ x. range_with_len (a + 1) n ++ x ∷ []) e)
+
+-- what is found at the numbers below one more
+pub found_more : {X : Type 0} (f : ℕ → Option X) (n : ℕ) (x : X) → f n ≡ Some x → filter_map f (range_with_len 0 (n + 1)) ≡ filter_map f (range_with_len 0 n) ++ x ∷ []
+found_more f n x found =
+    let e : 0 + n ≡ n = omega arith in
+    ap (λ k. filter_map f (range_with_len 0 k)) (add-one n)
+    ∙ ap (filter_map f) (range_last 0 n)
+    ∙ filter_map-append f (range_with_len 0 n) ((0 + n) ∷ [])
+    ∙ ap (λ o. filter_map f (range_with_len 0 n) ++ cons_option o []) (ap f e ∙ found)
 
 -- the texts of the numbers below one more
 pub flat_range : (f : ℕ → List ℕ) (n : ℕ) → flat_map f (range_with_len 0 (n + 1)) ≡ flat_map f (range_with_len 0 n) ++ f n

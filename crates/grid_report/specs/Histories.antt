@@ -1,16 +1,16 @@
 -- The report of a history: of scripts that are run in some order on a network.
-use Rattle.std.specs.Prelude.{◌≡◌, ℕ, suc, ◌==◌, List, [], ◌∷◌, ◌++◌, Option, Some, None, length, map, reverse, take, slice_get, option_map, option_and_then}
-use Rattle.std.specs.List.{filter_map, count_by, range_with_len}
+use Rattle.std.specs.Prelude.{◌≡◌, ℕ, suc, ◌==◌, List, [], ◌∷◌, ◌++◌, Option, Some, None, length, map, reverse, take, slice_get, option_map, option_and_then, codes, decimal}
+use Rattle.std.specs.List.{flat_map, filter_map, count_by, range_with_len}
 use Rattle.grid_structure.specs.Network.{Network}
 use Rattle.grid_structure.specs.Sites.{levels}
 use Rattle.grid_events.specs.declared.filter.Filter.{Filter}
 use Rattle.grid_core.specs.declared.request.Request.{Request}
-use Rattle.grid_core.specs.History.{Command, History, command, live, structure, asked_by}
+use Rattle.grid_core.specs.History.{Command, History, IsHistory, command, live, structure, asked_by}
 use Rattle.grid_core.specs.Replies.{view, heard}
 use Rattle.grid_core.specs.Journals.{journal_of}
 use Rattle.grid_report.specs.declared.outcome.VariantView.{VariantView}
 use Rattle.grid_report.specs.declared.outcome.Outcome.{Outcome}
-use Rattle.grid_report.specs.Outcomes.{heard_in, report_of}
+use Rattle.grid_report.specs.Outcomes.{order_line, steps_by, heard_in, report_of}
 
 -- ---- what comes of a history
 
@@ -64,6 +64,10 @@ script_of (Some script) = script
 abbrev pub AsksScripts : List (List Request) → List Command → Type 0
 AsksScripts scripts steps = (worker : ℕ) → reverse (asked_by worker steps) ≡ script_of (slice_get scripts worker)
 
+-- an order of scripts: each worker stands as often as its script has commands, and no other number stands
+abbrev pub IsOrder : List (List Request) → List ℕ → Type 0
+IsOrder scripts order = (worker : ℕ) → count_by (λ w. w == worker) order ≡ length (script_of (slice_get scripts worker))
+
 -- these workers in turn, the first of which has this number, each as often as its script has commands
 unfoldable pub in_turn_from : ℕ → List (List Request) → List ℕ
 in_turn_from worker [] = []
@@ -73,14 +77,39 @@ in_turn_from worker (script ∷ rest) = map (λ request. worker) script ++ in_tu
 unfoldable pub in_turn : List (List Request) → List ℕ
 in_turn scripts = in_turn_from 0 scripts
 
+-- the order that is given, or else the workers in turn
+unfoldable pub chosen_order : List (List Request) → Option (List ℕ) → List ℕ
+chosen_order scripts None = in_turn scripts
+chosen_order scripts (Some order) = order
+
 -- ---- the report
 
 unfoldable pub report_text : Network → List (List Request) → List Filter → List ℕ → List ℕ
 report_text origin scripts filters order = report_of (outcome_of (history_of origin scripts order) filters)
 
+-- the steps of scripts are by workers that have one
+abbrev pub OrdersMakeHistories : Type 0
+OrdersMakeHistories = (origin : Network) (scripts : List (List Request)) (order : List ℕ) → IsHistory (history_of origin scripts order)
+
 -- steps in which each worker asked its script are those of the scripts in the steps' order
 abbrev pub OrderTellsSteps : Type 0
 OrderTellsSteps = (scripts : List (List Request)) (steps : List Command) → AsksScripts scripts steps → steps_of scripts (told_order steps) ≡ steps
+
+-- the first line of the report of a history tells the order of its steps
+abbrev pub ReportShowsOrder : Type 0
+ReportShowsOrder = (origin : Network) (steps : List Command) → order_line (journal_of origin steps) ≡ codes "order" ++ flat_map (λ worker. codes " " ++ decimal worker) (told_order steps) ++ codes "\n"
+
+-- the report of scripts in an order of theirs has for each worker its script, in order
+abbrev pub ReportShowsScripts : Type 0
+ReportShowsScripts = (origin : Network) (scripts : List (List Request)) (order : List ℕ) → IsOrder scripts order → (worker : ℕ) → map (λ e. e.request) (steps_by worker (journal_of origin (steps_of scripts order))) ≡ script_of (slice_get scripts worker)
+
+-- the steps of scripts in an order of theirs were made in that order
+abbrev pub StepsTellOrder : Type 0
+StepsTellOrder = (scripts : List (List Request)) (order : List ℕ) → IsOrder scripts order → told_order (steps_of scripts order) ≡ order
+
+-- the workers in turn are such an order
+abbrev pub InTurnIsOrder : Type 0
+InTurnIsOrder = (scripts : List (List Request)) → IsOrder scripts (in_turn scripts)
 
 -- a listener of a history hears just the events of its journal that its filter matches
 abbrev pub HearsItsJournal : Type 0

@@ -83,7 +83,7 @@ fn put_clone(out: &mut Text, from: &Id, to: &Id, overwrite: bool) -> Result<(), 
 
 /// Puts a command by its words.
 #[tactic(auto, unfolding(crate::specs::Commands::command_text))]
-pub fn put_command(out: &mut Text, request: &Request) -> Result<(), Memory>
+pub(crate) fn put_command(out: &mut Text, request: &Request) -> Result<(), Memory>
     ensures { OnOk result (out.new ≡ out.old ++ command_text request.now) }
 {
     match request {

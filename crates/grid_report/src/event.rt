@@ -47,7 +47,7 @@ fn put_event(out: &mut Text, event: &Event) -> Result<(), Memory>
 
 /// Puts the line of an event.
 #[tactic(auto, unfolding(crate::specs::Events::event_line))]
-pub fn put_event_line(out: &mut Text, event: &Event) -> Result<(), Memory>
+pub(crate) fn put_event_line(out: &mut Text, event: &Event) -> Result<(), Memory>
     ensures { OnOk result (out.new ≡ out.old ++ event_line event.now) }
 {
     put_event(out, event)?;

@@ -14,11 +14,7 @@ mod report;
 mod text;
 
 pub use bus::{put_bus_name, put_buses, put_count, put_level};
-pub use command::put_command;
-pub use event::put_event_line;
 pub use outcome::{BusViews, Outcome, VariantView, VariantViews};
 pub use pieces::{PIECE, Pieces, ReportFault};
-pub use refusal::put_refusal;
-pub use reply::{put_answer, put_details};
 pub use report::{write_blocks, write_report};
 pub use text::{Shown, Text, put_spaced};

@@ -70,7 +70,7 @@ fn put_refused(out: &mut Text, refusal: &Refusal) -> Result<(), Memory>
 
 /// Puts the answer on a command's line.
 #[tactic(auto, unfolding(crate::specs::Replies::answer_text))]
-pub fn put_answer(out: &mut Text, reply: &Reply) -> Result<(), Memory>
+pub(crate) fn put_answer(out: &mut Text, reply: &Reply) -> Result<(), Memory>
     ensures { OnOk result (out.new ≡ out.old ++ answer_text reply.now) }
 {
     match reply {
@@ -201,7 +201,7 @@ fn put_asked(out: &mut Text, request: &Request, buses: &[BusComponent]) -> Resul
 
 /// Puts the lines below a command's line.
 #[tactic(auto, unfolding(crate::specs::Replies::detail_lines))]
-pub fn put_details(out: &mut Text, request: &Request, reply: &Reply) -> Result<(), Memory>
+pub(crate) fn put_details(out: &mut Text, request: &Request, reply: &Reply) -> Result<(), Memory>
     ensures { OnOk result (out.new ≡ out.old ++ detail_lines request.now reply.now) }
 {
     match reply {

@@ -1,0 +1,5 @@
+use Rattle.grid_report.proofs.Ordered.{steps_told}
+use Rattle.grid_report.proofs.laws.order_tells_steps.Goals as goal
+
+pub returns : goal.returns
+returns c = steps_told
