@@ -1,6 +1,6 @@
 pub mod Begun
-pub mod Scheduled
 pub mod Stepping
+pub mod Scheduled
 pub mod Showing
 pub mod Written
 pub mod Exact

@@ -1,8 +1,7 @@
 -- The order of a job that was read: each worker as often as its script has commands, and nobody else.
-use Rattle.std.proofs.Common.{◌≡◌, refl, sym, ap, ◌∙◌, ℕ, ℤ, pos, negsuc, zero, suc, ◌+◌, ◌<◌, ◌≤◌, Bool, true, false, cond, not, ◌&&◌, List, [], ◌∷◌, ◌++◌, length, map, get_or, subst, inl, inr, arith, Option, Some, None, Result, Ok, Err}
-use Rattle.std.specs.Prelude.{◌==◌, count_by, int_lt, nat_lt, codes, decimal, unwrap_or, if◌then◌else◌, ◌⊎◌, ⊤}
+use Rattle.std.proofs.Common.{◌≡◌, refl, sym, ap, ◌∙◌, ℕ, ℤ, pos, negsuc, zero, suc, ◌+◌, ◌<◌, ◌≤◌, Bool, true, false, cond, not, List, [], ◌∷◌, length, map, get_or, subst, inl, inr, arith, Option, Some, None, Result, Ok, Err}
+use Rattle.std.specs.Prelude.{◌==◌, count_by, int_lt, nat_lt, codes, decimal, if◌then◌else◌, ◌⊎◌, ⊤}
 use Rattle.std.specs.List.{list_all}
-use Rattle.std.specs.Ordering.{int_eq}
 use Rattle.std.proofs.lemmas.Bool.{false≢true, and_parts, cases_lt, cases_eq, eqb-true, eq-eqb, ne_eqb, ltb-true, ltb-false}
 use Rattle.std.proofs.lemmas.Bool.Decides.{Decides-int_eq}
 use Rattle.std.proofs.lemmas.List.{get_or-map, get_or_past, length-map}
@@ -28,18 +27,14 @@ use Rattle.grid_json.specs.Command.{command_at}
 use Rattle.grid_json.specs.Loading.{network_load}
 use Rattle.grid_json.specs.Job.{max_workers, max_commands, command_total, few_at, counted_scripts, workers_at, listeners_at, format_at, stands_for, is_worker, counts_from, is_order, natural_of, ordered, order_at, draft_at}
 use Rattle.grid_json.specs.Whole.{loaded, or_bad_job, draft_in, draft_of, job_in, job_of}
-use Rattle.grid_report.specs.Histories.{in_turn_from, in_turn}
-use Rattle.grid_cli.specs.Orders.{IsOrder, order_of, IsScheduled}
+use Rattle.grid_report.specs.Histories.{IsOrder, chosen_order}
+use Rattle.grid_report.proofs.Turns.{turns_are_order}
+use Rattle.grid_cli.specs.Orders.{order_of, IsScheduled}
+use Rattle.grid_cli.proofs.Stepping.{script_at}
 
 -- how often a worker stands
 abbrev pub times : ℕ → List ℕ → ℕ
 times worker order = count_by (λ w. w == worker) order
-
-times-append : (worker : ℕ) (a b : List ℕ) → times worker (a ++ b) ≡ times worker a + times worker b
-times-append worker a b = sum_by-append (λ w. cond (w == worker) 1 0) a b
-
-one_if : (b : Bool) → b ≡ true → ◌≡◌ {A = ℕ} (cond b 1 0) 1
-one_if b is = rw is refl
 
 none_if : (b : Bool) → b ≡ false → ◌≡◌ {A = ℕ} (cond b 1 0) 0
 none_if b is = rw is refl
@@ -49,49 +44,6 @@ count-first p x xs =
     let one : count_by p (x ∷ []) ≡ 0 + cond (p x) 1 0 = refl in
     let first : count_by p (x ∷ []) ≡ cond (p x) 1 0 = omega (arith, one) in
     sum_by-append (λ y. cond (p y) 1 0) (x ∷ []) xs ∙ ap (λ n. n + count_by p xs) first
-
--- ---- workers in turn
-
-own_turn : {X : Type 0} (worker : ℕ) (script : List X) → times worker (map (λ request. worker) script) ≡ length script
-own_turn worker [] = refl
-own_turn worker (x ∷ xs) =
-    let sum : cond (worker == worker) 1 0 + times worker (map (λ request. worker) xs) ≡ suc (length xs) = omega (arith, one_if (worker == worker) (eq-eqb worker worker refl), own_turn worker xs) in
-    count-first (λ w. w == worker) worker (map (λ request. worker) xs) ∙ sum
-
-other_turn : {X : Type 0} (worker other : ℕ) (script : List X) → (other == worker) ≡ false → times worker (map (λ request. other) script) ≡ 0
-other_turn worker other [] differ = refl
-other_turn worker other (x ∷ xs) differ =
-    let sum : cond (other == worker) 1 0 + times worker (map (λ request. other) xs) ≡ 0 = omega (arith, none_if (other == worker) differ, other_turn worker other xs differ) in
-    count-first (λ w. w == worker) other (map (λ request. other) xs) ∙ sum
-
-earlier : (scripts : List (List Request)) (first worker : ℕ) → worker < first → times worker (in_turn_from first scripts) ≡ 0
-unfolding in_turn_from
-earlier [] first worker lt = refl
-earlier (script ∷ rest) first worker lt =
-    let differ : (first == worker) ≡ false = ne_eqb first worker (λ e. omega (arith, lt, e)) in
-    let after : times worker (in_turn_from (suc first) rest) ≡ 0 = earlier rest (suc first) worker (omega (arith, lt)) in
-    let sum : times worker (map (λ request. first) script) + times worker (in_turn_from (suc first) rest) ≡ 0 = omega (arith, other_turn worker first script differ, after) in
-    times-append worker (map (λ request. first) script) (in_turn_from (suc first) rest) ∙ sum
-
-each_turn : (scripts : List (List Request)) (first k worker : ℕ) → first + k ≡ worker → times worker (in_turn_from first scripts) ≡ length (get_or scripts k [])
-unfolding in_turn_from
-each_turn [] first zero worker is = refl
-each_turn [] first (suc k) worker is = refl
-each_turn (script ∷ rest) first zero worker is =
-    let same : first ≡ worker = omega (arith, is) in
-    let mine : times worker (map (λ request. first) script) ≡ length script = subst (λ n. times worker (map (λ request. n) script) ≡ length script) (sym same) (own_turn worker script) in
-    let after : times worker (in_turn_from (suc first) rest) ≡ 0 = earlier rest (suc first) worker (omega (arith, same)) in
-    let sum : times worker (map (λ request. first) script) + times worker (in_turn_from (suc first) rest) ≡ length script = omega (arith, mine, after) in
-    times-append worker (map (λ request. first) script) (in_turn_from (suc first) rest) ∙ sum
-each_turn (script ∷ rest) first (suc k) worker is =
-    let differ : (first == worker) ≡ false = ne_eqb first worker (λ e. omega (arith, is, e)) in
-    let after : times worker (in_turn_from (suc first) rest) ≡ length (get_or rest k []) = each_turn rest (suc first) k worker (omega (arith, is)) in
-    let sum : times worker (map (λ request. first) script) + times worker (in_turn_from (suc first) rest) ≡ length (get_or rest k []) = omega (arith, other_turn worker first script differ, after) in
-    times-append worker (map (λ request. first) script) (in_turn_from (suc first) rest) ∙ sum
-
-pub in_turn_orders : (scripts : List (List Request)) → IsOrder scripts (in_turn scripts)
-unfolding in_turn
-in_turn_orders scripts worker = each_turn scripts 0 worker worker (omega arith)
 
 -- ---- an order that is given
 
@@ -157,8 +109,8 @@ given_orders scripts numbers is worker =
     let many : length (map length scripts) ≡ length scripts = length-map scripts length in
     let parts = and_parts (list_all (is_worker (length (map length scripts))) numbers) (counts_from 0 (map length scripts) numbers) is in
     elim (cases_lt worker (length scripts)) [
-      | inl h ↦ as_often (length (map length scripts)) worker numbers parts.0 ∙ counted (map length scripts) numbers 0 worker worker parts.1 (rw many h) (omega arith) ∙ get_or-map length scripts worker [] 0 h
-      | inr h ↦ beyond (length (map length scripts)) worker numbers parts.0 (rw many h) ∙ sym (ap length (get_or_past scripts worker [] h))
+      | inl h ↦ as_often (length (map length scripts)) worker numbers parts.0 ∙ counted (map length scripts) numbers 0 worker worker parts.1 (rw many h) (omega arith) ∙ get_or-map length scripts worker [] 0 h ∙ sym (ap length (script_at scripts worker))
+      | inr h ↦ beyond (length (map length scripts)) worker numbers parts.0 (rw many h) ∙ sym (ap length (script_at scripts worker ∙ get_or_past scripts worker [] h))
     ]
 
 -- ---- what was read
@@ -223,9 +175,10 @@ in_order scripts numbers order true is h =
     subst (IsOrder scripts) same (given_orders scripts numbers is)
 in_order scripts numbers order false is h = cc
 
-orders : (scripts : List (List Request)) (member : Option Data) (order : Option (List ℕ)) → present_or None (λ v. some_of (order_at scripts v)) (codes "order") member ≡ Ok order → IsOrder scripts (unwrap_or order (in_turn scripts))
+orders : (scripts : List (List Request)) (member : Option Data) (order : Option (List ℕ)) → present_or None (λ v. some_of (order_at scripts v)) (codes "order") member ≡ Ok order → IsOrder scripts (chosen_order scripts order)
+unfolding chosen_order
 orders scripts member order is = elim (found None (λ v. some_of (order_at scripts v)) (codes "order") member order is) [
-  | inl none ↦ rw none (in_turn_orders scripts)
+  | inl none ↦ rw none (turns_are_order scripts)
   | inr read ↦
       let a = some_read (order_at scripts read.0) order read.1 in
       let b = bound (array_at whole_at read.0) (ordered (map length scripts)) a.0 a.1 in
@@ -255,7 +208,7 @@ known d done = member_at (format_at One) (codes "format") d >>= with_format d
 -- what a draft keeps
 pub record IsDrafted (draft : JobDraft) : Type 0 where
   pub few : length draft.scripts ≤ max_workers
-  pub ordered : IsOrder draft.scripts (unwrap_or draft.order (in_turn draft.scripts))
+  pub ordered : IsOrder draft.scripts (chosen_order draft.scripts draft.order)
 
 drafted : (d : Data) (draft : JobDraft) → draft_at d ≡ Ok draft → IsDrafted draft
 unfolding draft_at known with_format with_network with_filters with_scripts with_order
@@ -272,7 +225,7 @@ drafted d draft is =
       few = few_scripts b.0 (get (codes "workers") d) f.0 f.1;
       ordered = orders f.0 (get (codes "order") d) g.0 g.1;
     } in
-    subst IsDrafted same kept
+    subst IsDrafted {x = made} same kept
 
 -- ---- the job
 

@@ -1,5 +1,5 @@
 -- The live variants one after the other, as a loop goes over them by place.
-use Rattle.std.proofs.Common.{◌≡◌, refl, sym, ap, ◌∙◌, ℕ, zero, suc, ◌+◌, ◌≤◌, ◌<◌, Bool, true, false, List, [], ◌∷◌, ◌++◌, length, map, drop, take, add-one, append_assoc, append-nil, drop-cons, get_or, Option, Some, None}
+use Rattle.std.proofs.Common.{◌≡◌, refl, sym, ap, ◌∙◌, subst, ℕ, zero, suc, ◌+◌, ◌≤◌, ◌<◌, Bool, true, false, List, [], ◌∷◌, ◌++◌, length, map, drop, take, add-one, append_assoc, append-nil, drop-cons, get_or, Some}
 use Rattle.std.specs.Prelude.{slice_get, option_map, ◌||◌}
 use Rattle.std.specs.List.{list_any}
 use Rattle.std.proofs.lemmas.List.{drop_all}
@@ -13,7 +13,7 @@ use Rattle.grid_events.specs.declared.filter.Filter.{Filter}
 use Rattle.grid_json.specs.declared.whole.Job.{Job}
 use Rattle.grid_report.specs.declared.outcome.VariantView.{VariantView}
 use Rattle.grid_report.specs.declared.outcome.Outcome.{Outcome}
-use Rattle.grid_report.specs.Histories.{in_turn_from, variant_views, history_of, outcome_of}
+use Rattle.grid_report.specs.Histories.{in_turn_from, IsOrder, variant_views, history_of, outcome_of}
 use Rattle.grid_cli.specs.Orders.{order_of}
 
 -- the first so many, and one more
@@ -54,6 +54,9 @@ turns_over scripts k so_far total le all =
     sym (append-nil so_far) ∙ rw none at all
 
 -- ---- what came of a job
+
+pub stays_order : (job : Job) (order named : List ℕ) (scripts : List (List Request)) → IsOrder job.scripts (order_of job) → order ≡ order_of job → named ≡ order → scripts ≡ job.scripts → IsOrder scripts named
+stays_order job order named scripts is ordered same own = subst (λ s. IsOrder s named) (sym own) (subst (IsOrder job.scripts) (sym (same ∙ ordered)) is)
 
 with_filters : List Filter → List Entry → ℕ → List VariantView → Outcome
 with_filters filters journal workers views = record { journal = journal; workers = workers; views = views; filters = filters }

@@ -1,17 +1,16 @@
 -- The steps of an order, one after the other, as a loop makes them.
 use Rattle.std.proofs.Common.{◌≡◌, refl, sym, ap, ◌∙◌, subst, inl, inr, ℕ, zero, suc, ◌+◌, ◌<◌, ◌≤◌, Bool, true, false, cond, List, [], ◌∷◌, ◌++◌, length, get_or, set, replicate, arith, add-one, Option, Some, None}
-use Rattle.std.specs.Prelude.{◌==◌, slice_get, count_by, reverse, take}
+use Rattle.std.specs.Prelude.{◌==◌, slice_get, unwrap_or, count_by, reverse, take}
 use Rattle.std.specs.List.{filter_map, range_with_len}
 use Rattle.std.proofs.lemmas.Bool.{true≢false, cases_lt, eqb-true, eq-eqb}
 use Rattle.std.proofs.lemmas.List.{reverse-append, get_or-replicate, length-replicate, get_or_past, get_or_default, get_or-set_same, get_or-set_other, length-set, length-take}
 use Rattle.std.proofs.lemmas.List.Sums.{sum_by_more_le, count_by-le-length, count_by_more_yes, count_by_more_no}
 use Rattle.std.proofs.lemmas.List.Elements.{filter_map-append}
-use Rattle.std.proofs.lemmas.Option.{slice_get-get_or}
+use Rattle.std.proofs.lemmas.Option.{slice_get-get_or, unwrap_or-slice_get}
 use Rattle.grid_core.specs.declared.request.Request.{Request}
 use Rattle.grid_structure.specs.Network.{Network}
 use Rattle.grid_core.specs.History.{Command, History, command, longer}
-use Rattle.grid_report.specs.Histories.{next_of, step_at, steps_of, history_of}
-use Rattle.grid_cli.specs.Orders.{IsOrder}
+use Rattle.grid_report.specs.Histories.{next_of, step_at, steps_of, history_of, script_of, IsOrder}
 
 -- so many steps of the order, the newest first
 abbrev pub made : List (List Request) → List ℕ → ℕ → List Command
@@ -31,6 +30,15 @@ given_more f k y is =
 pub made_more : (scripts : List (List Request)) (order : List ℕ) (k : ℕ) (step : Command) → step_at scripts order k ≡ Some step
     → made scripts order (k + 1) ≡ step ∷ made scripts order k
 made_more scripts order k step is = ap reverse (given_more (step_at scripts order) k step is) ∙ reverse-append (filter_map (step_at scripts order) (range_with_len 0 k)) (step ∷ [])
+
+-- a worker's script, or none
+or_none : (found : Option (List Request)) → script_of found ≡ unwrap_or found []
+unfolding script_of
+or_none None = refl
+or_none (Some script) = refl
+
+pub script_at : (scripts : List (List Request)) (worker : ℕ) → script_of (slice_get scripts worker) ≡ get_or scripts worker []
+script_at scripts worker = or_none (slice_get scripts worker) ∙ unwrap_or-slice_get scripts worker []
 
 -- how often a worker stands among the first so many of an order
 abbrev pub stood : List ℕ → ℕ → ℕ → ℕ
@@ -60,7 +68,7 @@ module _ (scripts : List (List Request)) (order : List ℕ) (k : ℕ) (lt : k < 
   has_left ordered =
       let within = sum_by_more_le (λ w. cond (w == get_or order k 0) 1 0) order k 0 lt in
       let one : ◌≡◌ {A = ℕ} (cond (get_or order k 0 == get_or order k 0) 1 0) 1 = rw named refl in
-      omega (arith, within, one, ordered (get_or order k 0))
+      omega (arith, within, one, ordered (get_or order k 0), ap length (script_at scripts (get_or order k 0)))
 
   pub known : IsOrder scripts order → get_or order k 0 < length scripts
   known ordered = elim (cases_lt (get_or order k 0) (length scripts)) [

@@ -1,9 +1,9 @@
 // Jobs, run in their order.
-ghost use Rattle.std.specs.Prelude.{◌≡◌, ◌++◌, ◌≤◌, ◌<◌, length, map, IsTrue, IfOk, OnOk, Some, slice_get, option_map, unwrap_or};
+ghost use Rattle.std.specs.Prelude.{◌≡◌, ◌++◌, ◌≤◌, ◌<◌, length, map, IsTrue, IfOk, OnOk, Some, slice_get, option_map};
 ghost use Rattle.grid_core.specs.History.{live, is_live};
 ghost use Rattle.grid_json.specs.Job.{max_workers};
-ghost use Rattle.grid_report.specs.Histories.{variant_view, variant_views, history_of, outcome_of, in_turn};
-ghost use Rattle.grid_cli.specs.Orders.{IsOrder, IsScheduled, order_of};
+ghost use Rattle.grid_report.specs.Histories.{variant_view, variant_views, history_of, outcome_of, in_turn, chosen_order, IsOrder};
+ghost use Rattle.grid_cli.specs.Orders.{IsScheduled, order_of};
 
 use grid_core::{Request, Script, World};
 use grid_ids::{Duplicate, Id, Memory, Seq};
@@ -94,11 +94,10 @@ fn variant_views(alloc: Global, world: &World) -> Result<VariantViews, Memory>
     Ok(views)
 }
 
-/// The order of a job's steps.
-#[tactic(auto, unfolding(crate::specs::Orders::order_of))]
-fn order_of(alloc: Global, order: Option<Order>, scripts: &[Script]) -> Result<Order, Memory>
+/// The order that is given, or else the workers in turn.
+fn chosen_order(alloc: Global, order: Option<Order>, scripts: &[Script]) -> Result<Order, Memory>
     requires { length scripts.now ≤ max_workers }
-    ensures { IfOk result (λ found. found ≡ unwrap_or order (in_turn scripts.now)) }
+    ensures { IfOk result (λ found. found ≡ chosen_order scripts.now order) }
 {
     match order {
         Some(order) => Ok(order),
@@ -107,12 +106,11 @@ fn order_of(alloc: Global, order: Option<Order>, scripts: &[Script]) -> Result<O
 }
 
 /// What comes of a job that is run in its order.
-#[tactic(auto, unfolding(crate::specs::Orders::order_of))]
 pub fn run_job(alloc: Global, job: Job) -> Result<Outcome, Memory>
     requires { IsScheduled job }
     ensures { IfOk result (λ outcome. outcome ≡ outcome_of (history_of job.network job.scripts (order_of job)) job.filters) }
 {
-    let order = order_of(alloc, job.order, job.scripts.slice())?;
+    let order = chosen_order(alloc, job.order, job.scripts.slice())?;
     let world = run(alloc, job.network, job.scripts.slice(), order.slice())?;
     let views = variant_views(alloc, &world)?;
     Ok(Outcome {

@@ -172,7 +172,7 @@ end
 #[test]
 fn statuses(rt: HostRuntime) -> Result<(), Fail> {
     let alloc = rt.alloc();
-    let cases: [(&[&str], &str, &str); 10] = [
+    let cases: [(&[&str], &str, &str); 7] = [
         (&[], "", "Usage"),
         (&["replay", "x"], "", "Usage"),
         (&["--help"], "", "Usage"),
@@ -183,21 +183,6 @@ fn statuses(rt: HostRuntime) -> Result<(), Fail> {
             &["check"],
             r#"{"format":1,"network":{"id":"N","substations":[{"id":"N"},{"id":"N"}]}}"#,
             "/network/substations/1 Load(IdTaken)",
-        ),
-        (
-            &["replay"],
-            r#"{"format":1,"network":{"id":"N"},"workers":[[],[]]}"#,
-            "NotBuilt",
-        ),
-        (
-            &["replay"],
-            r#"{"format":1,"network":{"id":"N"},"workers":[[]],"order":[]}"#,
-            "NotBuilt",
-        ),
-        (
-            &["replay"],
-            r#"{"format":1,"network":{"id":"N"},"workers":[[{"do":"components","level":"V"}]]}"#,
-            "NotBuilt",
         ),
     ];
     for (words, input, wanted) in cases {

@@ -1,4 +1,4 @@
-use Rattle.std.proofs.Common.{◌≡◌, ◌≤◌, ap, ◌∙◌, rules, length, get_or, arith, ◌+◌, Fits, w64}
+use Rattle.std.proofs.Common.{◌≡◌, rules, length, get_or, arith, ◌+◌, Fits, w64}
 use Rattle.grid_core.specs.History.{command}
 use Rattle.grid_cli.proofs.Stepping.{at_start, behind, known, cursor_is, left, found, moved, grown, whole}
 use Rattle.grid_cli.proofs.running.run.Goals as goal
