@@ -49,7 +49,7 @@ impl World {
     pub fn step(&mut self, _worker: u32, _request: &Request) -> Result<Reply, Memory>
         requires { _worker < self.old.workers }
         ensures reply { IfOk result (λ r. r ≡ reply self.old.origin self.old.steps (command _worker _request.now)) }
-        ensures grows { OnOk result (self.new ≡ longer self.old (command _worker _request.now)) }
+        ensures ok { OnOk result (self.new ≡ longer self.old (command _worker _request.now)) }
         ensures err { OnErr result (self.new ≡ self.old) }
     {
         Err(Memory)

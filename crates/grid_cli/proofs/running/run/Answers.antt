@@ -51,7 +51,7 @@ loop-worker-preserved c =
     let step = found scripts order k lt c.index-scripts-place.result c.index.result.now c.index-request.result.now c.requires.order c.index-scripts-place.is at c.index-request.ensures in
     record {
       within = omega (arith, lt);
-      world = grown c.args.network scripts order k (command worker c.index-request.result.now) c.loop-worker.world c.step.new.self step c.loop-worker.invariant.world c.in_ok-_reply.ensures.grows;
+      world = grown c.args.network scripts order k (command worker c.index-request.result.now) c.loop-worker.world c.step.new.self step c.loop-worker.invariant.world c.in_ok-_reply.ensures.ok;
       cursors = moved scripts order k lt c.loop-worker.cursors.items c.index_mut.result.now c.requires.order c.loop-worker.invariant.cursors at_mut;
     }
 
