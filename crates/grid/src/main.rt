@@ -24,8 +24,6 @@ enum Fault {
     BadJson,
     #[error("grid: the job's first fault is at {}: {why}; nothing was written (docs/formats.md)", place_text(.place))]
     BadJob { place: Place, why: Why },
-    #[error("grid: the job is sound, but it cannot be run yet: it may have one worker at most, only the commands open, close and bus_view, no listener and no order; nothing was written")]
-    NotBuilt,
     #[error("grid: standard output could not be written; the output is cut off")]
     WriteFault,
     #[error("grid: memory ran out; the output is cut off or missing")]
@@ -58,7 +56,6 @@ fn ending(status: Status) -> (u8, Option<Fault>) {
         ),
         Status::WriteFault => (7, Some(Fault::WriteFault)),
         Status::NoMemory => (8, Some(Fault::NoMemory)),
-        Status::NotBuilt => (9, Some(Fault::NotBuilt)),
     }
 }
 

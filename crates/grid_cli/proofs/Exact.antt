@@ -30,7 +30,6 @@ exact_some form bytes left' old new statuses.ReadFault o = tt
 exact_some form bytes left' old new statuses.TooLong o = rw (lt-ltb MOST (length bytes) (front_long bytes o.0.bytes left' o.0.more o.0.consumed)) refl
 exact_some form bytes left' old new statuses.BadJson o = sym (decided form bytes o.0.0 left' o.0.1 ∙ ap status_for o.0.2)
 exact_some form bytes left' old new (statuses.BadJob place reason) o = sym (decided form bytes o.0.0 left' o.0.1 ∙ ap status_for o.0.2)
-exact_some form bytes left' old new statuses.NotBuilt o = sym (decided form bytes o.0.0 left' o.0.1 ∙ ap status_for o.0.2)
 exact_some form bytes left' old new statuses.WriteFault o = decided form bytes o.0 left' o.2 ∙ ap status_for o.3
 exact_some form bytes left' old new statuses.NoMemory o = tt
 

@@ -1,7 +1,6 @@
 pub mod Begun
-pub mod Fitting
 pub mod Stepping
-pub mod Commanding
+pub mod Scheduled
 pub mod Showing
 pub mod Written
 pub mod Exact

@@ -1,55 +1,75 @@
--- The levels one after the other, as a loop goes over them by place.
-use Rattle.std.proofs.Common.{◌≡◌, ℕ, zero, suc, ◌+◌, ◌≤◌, Bool, List, [], ◌∷◌, ◌++◌, length, drop, map, refl, sym, ap, ◌∙◌, append_assoc, append-nil, add-one, Option, Some, None, Result, Ok, Err}
-use Rattle.std.specs.Prelude.{slice_get, IfOk}
-use Rattle.std.specs.Option.{option_map}
+-- The live variants one after the other, as a loop goes over them by place.
+use Rattle.std.proofs.Common.{◌≡◌, refl, sym, ap, ◌∙◌, subst, ℕ, zero, suc, ◌+◌, ◌≤◌, ◌<◌, Bool, true, false, List, [], ◌∷◌, ◌++◌, length, map, drop, take, add-one, append_assoc, append-nil, drop-cons, get_or, Some}
+use Rattle.std.specs.Prelude.{slice_get, option_map, ◌||◌}
+use Rattle.std.specs.List.{list_any}
 use Rattle.std.proofs.lemmas.List.{drop_all}
-use Rattle.grid_level.specs.VoltageLevel.{VoltageLevel}
-use Rattle.grid_busview.specs.declared.BusView.{BusView}
-use Rattle.grid_states.specs.Rows.{row_at}
-use Rattle.grid_structure.specs.Network.{Network}
-use Rattle.grid_structure.specs.Sites.{levels}
-use Rattle.grid_cli.specs.Machine.{Rows, opening_row, seen, view_at, views_from}
+use Rattle.std.proofs.lemmas.Slice.Eq.{bytes_eq-Decides}
+use Rattle.grid_ids.specs.Name.{same_id, has_id}
+use Rattle.grid_core.specs.declared.request.Request.{Request}
+use Rattle.grid_core.specs.declared.journal.Entry.{Entry}
+use Rattle.grid_core.specs.History.{History}
+use Rattle.grid_core.specs.Journals.{journal_of}
+use Rattle.grid_events.specs.declared.filter.Filter.{Filter}
+use Rattle.grid_json.specs.declared.whole.Job.{Job}
+use Rattle.grid_report.specs.declared.outcome.VariantView.{VariantView}
+use Rattle.grid_report.specs.declared.outcome.Outcome.{Outcome}
+use Rattle.grid_report.specs.Histories.{in_turn_from, IsOrder, variant_views, history_of, outcome_of}
+use Rattle.grid_cli.specs.Orders.{order_of}
 
-cut : {X : Type 0} (xs : List X) (k : ℕ) (x : X) → slice_get xs k ≡ Some x → drop k xs ≡ x ∷ drop (suc k) xs
-cut [] k x at = cc
-cut (y ∷ xs) zero x at = let same : y ≡ x = cc in ap (λ z. z ∷ xs) same
-cut (y ∷ xs) (suc k) x at = cut xs k x at
+-- the first so many, and one more
+more : {X Y : Type 0} (f : X → Y) (xs : List X) (k : ℕ) (y : Y) → option_map f (slice_get xs k) ≡ Some y → map f (take (suc k) xs) ≡ map f (take k xs) ++ y ∷ []
+more f [] k y is = cc
+more f (x ∷ xs) zero y is = let same : f x ≡ y = cc in ap (λ z. z ∷ []) same
+more f (x ∷ xs) (suc k) y is = ap (λ ys. f x ∷ ys) (more f xs k y is)
 
--- ---- the opening positions
+pub one_more : {X Y : Type 0} (f : X → Y) (xs : List X) (k : ℕ) (y : Y) → option_map f (slice_get xs k) ≡ Some y → map f (take (k + 1) xs) ≡ map f (take k xs) ++ y ∷ []
+one_more f xs k y is = rw (add-one k) (more f xs k y is)
 
-pub opened_next : (ls : List VoltageLevel) (k : ℕ) (level : VoltageLevel) (rows total : Rows) → slice_get ls k ≡ Some level
-    → rows ++ map opening_row (drop k ls) ≡ total → (rows ++ opening_row level ∷ []) ++ map opening_row (drop (k + 1) ls) ≡ total
-opened_next ls k level rows total at so_far =
-    let one : map opening_row (drop k ls) ≡ opening_row level ∷ map opening_row (drop (suc k) ls) = rw (cut ls k level at) refl in
-    rw (add-one k, append_assoc) (rw one at so_far)
+-- a name that stands in the list is one of its names
+pub stands : (names : List (List ℕ)) (k : ℕ) (name : List ℕ) → slice_get names k ≡ Some name → has_id names name ≡ true
+unfolding has_id
+stands [] k name is = cc
+stands (n ∷ ns) zero name is =
+    let same : n ≡ name = cc in
+    rw (same, (bytes_eq-Decides name name).1 refl) refl
+stands (n ∷ ns) (suc k) name is = either (same_id name n) (stands ns k name is)
+  where
+    either : (b : Bool) → list_any (same_id name) ns ≡ true → (b || list_any (same_id name) ns) ≡ true
+    either true h = refl
+    either false h = h
 
-pub opened_all : (ls : List VoltageLevel) (k : ℕ) (rows total : Rows) → length ls ≤ k → rows ++ map opening_row (drop k ls) ≡ total → rows ≡ total
-opened_all ls k rows total le so_far = let none : drop k ls ≡ [] = drop_all k ls le in sym (append-nil rows) ∙ rw none at so_far
+-- one worker's turn, and then the next one's
+pub turn : (scripts : List (List Request)) (k : ℕ) (script : List Request) (so_far total : List ℕ) → k < length scripts → script ≡ get_or scripts k script
+    → so_far ++ in_turn_from k (drop k scripts) ≡ total → (so_far ++ map (λ request. k) script) ++ in_turn_from (k + 1) (drop (k + 1) scripts) ≡ total
+unfolding in_turn_from
+turn scripts k script so_far total lt is all =
+    let cut : drop k scripts ≡ script ∷ drop (suc k) scripts = drop-cons scripts k script lt ∙ ap (λ s. s ∷ drop (suc k) scripts) (sym is) in
+    let one : in_turn_from k (drop k scripts) ≡ map (λ request. k) script ++ in_turn_from (suc k) (drop (suc k) scripts) = rw cut refl in
+    rw (add-one k, append_assoc) (rw one at all)
 
--- ---- the views
+pub turns_over : (scripts : List (List Request)) (k : ℕ) (so_far total : List ℕ) → length scripts ≤ k → so_far ++ in_turn_from k (drop k scripts) ≡ total → so_far ≡ total
+unfolding in_turn_from
+turns_over scripts k so_far total le all =
+    let none : drop k scripts ≡ [] = drop_all k scripts le in
+    sym (append-nil so_far) ∙ rw none at all
 
-shown_by : (ls : List VoltageLevel) (k : ℕ) (rows : Rows) (view : BusView) (found : Option VoltageLevel) → slice_get ls k ≡ found
-    → option_map (λ (l : VoltageLevel). seen l (row_at rows k)) found ≡ Some view → views_from k (drop k ls) rows ≡ view ∷ views_from (suc k) (drop (suc k) ls) rows
-unfolding views_from
-shown_by ls k rows view None at is = cc
-shown_by ls k rows view (Some level) at is =
-    let same : seen level (row_at rows k) ≡ view = cc in
-    let one : views_from k (drop k ls) rows ≡ seen level (row_at rows k) ∷ views_from (suc k) (drop (suc k) ls) rows = rw (cut ls k level at) refl in
-    one ∙ ap (λ z. z ∷ views_from (suc k) (drop (suc k) ls) rows) same
+-- ---- what came of a job
 
-pub shown_at : {E : Type 0} (net : Network) (rows : Rows) (k : ℕ) (level : VoltageLevel) (flags : List Bool) (result : Result BusView E) → slice_get (levels net) k ≡ Some level → flags ≡ row_at rows k
-    → IfOk result (λ view. view ≡ seen level flags) → IfOk result (λ view. view_at net rows k ≡ Some view)
-unfolding view_at
-shown_at net rows k level flags (Ok view) at is told = let same : seen level (row_at rows k) ≡ view = ap (seen level) (sym is) ∙ sym told in rw at (ap Some same)
-shown_at net rows k level flags (Err e) at is told = tt
+pub stays_order : (job : Job) (order named : List ℕ) (scripts : List (List Request)) → IsOrder job.scripts (order_of job) → order ≡ order_of job → named ≡ order → scripts ≡ job.scripts → IsOrder scripts named
+stays_order job order named scripts is ordered same own = subst (λ s. IsOrder s named) (sym own) (subst (IsOrder job.scripts) (sym (same ∙ ordered)) is)
 
-pub shown_next : (net : Network) (k : ℕ) (rows : Rows) (view : BusView) (all total : List BusView) → view_at net rows k ≡ Some view
-    → all ++ views_from k (drop k (levels net)) rows ≡ total → (all ++ view ∷ []) ++ views_from (k + 1) (drop (k + 1) (levels net)) rows ≡ total
-unfolding view_at
-shown_next net k rows view all total is so_far =
-    let one = shown_by (levels net) k rows view (slice_get (levels net) k) refl is in
-    rw (add-one k, append_assoc) (rw one at so_far)
+with_filters : List Filter → List Entry → ℕ → List VariantView → Outcome
+with_filters filters journal workers views = record { journal = journal; workers = workers; views = views; filters = filters }
 
-pub shown_all : (net : Network) (k : ℕ) (rows : Rows) (all total : List BusView) → length (levels net) ≤ k → all ++ views_from k (drop k (levels net)) rows ≡ total → all ≡ total
-unfolding views_from
-shown_all net k rows all total le so_far = let none : drop k (levels net) ≡ [] = drop_all k (levels net) le in sym (append-nil all) ∙ rw none at so_far
+pub came : (job : Job) (order named : List ℕ) (scripts : List (List Request)) (world : History) (journal : List Entry) (workers : ℕ) (views : List VariantView)
+    → order ≡ order_of job → named ≡ order → scripts ≡ job.scripts → world ≡ history_of job.network scripts named
+    → journal ≡ journal_of world.origin world.steps → workers ≡ length job.scripts → views ≡ variant_views world.origin world.steps
+    → ◌≡◌ {A = Outcome} (record { journal = journal; workers = workers; views = views; filters = job.filters }) (outcome_of (history_of job.network job.scripts (order_of job)) job.filters)
+unfolding with_filters outcome_of history_of
+came job order named scripts world journal workers views ordered same own made told many seen =
+    let is : world ≡ history_of job.network job.scripts (order_of job) = made ∙ ap (λ s. history_of job.network s named) own ∙ ap (history_of job.network job.scripts) (same ∙ ordered) in
+    let counted : workers ≡ world.workers = many ∙ sym (ap (λ (h : History). h.workers) is) in
+    ap (λ j. with_filters job.filters j workers views) told
+    ∙ ap (λ n. with_filters job.filters (journal_of world.origin world.steps) n views) counted
+    ∙ ap (with_filters job.filters (journal_of world.origin world.steps) world.workers) seen
+    ∙ ap (λ h. outcome_of h job.filters) is

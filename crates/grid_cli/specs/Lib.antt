@@ -1,6 +1,4 @@
 pub mod Words
-pub mod Built
-pub mod Machine
 pub mod Counts
-pub mod Report
+pub mod Orders
 pub mod Once

@@ -1,5 +1,5 @@
 -- What a run has read and written, by the status that it ends with.
-use Rattle.std.specs.Prelude.{◌≡◌, ℕ, ◌≤◌, ◌⊎◌, List, length, Option, Some, None, Result, Ok, Err, nat_lt, if◌then◌else◌, option_map}
+use Rattle.std.specs.Prelude.{◌≡◌, ℕ, ◌≤◌, ◌⊎◌, List, length, Option, Some, None, Result, Ok, Err, nat_lt, if◌then◌else◌}
 use Rattle.std.specs.Io.KnownBytes.{Appends, Keeps, Consumes}
 use Rattle.grid_source.specs.declared.whole.TheConstants.{MOST}
 use Rattle.grid_source.specs.Whole.{ReadsToEnd, ReadsMoreThan, IsBegun}
@@ -13,23 +13,18 @@ use Rattle.grid_cli.specs.declared.words.Form.{Form}
 use Rattle.grid_cli.specs.declared.words.Form.TheVariants.{Check, Replay}
 use Rattle.grid_cli.specs.declared.once.Status.{Status}
 use Rattle.grid_cli.specs.declared.once.Status.TheVariants as statuses
-use Rattle.grid_cli.specs.Built.{built}
 use Rattle.grid_cli.specs.Counts.{check_text}
-use Rattle.grid_cli.specs.Report.{report}
+use Rattle.grid_cli.specs.Orders.{replay_text}
 
 -- ---- the output
 
--- what a form writes for a job, where the job is built
-unfoldable pub text_of : Form → Job → Option (List ℕ)
-text_of Check job = Some (check_text job)
-text_of Replay job = option_map report (built job)
-
-abbrev pub or_not_built : Option (List ℕ) → Result (List ℕ) Status
-or_not_built None = Err statuses.NotBuilt
-or_not_built (Some text) = Ok text
+-- what a form writes for a job
+unfoldable pub text_of : Form → Job → List ℕ
+text_of Check job = check_text job
+text_of Replay job = replay_text job
 
 abbrev pub output_for : Form → Result Job JobFault → Result (List ℕ) Status
-output_for form (Ok job) = or_not_built (text_of form job)
+output_for form (Ok job) = Ok (text_of form job)
 output_for form (Err jobs.BadJson) = Err statuses.BadJson
 output_for form (Err (jobs.BadJob place reason)) = Err (statuses.BadJob place reason)
 output_for form (Err jobs.Memory) = Err statuses.NoMemory
@@ -70,13 +65,6 @@ status_after (Ok done) = statuses.Done
 status_after (Err Stopped) = statuses.WriteFault
 status_after (Err Memory) = statuses.NoMemory
 
--- what was written for a job: of its text, or nothing where it has none
-abbrev pub Answers : Option (List ℕ) → Option (List ℕ) → Option (List ℕ) → Status → Type 0
-Answers (Some text) old new status = Writes text old new status
-Answers None old new statuses.NotBuilt = Keeps old new
-Answers None old new statuses.NoMemory = Keeps old new
-Answers None old new other = ⊥
-
 abbrev pub OutcomeOf : Form → Option (List ℕ) → Option (List ℕ) → Option (List ℕ) → Option (List ℕ) → Status → Type 0
 OutcomeOf form left left' old new statuses.Done = HasOutput form (λ text. Appends old new text) left left'
 OutcomeOf form left left' old new statuses.Usage = ⊥
@@ -84,7 +72,6 @@ OutcomeOf form left left' old new statuses.ReadFault = ReadsFront left left' × 
 OutcomeOf form left left' old new statuses.TooLong = ReadsMoreThan MOST left left' × Keeps old new
 OutcomeOf form left left' old new statuses.BadJson = HasNoOutput form statuses.BadJson left left' × Keeps old new
 OutcomeOf form left left' old new (statuses.BadJob place reason) = HasNoOutput form (statuses.BadJob place reason) left left' × Keeps old new
-OutcomeOf form left left' old new statuses.NotBuilt = HasNoOutput form statuses.NotBuilt left left' × Keeps old new
 OutcomeOf form left left' old new statuses.WriteFault = HasOutput form (λ text. IsBegun old text new) left left'
 OutcomeOf form left left' old new statuses.NoMemory = (ReadsFront left left' × Keeps old new) ⊎ HasOutput form (λ text. IsBegun old text new) left left'
 

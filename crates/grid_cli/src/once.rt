@@ -3,15 +3,15 @@ ghost use Rattle.std.specs.Prelude.{◌≡◌, ◌↔◌, ◌≤◌, None, Err, 
 ghost use Rattle.grid_source.specs.Causes.{Rose};
 ghost use Rattle.grid_json.specs.Job.{command_total};
 ghost use Rattle.grid_cli.specs.Words.{form_of};
-ghost use Rattle.grid_cli.specs.Once.{Outcome, Exact, Answers, ReadsNoJob, ReadsJob, status_after, text_of};
+ghost use Rattle.grid_cli.specs.Orders.{IsScheduled, replay_text};
+ghost use Rattle.grid_cli.specs.Once.{Outcome, Exact, Writes, ReadsNoJob, ReadsJob, status_after, text_of};
 
-use crate::built::built;
 use crate::counts::write_counts;
-use crate::report::write_report;
+use crate::running::run_job;
 use crate::words::{Form, read_words};
 use grid_ids::Memory;
 use grid_json::{Job, JobFault, Place, Reason, read_job};
-use grid_report::ReportFault;
+use grid_report::{ReportFault, write_report};
 use grid_source::{ReadAllFault, Sink, Source, read_all};
 use std::alloc::Global;
 
@@ -34,8 +34,6 @@ pub enum Status {
     WriteFault,
     /// 8: memory is wanting. A front of the output was written, or nothing.
     NoMemory,
-    /// 9: the input is a job that is not run yet. Nothing was written.
-    NotBuilt,
 }
 
 /// Does what the words ask for, from the source to the sink.
@@ -84,6 +82,7 @@ fn run<S: Source, K: Sink>(alloc: Global, words: &[String], source: &mut S, sink
 fn read_from<S: Source>(alloc: Global, source: &mut S) -> Result<Job, Status>
     ensures job { IfOk result (ReadsJob (S.left source.old) (S.left source.new)) }
     ensures few { IfOk result (λ job. command_total job.scripts ≤ 20000) }
+    ensures scheduled { IfOk result IsScheduled }
     ensures none { IfErr result (ReadsNoJob (S.left source.old) (S.left source.new)) }
     ensures fault { result ≡ Err Status.ReadFault → Rose (S.faults source.old) (S.faults source.new) }
 {
@@ -104,8 +103,9 @@ fn read_from<S: Source>(alloc: Global, source: &mut S) -> Result<Job, Status>
 // Writes what a form writes for a job.
 #[tactic(auto, unfolding(crate::specs::Once::text_of), using(crate::proofs::Written::handed))]
 fn answer<K: Sink>(alloc: Global, form: Form, job: Job, sink: &mut K) -> Status
-    requires { command_total job.scripts ≤ 20000 }
-    ensures written { Answers (text_of form job) (K.written sink.old) (K.written sink.new) result }
+    requires few { command_total job.scripts ≤ 20000 }
+    requires scheduled { IsScheduled job }
+    ensures written { Writes (text_of form job) (K.written sink.old) (K.written sink.new) result }
     ensures fault { result ≡ Status.WriteFault → Rose (K.faults sink.old) (K.faults sink.new) }
 {
     match form {
@@ -115,14 +115,14 @@ fn answer<K: Sink>(alloc: Global, form: Form, job: Job, sink: &mut K) -> Status
 }
 
 // Runs a job, and writes its report.
-#[tactic(auto, using(crate::proofs::Written::replayed, crate::proofs::Written::put_off, crate::proofs::Written::unwritten))]
+#[tactic(auto, using(crate::proofs::Begun::begun_at_start))]
 fn replay<K: Sink>(alloc: Global, job: Job, sink: &mut K) -> Status
-    ensures written { Answers (text_of Form.Replay job) (K.written sink.old) (K.written sink.new) result }
+    requires { IsScheduled job }
+    ensures written { Writes (replay_text job) (K.written sink.old) (K.written sink.new) result }
     ensures fault { result ≡ Status.WriteFault → Rose (K.faults sink.old) (K.faults sink.new) }
 {
-    match built(alloc, job) {
-        Ok(Some(job)) => status_of(write_report(alloc, &job, sink)),
-        Ok(None) => Status::NotBuilt,
+    match run_job(alloc, job) {
+        Ok(outcome) => status_of(write_report(alloc, &outcome, sink)),
         Err(Memory) => Status::NoMemory,
     }
 }

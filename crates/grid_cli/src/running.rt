@@ -1,213 +1,122 @@
-// The commands of a script, one after the other, in one variant.
-ghost use Rattle.std.specs.Prelude.{◌≡◌, ◌<◌, length, IfOk, OnOk, map, Some, option_and_then};
-ghost use Rattle.grid_states.specs.Rows.{row_at};
-ghost use Rattle.grid_structure.specs.Sites.{levels, find_level};
-ghost use Rattle.grid_cli.specs.Machine.{Fits, opening_row, opening, seen, view_at, views, set_at, switched, spot_of, viewed, performed, steps_from, rows_after, same_flag, has_flag};
+// Jobs, run in their order.
+ghost use Rattle.std.specs.Prelude.{◌≡◌, ◌++◌, ◌≤◌, ◌<◌, length, map, IsTrue, IfOk, OnOk, Some, slice_get, option_map};
+ghost use Rattle.grid_core.specs.History.{live, is_live};
+ghost use Rattle.grid_json.specs.Job.{max_workers};
+ghost use Rattle.grid_report.specs.Histories.{variant_view, variant_views, history_of, outcome_of, in_turn, chosen_order, IsOrder};
+ghost use Rattle.grid_cli.specs.Orders.{IsScheduled, order_of};
 
-use crate::built::Command;
-use grid_busview::{BusView, bus_view, record_watts};
+use grid_core::{Request, Script, World};
 use grid_ids::{Duplicate, Id, Memory, Seq};
-use grid_level::{Level, Switch};
-use grid_states::States;
-use grid_structure::{Structure, SwitchAt};
-use std::alloc::{AllocError, Global};
+use grid_json::{Job, Order};
+use grid_report::{BusViews, Outcome, VariantView, VariantViews};
+use grid_structure::Structure;
+use std::alloc::Global;
 
-/// What a command is answered.
-#[derive(Drop)]
-pub enum Answer {
-    /// The switch was set.
-    Done,
-    /// The switch has that position already.
-    Unchanged,
-    /// The bus view.
-    View { view: BusView },
-    /// No switch has the id.
-    NoSwitch,
-    /// No level has the id.
-    NoLevel,
-}
-
-/// A command with its number, counted from 1, and its answer.
-#[derive(Drop)]
-pub struct Step {
-    pub number: usize,
-    pub command: Command,
-    pub answer: Answer,
-}
-
-/// What a script leaves: its steps, and then the bus view of each level.
-#[derive(Drop)]
-pub struct Ran {
-    pub steps: Seq<Step>,
-    pub views: Seq<BusView>,
-}
-
-// The opening position of each switch.
-#[tactic(auto, unfolding(crate::specs::Machine::opening_row))]
-fn positions(alloc: Global, level: &Level) -> Result<Vec<bool>, AllocError>
-    ensures { IfOk result (λ flags. flags.items ≡ opening_row level.now) }
+/// Puts a worker's number last, once for each of its commands.
+fn push_turn(order: &mut Order, worker: u32, script: &[Request]) -> Result<(), Memory>
+    ensures { OnOk result (order.new ≡ order.old ++ map (λ request. worker) script.now) }
 {
-    level
-        .switches()
-        .iter()
-        .map(|switch| switch.opened)
-        .collect(alloc)
-}
-
-/// The opening positions.
-#[tactic(auto, unfolding(crate::specs::Machine::opening))]
-fn opening_rows(alloc: Global, network: &Structure) -> Result<States, Memory>
-    ensures { IfOk result (λ rows. rows ≡ opening network.now) }
-{
-    let mut rows = States::empty(alloc);
-    for place in 0..network.level_count() {
-        let flags = positions(alloc, network.level(place))?;
-        rows.push_row(flags.as_slice())?;
+    for _ in script {
+        order.push(worker)?;
     }
-    Ok(rows)
+    Ok(())
 }
 
-/// The view of a level with these positions.
-#[tactic(auto, unfolding(crate::specs::Machine::seen))]
-fn view_of(alloc: Global, level: &Level, flags: &[bool]) -> Result<BusView, Memory>
-    requires { length flags.now ≡ length level.now.switches }
-    ensures { IfOk result (λ view. view ≡ seen level.now flags.now) }
+/// The first worker's commands, then the second's and so on.
+fn in_turn(alloc: Global, scripts: &[Script]) -> Result<Order, Memory>
+    requires { length scripts.now ≤ max_workers }
+    ensures { IfOk result (λ order. order ≡ in_turn scripts.now) }
 {
-    let watts = record_watts(alloc, level)?;
-    bus_view(alloc, level, flags, watts.slice())
-}
-
-/// The view of the level at a place.
-fn view_at(alloc: Global, network: &Structure, rows: &States, place: u32) -> Result<BusView, Memory>
-    requires fits { Fits network.now rows.now }
-    requires place { place < length (levels network.now) }
-    ensures { IfOk result (λ view. view_at network.now rows.now place ≡ Some view) }
-{
-    view_of(alloc, network.level(place), rows.row(place))
-}
-
-/// The view of each level, in order of place.
-fn views_of(alloc: Global, network: &Structure, rows: &States) -> Result<Seq<BusView>, Memory>
-    requires { Fits network.now rows.now }
-    ensures { IfOk result (λ all. all ≡ views network.now rows.now) }
-{
-    let mut all = Seq::empty(alloc);
-    for place in 0..network.level_count() {
-        let view = view_at(alloc, network, rows, place)?;
-        all.push(view)?;
+    let mut order = Seq::empty(alloc);
+    for (worker, script) in scripts.iter().enumerate() {
+        push_turn(&mut order, worker as u32, script.slice())?;
     }
-    Ok(all)
+    Ok(order)
 }
 
-/// Sets the switch at a place.
-#[tactic(auto, unfolding(crate::specs::Machine::set_at, crate::specs::Machine::has_flag, crate::specs::Machine::same_flag))]
-fn set_flag(rows: &mut States, at: SwitchAt, opened: bool) -> Result<Answer, Memory>
-    requires level { at.level < length rows.old }
-    requires place { at.place < length (row_at rows.old at.level) }
-    ensures answer { IfOk result (λ answer. answer ≡ (set_at rows.old at opened).1) }
-    ensures rows { OnOk result (rows.new ≡ (set_at rows.old at opened).0) }
-    ensures long { map length rows.new ≡ map length rows.old }
-{
-    if rows.get(at.level, at.place) == opened {
-        return Ok(Answer::Unchanged);
-    }
-    rows.set(at.level, at.place, opened)?;
-    Ok(Answer::Done)
-}
-
-// The place of a switch.
-#[tactic(auto, unfolding(crate::specs::Machine::spot_of))]
-fn place_of(network: &Structure, id: &Id) -> Option<SwitchAt>
-    ensures { result ≡ spot_of network.now id.now }
-{
-    network.find_switch(id)
-}
-
-/// Sets the switch with an id.
-#[tactic(auto, unfolding(crate::specs::Machine::switched))]
-fn set_switch(
-    network: &Structure,
-    rows: &mut States,
-    id: &Id,
-    opened: bool,
-) -> Result<Answer, Memory>
-    requires { Fits network.now rows.old }
-    ensures answer { IfOk result (λ answer. answer ≡ (switched rows.old opened (spot_of network.now id.now)).1) }
-    ensures rows { OnOk result (rows.new ≡ (switched rows.old opened (spot_of network.now id.now)).0) }
-    ensures long { map length rows.new ≡ map length rows.old }
-{
-    match place_of(network, id) {
-        Some(at) => set_flag(rows, at, opened),
-        None => Ok(Answer::NoSwitch),
-    }
-}
-
-/// The view of the level with an id.
-#[tactic(auto, unfolding(crate::specs::Machine::viewed))]
-fn show_level(alloc: Global, network: &Structure, rows: &States, id: &Id) -> Result<Answer, Memory>
-    requires { Fits network.now rows.now }
-    ensures { IfOk result (λ answer. answer ≡ viewed (option_and_then (view_at network.now rows.now) (find_level network.now id.now))) }
-{
-    match network.find_level(id) {
-        Some(place) => {
-            let view = view_at(alloc, network, rows, place)?;
-            Ok(Answer::View { view })
-        }
-        None => Ok(Answer::NoLevel),
-    }
-}
-
-/// Does what a command asks for.
-#[tactic(auto, unfolding(crate::specs::Machine::performed))]
-fn perform(
+/// Makes the steps of all scripts in an order.
+fn run(
     alloc: Global,
-    network: &Structure,
-    rows: &mut States,
-    command: &Command,
-) -> Result<Answer, Memory>
-    requires { Fits network.now rows.old }
-    ensures answer { IfOk result (λ answer. answer ≡ (performed network.now rows.old command.now).1) }
-    ensures rows { OnOk result (rows.new ≡ (performed network.now rows.old command.now).0) }
-    ensures long { map length rows.new ≡ map length rows.old }
+    network: Structure,
+    scripts: &[Script],
+    order: &[u32],
+) -> Result<World, Memory>
+    requires few { length scripts.now ≤ max_workers }
+    requires order { IsOrder scripts.now order.now }
+    ensures { IfOk result (λ world. world ≡ history_of network scripts.now order.now) }
 {
-    match command {
-        Command::Open { switch } => set_switch(network, rows, switch, true),
-        Command::Close { switch } => set_switch(network, rows, switch, false),
-        Command::BusView { level } => show_level(alloc, network, rows, level),
+    let mut world = World::start(alloc, network, scripts.len() as u32)?;
+    let mut cursors: Vec<usize> = vec![in alloc; 0; scripts.len()]?;
+    for worker in order {
+        let place = *worker as usize;
+        let request = &scripts[place][cursors[place]];
+        let _reply = world.step(*worker, request)?;
+        cursors[place] += 1;
+    }
+    Ok(world)
+}
+
+/// The view of each level in a live variant, by place.
+fn level_views(alloc: Global, world: &World, name: &Id) -> Result<BusViews, Memory>
+    requires { IsTrue (is_live world.now.steps name.now) }
+    ensures { IfOk result (λ views. views ≡ (variant_view world.now.origin world.now.steps name.now).views) }
+{
+    let mut views = Seq::empty(alloc);
+    for level in 0..world.level_count() {
+        let view = world.view(name, level)?;
+        views.push(view)?;
+    }
+    Ok(views)
+}
+
+/// The views of the live variant at a place, by byte order of names.
+fn variant_view(alloc: Global, world: &World, place: u32) -> Result<VariantView, Memory>
+    requires { place < length (live world.now.steps) }
+    ensures { IfOk result (λ view. option_map (variant_view world.now.origin world.now.steps) (slice_get (live world.now.steps) place) ≡ Some view) }
+{
+    let name = world.variant_name(place);
+    let views = level_views(alloc, world, name)?;
+    Ok(VariantView {
+        name: name.copy()?,
+        views,
+    })
+}
+
+/// The views of all live variants, by byte order of names.
+fn variant_views(alloc: Global, world: &World) -> Result<VariantViews, Memory>
+    ensures { IfOk result (λ views. views ≡ variant_views world.now.origin world.now.steps) }
+{
+    let mut views = Seq::empty(alloc);
+    for place in 0..world.variant_count() {
+        let view = variant_view(alloc, world, place)?;
+        views.push(view)?;
+    }
+    Ok(views)
+}
+
+/// The order that is given, or else the workers in turn.
+fn chosen_order(alloc: Global, order: Option<Order>, scripts: &[Script]) -> Result<Order, Memory>
+    requires { length scripts.now ≤ max_workers }
+    ensures { IfOk result (λ found. found ≡ chosen_order scripts.now order) }
+{
+    match order {
+        Some(order) => Ok(order),
+        None => in_turn(alloc, scripts),
     }
 }
 
-/// Each command with its number and its answer, and the positions after all.
-fn steps_of(
-    alloc: Global,
-    network: &Structure,
-    rows: &mut States,
-    commands: &[Command],
-) -> Result<Seq<Step>, Memory>
-    requires { Fits network.now rows.old }
-    ensures steps { IfOk result (λ steps. steps ≡ steps_from network.now rows.old 1 commands.now) }
-    ensures rows { OnOk result (rows.new ≡ rows_after network.now rows.old commands.now) }
-    ensures long { map length rows.new ≡ map length rows.old }
+/// What comes of a job that is run in its order.
+pub fn run_job(alloc: Global, job: Job) -> Result<Outcome, Memory>
+    requires { IsScheduled job }
+    ensures { IfOk result (λ outcome. outcome ≡ outcome_of (history_of job.network job.scripts (order_of job)) job.filters) }
 {
-    let mut steps = Seq::empty(alloc);
-    for (k, command) in commands.iter().enumerate() {
-        let answer = perform(alloc, network, rows, command)?;
-        steps.push(Step {
-            number: k + 1,
-            command: command.copy()?,
-            answer,
-        })?;
-    }
-    Ok(steps)
-}
-
-/// Runs the commands of a script from the opening positions.
-pub fn run(alloc: Global, network: &Structure, commands: &[Command]) -> Result<Ran, Memory>
-    ensures steps { IfOk result (λ ran. ran.steps ≡ steps_from network.now (opening network.now) 1 commands.now) }
-    ensures views { IfOk result (λ ran. ran.views ≡ views network.now (rows_after network.now (opening network.now) commands.now)) }
-{
-    let mut rows = opening_rows(alloc, network)?;
-    let steps = steps_of(alloc, network, &mut rows, commands)?;
-    let views = views_of(alloc, network, &rows)?;
-    Ok(Ran { steps, views })
+    let order = chosen_order(alloc, job.order, job.scripts.slice())?;
+    let world = run(alloc, job.network, job.scripts.slice(), order.slice())?;
+    let views = variant_views(alloc, &world)?;
+    Ok(Outcome {
+        journal: world.into_journal(),
+        workers: job.scripts.len() as u32,
+        views,
+        filters: job.filters,
+    })
 }

@@ -20,12 +20,17 @@ const EMPTY: &str = r#"{"format":1,"network":{"id":"N"}}"#;
 const TWO: &str =
     r#"{"format":1,"network":{"id":"N","substations":[{"id":"S","levels":[{"id":"V","nominal_v":1}]},{"id":"T","levels":[{"id":"W","nominal_v":1,"busbars":[{"id":"B2","node":3}],"switches":[{"id":"X","kind":"BREAKER","node1":3,"node2":4,"open":true}],"injections":[{"kind":"LOAD","id":"L2","node":4,"p0":5,"q0":0}]}]}]},"workers":[[{"do":"close","switch":"X"},{"do":"bus_view","level":"W"},{"do":"bus_view","level":"V"}]]}"#;
 
+/// The job of the level with these scripts, and what stands behind them.
+pub(crate) fn duo_with(alloc: Global, scripts: &str, tail: &str) -> Result<Vec<u8>, Fail> {
+    let mut job = String::from_str(alloc, HEAD)?;
+    job.push_str(scripts)?;
+    job.push_str(tail)?;
+    Ok(job.into_bytes())
+}
+
 /// The job of the level with this script.
 fn duo(alloc: Global, script: &str) -> Result<Vec<u8>, Fail> {
-    let mut job = String::from_str(alloc, HEAD)?;
-    job.push_str(script)?;
-    job.push_str(TAIL)?;
-    Ok(job.into_bytes())
+    duo_with(alloc, script, TAIL)
 }
 
 fn words(alloc: Global, texts: &[&str]) -> Result<Vec<String>, Fail> {
@@ -48,7 +53,11 @@ fn named(alloc: Global, status: Status) -> Result<String, Fail> {
 }
 
 /// The status of a call with these words on this input, and what it wrote.
-fn told(alloc: Global, texts: &[&str], input: Vec<u8>) -> Result<(String, String), Fail> {
+pub(crate) fn told(
+    alloc: Global,
+    texts: &[&str],
+    input: Vec<u8>,
+) -> Result<(String, String), Fail> {
     let words = words(alloc, texts)?;
     let mut source = SureSource::new(input, 4096);
     let mut sink = SureSink::new(Vec::new(alloc), 4096);
@@ -132,7 +141,7 @@ end
 #[test]
 fn networks(rt: HostRuntime) -> Result<(), Fail> {
     let alloc = rt.alloc();
-    let cases: [(&str, &str, &str); 4] = [
+    let cases: [(&str, &str, &str); 7] = [
         (
             "check",
             ONE,
@@ -144,6 +153,21 @@ fn networks(rt: HostRuntime) -> Result<(), Fail> {
             "ok: 0 substations, 0 levels, 0 switches, 3 commands\n",
         ),
         ("replay", EMPTY, "order\nvariant InitialState\nend\n"),
+        (
+            "replay",
+            r#"{"format":1,"network":{"id":"N"},"workers":[[],[]]}"#,
+            "order\nworker 0\nworker 1\nvariant InitialState\nend\n",
+        ),
+        (
+            "replay",
+            r#"{"format":1,"network":{"id":"N"},"workers":[[]],"order":[]}"#,
+            "order\nworker 0\nvariant InitialState\nend\n",
+        ),
+        (
+            "replay",
+            r#"{"format":1,"network":{"id":"N"},"workers":[[{"do":"components","level":"V"}]]}"#,
+            "order 0\nworker 0\n1 InitialState components V: refused 44 no level\nvariant InitialState\nend\n",
+        ),
         (
             "replay",
             TWO,
@@ -172,7 +196,7 @@ end
 #[test]
 fn statuses(rt: HostRuntime) -> Result<(), Fail> {
     let alloc = rt.alloc();
-    let cases: [(&[&str], &str, &str); 10] = [
+    let cases: [(&[&str], &str, &str); 7] = [
         (&[], "", "Usage"),
         (&["replay", "x"], "", "Usage"),
         (&["--help"], "", "Usage"),
@@ -183,21 +207,6 @@ fn statuses(rt: HostRuntime) -> Result<(), Fail> {
             &["check"],
             r#"{"format":1,"network":{"id":"N","substations":[{"id":"N"},{"id":"N"}]}}"#,
             "/network/substations/1 Load(IdTaken)",
-        ),
-        (
-            &["replay"],
-            r#"{"format":1,"network":{"id":"N"},"workers":[[],[]]}"#,
-            "NotBuilt",
-        ),
-        (
-            &["replay"],
-            r#"{"format":1,"network":{"id":"N"},"workers":[[]],"order":[]}"#,
-            "NotBuilt",
-        ),
-        (
-            &["replay"],
-            r#"{"format":1,"network":{"id":"N"},"workers":[[{"do":"components","level":"V"}]]}"#,
-            "NotBuilt",
         ),
     ];
     for (words, input, wanted) in cases {

@@ -1,9 +1,61 @@
-use Rattle.std.proofs.Common.{◌∙◌}
-use Rattle.grid_cli.proofs.Fitting.{opening_fits}
+use Rattle.std.proofs.Common.{◌≡◌, rules, length, get_or, arith, ◌+◌, Fits, w64}
+use Rattle.grid_core.specs.History.{command}
+use Rattle.grid_cli.proofs.Stepping.{at_start, behind, known, cursor_is, left, found, moved, grown, whole}
 use Rattle.grid_cli.proofs.running.run.Goals as goal
 
-pub steps_of-requires : goal.steps_of-requires
-steps_of-requires c = rw c.in_ok-rows.ensures (opening_fits c.args.network.now)
+pub loop-worker-init : goal.loop-worker-init
+loop-worker-init c = record {
+  within = omega arith;
+  world = c.in_ok-world.ensures;
+  cursors = at_start c.args.scripts.now c.args.order.now c.in_ok-cursors.cursors.items (c.in_ok-cursors.ensures.items_if_clones_equal (λ y e. e));
+}
 
-pub views_of-requires : goal.views_of-requires
-views_of-requires c = c.in_ok-steps.ensures.long ∙ rw c.in_ok-rows.ensures (opening_fits c.args.network.now)
+pub bounds-scripts-place : goal.bounds-scripts-place
+bounds-scripts-place c = known c.args.scripts.now c.args.order.now c.loop-worker.worker-index c.loop-worker-test.true c.requires.order
+
+pub index-requires : goal.index-requires
+index-requires c =
+    let below = known c.args.scripts.now c.args.order.now c.loop-worker.worker-index c.loop-worker-test.true c.requires.order in
+    omega (arith, below, c.loop-worker.invariant.cursors.many, c.loop-worker.cursors.ok.0)
+
+pub index-request-requires : goal.index-request-requires
+index-request-requires c =
+    let at = cursor_is c.args.scripts.now c.args.order.now c.loop-worker.worker-index c.loop-worker-test.true c.loop-worker.cursors.items c.index.result.now c.requires.order c.loop-worker.invariant.cursors c.index.ensures in
+    left c.args.scripts.now c.args.order.now c.loop-worker.worker-index c.loop-worker-test.true c.index-scripts-place.result c.index.result.now c.requires.order c.index-scripts-place.is at
+
+pub step-requires : goal.step-requires
+step-requires c =
+    let below = known c.args.scripts.now c.args.order.now c.loop-worker.worker-index c.loop-worker-test.true c.requires.order in
+    rw c.loop-worker.invariant.world below
+
+pub index_mut-requires : goal.index_mut-requires
+index_mut-requires c =
+    let below = known c.args.scripts.now c.args.order.now c.loop-worker.worker-index c.loop-worker-test.true c.requires.order in
+    omega (arith, below, c.loop-worker.invariant.cursors.many, c.loop-worker.cursors.ok.0)
+
+pub overflow_add-index_mut : goal.overflow_add-index_mut
+overflow_add-index_mut c =
+    let at = cursor_is c.args.scripts.now c.args.order.now c.loop-worker.worker-index c.loop-worker-test.true c.loop-worker.cursors.items c.index_mut.result.now c.requires.order c.loop-worker.invariant.cursors c.index_mut.ensures.value in
+    let fits : Fits w64 (c.loop-worker.worker-index + 1) = search rules in
+    omega (arith, at, behind c.args.order.now c.loop-worker.worker-index (get_or c.args.order.now c.loop-worker.worker-index 0), fits)
+
+pub loop-worker-preserved : goal.loop-worker-preserved
+loop-worker-preserved c =
+    let scripts = c.args.scripts.now in
+    let order = c.args.order.now in
+    let k = c.loop-worker.worker-index in
+    let lt = c.loop-worker-test.true in
+    let worker = get_or c.args.order.now c.loop-worker.worker-index 0 in
+    let at = cursor_is scripts order k lt c.loop-worker.cursors.items c.index.result.now c.requires.order c.loop-worker.invariant.cursors c.index.ensures in
+    let at_mut = cursor_is scripts order k lt c.loop-worker.cursors.items c.index_mut.result.now c.requires.order c.loop-worker.invariant.cursors c.index_mut.ensures.value in
+    let step = found scripts order k lt c.index-scripts-place.result c.index.result.now c.index-request.result.now c.requires.order c.index-scripts-place.is at c.index-request.ensures in
+    record {
+      within = omega (arith, lt);
+      world = grown c.args.network scripts order k (command worker c.index-request.result.now) c.loop-worker.world c.step.new.self step c.loop-worker.invariant.world c.in_ok-_reply.ensures.ok;
+      cursors = moved scripts order k lt c.loop-worker.cursors.items c.index_mut.result.now c.requires.order c.loop-worker.invariant.cursors at_mut;
+    }
+
+pub returns : goal.returns
+returns c =
+    let all : c.loop-worker.worker-index ≡ length c.args.order.now = omega (arith, c.loop-worker.invariant.within, c.loop-worker-test.false) in
+    whole c.args.network c.args.scripts.now c.args.order.now c.loop-worker.worker-index c.loop-worker.world all c.loop-worker.invariant.world

@@ -1,0 +1,260 @@
+-- The order of a job that was read: each worker as often as its script has commands, and nobody else.
+use Rattle.std.proofs.Common.{◌≡◌, refl, sym, ap, ◌∙◌, ℕ, ℤ, pos, negsuc, zero, suc, ◌+◌, ◌<◌, ◌≤◌, Bool, true, false, cond, not, List, [], ◌∷◌, length, map, get_or, subst, inl, inr, arith, Option, Some, None, Result, Ok, Err}
+use Rattle.std.specs.Prelude.{◌==◌, count_by, int_lt, nat_lt, codes, decimal, if◌then◌else◌, ◌⊎◌, ⊤}
+use Rattle.std.specs.List.{list_all}
+use Rattle.std.proofs.lemmas.Bool.{false≢true, and_parts, cases_lt, cases_eq, eqb-true, eq-eqb, ne_eqb, ltb-true, ltb-false}
+use Rattle.std.proofs.lemmas.Bool.Decides.{Decides-int_eq}
+use Rattle.std.proofs.lemmas.List.{get_or-map, get_or_past, length-map}
+use Rattle.std.proofs.lemmas.List.Sums.{sum_by-append}
+use Rattle.serde_json.specs.Data.{Data, Items, no_items, item}
+use Rattle.serde_json.specs.Find.{get, as_array}
+use Rattle.grid_structure.specs.Network.{Network}
+use Rattle.grid_events.specs.declared.filter.Filter.{Filter}
+use Rattle.grid_core.specs.declared.request.Request.{Request}
+use Rattle.grid_json.specs.declared.fault.Fault.{Fault}
+use Rattle.grid_json.specs.declared.fault.Reason.{Reason}
+use Rattle.grid_json.specs.declared.fault.Reason.TheVariants.{WrongKind, Schedule, TooManyCommands, TooManyWorkers}
+use Rattle.grid_json.specs.declared.format.Format.{Format}
+use Rattle.grid_json.specs.declared.format.Format.TheVariants.{One}
+use Rattle.grid_json.specs.declared.job.JobDraft.{JobDraft}
+use Rattle.grid_json.specs.declared.network.NetworkDraft.{NetworkDraft}
+use Rattle.grid_json.specs.declared.whole.Job.{Job}
+use Rattle.grid_json.specs.declared.whole.JobFault.{JobFault}
+use Rattle.grid_json.specs.Reading.{◌>>=◌, or_fault, here, under, items_at, items_len, array_at, member_at, member_or, present_or, optional_at, only_at, some_of, whole_at}
+use Rattle.grid_json.specs.Bytes.{reading}
+use Rattle.grid_json.specs.Network.{network_at}
+use Rattle.grid_json.specs.Command.{command_at}
+use Rattle.grid_json.specs.Loading.{network_load}
+use Rattle.grid_json.specs.Job.{max_workers, max_commands, command_total, few_at, counted_scripts, workers_at, listeners_at, format_at, stands_for, is_worker, counts_from, is_order, natural_of, ordered, order_at, draft_at}
+use Rattle.grid_json.specs.Whole.{loaded, or_bad_job, draft_in, draft_of, job_in, job_of}
+use Rattle.grid_report.specs.Histories.{IsOrder, chosen_order}
+use Rattle.grid_report.proofs.Turns.{turns_are_order}
+use Rattle.grid_cli.specs.Orders.{order_of, IsScheduled}
+use Rattle.grid_cli.proofs.Stepping.{script_at}
+
+-- how often a worker stands
+abbrev pub times : ℕ → List ℕ → ℕ
+times worker order = count_by (λ w. w == worker) order
+
+none_if : (b : Bool) → b ≡ false → ◌≡◌ {A = ℕ} (cond b 1 0) 0
+none_if b is = rw is refl
+
+count-first : {X : Type 0} (p : X → Bool) (x : X) (xs : List X) → count_by p (x ∷ xs) ≡ cond (p x) 1 0 + count_by p xs
+count-first p x xs =
+    let one : count_by p (x ∷ []) ≡ 0 + cond (p x) 1 0 = refl in
+    let first : count_by p (x ∷ []) ≡ cond (p x) 1 0 = omega (arith, one) in
+    sum_by-append (λ y. cond (p y) 1 0) (x ∷ []) xs ∙ ap (λ n. n + count_by p xs) first
+
+-- ---- an order that is given
+
+-- a worker's number that was read
+pub record Named (workers : ℕ) (number : ℤ) : Type 0 where
+  pub name : ℕ
+  pub below : name < workers
+  pub is : number ≡ pos name
+
+named : (workers : ℕ) (number : ℤ) → is_worker workers number ≡ true → Named workers number
+named workers (pos n) is = record { name = n; below = ltb-true n workers (and_parts (not (int_lt (pos n) (pos 0))) (int_lt (pos n) (pos workers)) is).1; is = refl }
+named workers (negsuc n) is = absurd (false≢true is)
+
+same_pos : {n m : ℕ} → ◌≡◌ {A = ℤ} (pos n) (pos m) → n ≡ m
+same_pos is = cc
+
+same_number : (n worker : ℕ) → stands_for (pos worker) (pos n) ≡ (n == worker)
+same_number n worker = elim (cases_eq n worker) [
+  | inl e ↦ (Decides-int_eq (pos n) (pos worker)).1 (ap pos e) ∙ sym (eq-eqb n worker e)
+  | inr apart ↦ by (stands_for (pos worker) (pos n)) refl apart
+]
+  where
+    by : (b : Bool) → stands_for (pos worker) (pos n) ≡ b → (n ≡ worker → ⊥) → stands_for (pos worker) (pos n) ≡ (n == worker)
+    by true is apart = absurd (apart (same_pos ((Decides-int_eq (pos n) (pos worker)).0 is)))
+    by false is apart = is ∙ sym (ne_eqb n worker apart)
+
+-- the numbers are read as naturals
+as_often : (workers worker : ℕ) (numbers : List ℤ) → list_all (is_worker workers) numbers ≡ true → times worker (map natural_of numbers) ≡ count_by (stands_for (pos worker)) numbers
+as_often workers worker [] all = refl
+as_often workers worker (x ∷ xs) all =
+    let parts = and_parts (is_worker workers x) (list_all (is_worker workers) xs) all in
+    let n = named workers x parts.0 in
+    let same : (natural_of x == worker) ≡ stands_for (pos worker) x = ap (λ y. natural_of y == worker) n.is ∙ sym (same_number n.name worker) ∙ ap (stands_for (pos worker)) (sym n.is) in
+    count-first (λ w. w == worker) (natural_of x) (map natural_of xs)
+    ∙ ap (λ b. cond b 1 0 + times worker (map natural_of xs)) same
+    ∙ ap (λ k. cond (stands_for (pos worker) x) 1 0 + k) (as_often workers worker xs parts.1)
+    ∙ sym (count-first (stands_for (pos worker)) x xs)
+
+-- a number beyond the workers stands nowhere
+beyond : (workers worker : ℕ) (numbers : List ℤ) → list_all (is_worker workers) numbers ≡ true → workers ≤ worker → times worker (map natural_of numbers) ≡ 0
+beyond workers worker [] all le = refl
+beyond workers worker (x ∷ xs) all le =
+    let parts = and_parts (is_worker workers x) (list_all (is_worker workers) xs) all in
+    let n = named workers x parts.0 in
+    let differ : (natural_of x == worker) ≡ false = ap (λ y. natural_of y == worker) n.is ∙ ne_eqb n.name worker (λ e. omega (arith, n.below, le, e)) in
+    let sum : cond (natural_of x == worker) 1 0 + times worker (map natural_of xs) ≡ 0 = omega (arith, none_if (natural_of x == worker) differ, beyond workers worker xs parts.1 le) in
+    count-first (λ w. w == worker) (natural_of x) (map natural_of xs) ∙ sum
+
+counted : (ns : List ℕ) (numbers : List ℤ) (first k worker : ℕ) → counts_from first ns numbers ≡ true → k < length ns → first + k ≡ worker → count_by (stands_for (pos worker)) numbers ≡ get_or ns k 0
+unfolding counts_from
+counted [] numbers first k worker all lt is = absurd (omega arith)
+counted (n ∷ ns) numbers first zero worker all lt is =
+    let parts = and_parts (count_by (stands_for (pos first)) numbers == n) (counts_from (suc first) ns numbers) all in
+    let same : first ≡ worker = omega (arith, is) in
+    rw (← same) (eqb-true _ _ parts.0)
+counted (n ∷ ns) numbers first (suc k) worker all lt is =
+    let parts = and_parts (count_by (stands_for (pos first)) numbers == n) (counts_from (suc first) ns numbers) all in
+    counted ns numbers (suc first) k worker parts.1 (omega (arith, lt)) (omega (arith, is))
+
+given_orders : (scripts : List (List Request)) (numbers : List ℤ) → is_order (map length scripts) numbers ≡ true → IsOrder scripts (map natural_of numbers)
+unfolding is_order
+given_orders scripts numbers is worker =
+    let many : length (map length scripts) ≡ length scripts = length-map scripts length in
+    let parts = and_parts (list_all (is_worker (length (map length scripts))) numbers) (counts_from 0 (map length scripts) numbers) is in
+    elim (cases_lt worker (length scripts)) [
+      | inl h ↦ as_often (length (map length scripts)) worker numbers parts.0 ∙ counted (map length scripts) numbers 0 worker worker parts.1 (rw many h) (omega arith) ∙ get_or-map length scripts worker [] 0 h ∙ sym (ap length (script_at scripts worker))
+      | inr h ↦ beyond (length (map length scripts)) worker numbers parts.0 (rw many h) ∙ sym (ap length (script_at scripts worker ∙ get_or_past scripts worker [] h))
+    ]
+
+-- ---- what was read
+
+bound : {A B : Type 0} (first : Result A Fault) (rest : A → Result B Fault) (y : B) → (first >>= rest) ≡ Ok y → (x : A) × (first ≡ Ok x) × (rest x ≡ Ok y)
+bound (Ok x) rest y is = (x, refl, is)
+bound (Err fault) rest y is = cc
+
+inside : {A : Type 0} (name : List ℕ) (read : Result A Fault) (x : A) → under name read ≡ Ok x → read ≡ Ok x
+inside name (Ok y) x is = cc
+inside name (Err fault) x is = cc
+
+-- a member that may be absent is the other value, or was read
+found : {A : Type 0} (otherwise : A) (read : Data → Result A Fault) (name : List ℕ) (member : Option Data) (x : A) → present_or otherwise read name member ≡ Ok x → (x ≡ otherwise) ⊎ ((d : Data) × (read d ≡ Ok x))
+found otherwise read name None x is = inl cc
+found otherwise read name (Some d) x is = inr (d, inside name (read d) x is)
+
+-- ---- the scripts
+
+as_many : {A : Type 0} (read : Data → Result A Fault) (ds : Items) (i : ℕ) (xs : List A) → items_at read i ds ≡ Ok xs → length xs ≡ items_len ds
+unfolding items_at
+as_many read no_items i xs is = let none : [] ≡ xs = cc in sym (ap length none)
+as_many read (item d ds) i xs is =
+    let a = bound (under (decimal i) (read d)) (λ x. items_at read (suc i) ds >>= λ ys. Ok (x ∷ ys)) xs is in
+    let b = bound (items_at read (suc i) ds) (λ ys. Ok (a.0 ∷ ys)) xs a.2 in
+    let same : a.0 ∷ b.0 ≡ xs = cc in
+    sym (ap length same) ∙ ap suc (as_many read ds (suc i) b.0 b.1)
+
+few_by : {A : Type 0} (most : ℕ) (reason : Reason) (read : Data → Result A Fault) (ds : Items) (xs : List A) (over : Bool) → nat_lt most (items_len ds) ≡ over
+    → cond over (Err (here reason)) (items_at read 0 ds) ≡ Ok xs → length xs ≤ most
+few_by most reason read ds xs true is h = cc
+few_by most reason read ds xs false is h = omega (arith, as_many read ds 0 xs h, ltb-false most (items_len ds) is)
+
+few_of : {A : Type 0} (most : ℕ) (reason : Reason) (read : Data → Result A Fault) (d : Data) (xs : List A) → few_at most reason read d ≡ Ok xs → length xs ≤ most
+few_of most reason read d xs is =
+    let a = bound (or_fault WrongKind (as_array d)) (λ ds. if nat_lt most (items_len ds) then Err (here reason) else items_at read 0 ds) xs is in
+    few_by most reason read a.0 xs (nat_lt most (items_len a.0)) refl a.2
+
+all_counted : (scripts counted : List (List Request)) (over : Bool) → cond over (Err (here TooManyCommands)) (Ok scripts) ≡ Ok counted → scripts ≡ counted
+all_counted scripts counted true is = cc
+all_counted scripts counted false is = cc
+
+few_scripts : (format : Format) (member : Option Data) (scripts : List (List Request)) → present_or [] (workers_at format) (codes "workers") member ≡ Ok scripts → length scripts ≤ max_workers
+few_scripts format member scripts is = elim (found [] (workers_at format) (codes "workers") member scripts is) [
+  | inl none ↦ omega (arith, ap length none)
+  | inr read ↦
+      let a = bound (few_at max_workers TooManyWorkers (array_at (command_at format)) read.0) counted_scripts scripts read.1 in
+      let same = all_counted a.0 scripts (nat_lt max_commands (command_total a.0)) a.2 in
+      omega (arith, few_of max_workers TooManyWorkers (array_at (command_at format)) read.0 a.0 a.1, ap length same)
+]
+
+-- ---- the order
+
+some_read : {A : Type 0} (read : Result A Fault) (found : Option A) → some_of read ≡ Ok found → (x : A) × (read ≡ Ok x) × (found ≡ Some x)
+some_read (Ok x) found is = (x, refl, cc)
+some_read (Err fault) found is = cc
+
+in_order : (scripts : List (List Request)) (numbers : List ℤ) (order : List ℕ) (is_one : Bool) → is_order (map length scripts) numbers ≡ is_one
+    → cond is_one (Ok (map natural_of numbers)) (Err (here Schedule)) ≡ Ok order → IsOrder scripts order
+in_order scripts numbers order true is h =
+    let same : map natural_of numbers ≡ order = cc in
+    subst (IsOrder scripts) same (given_orders scripts numbers is)
+in_order scripts numbers order false is h = cc
+
+orders : (scripts : List (List Request)) (member : Option Data) (order : Option (List ℕ)) → present_or None (λ v. some_of (order_at scripts v)) (codes "order") member ≡ Ok order → IsOrder scripts (chosen_order scripts order)
+unfolding chosen_order
+orders scripts member order is = elim (found None (λ v. some_of (order_at scripts v)) (codes "order") member order is) [
+  | inl none ↦ rw none (turns_are_order scripts)
+  | inr read ↦
+      let a = some_read (order_at scripts read.0) order read.1 in
+      let b = bound (array_at whole_at read.0) (ordered (map length scripts)) a.0 a.1 in
+      rw a.2 (in_order scripts b.0 a.0 (is_order (map length scripts) b.0) refl b.2)
+]
+
+-- ---- the draft
+
+with_order : NetworkDraft → List Filter → List (List Request) → Option (List ℕ) → Result JobDraft Fault
+with_order network filters scripts order = Ok (record { network = network; filters = filters; scripts = scripts; order = order })
+
+with_scripts : Data → NetworkDraft → List Filter → List (List Request) → Result JobDraft Fault
+with_scripts d network filters scripts = optional_at (order_at scripts) (codes "order") d >>= with_order network filters scripts
+
+with_filters : Data → Format → NetworkDraft → List Filter → Result JobDraft Fault
+with_filters d format network filters = member_or [] (workers_at format) (codes "workers") d >>= with_scripts d network filters
+
+with_network : Data → Format → NetworkDraft → Result JobDraft Fault
+with_network d format network = member_or [] (listeners_at format) (codes "listeners") d >>= with_filters d format network
+
+with_format : Data → Format → Result JobDraft Fault
+with_format d format = member_at (network_at format) (codes "network") d >>= with_network d format
+
+known : Data → ⊤ → Result JobDraft Fault
+known d done = member_at (format_at One) (codes "format") d >>= with_format d
+
+-- what a draft keeps
+pub record IsDrafted (draft : JobDraft) : Type 0 where
+  pub few : length draft.scripts ≤ max_workers
+  pub ordered : IsOrder draft.scripts (chosen_order draft.scripts draft.order)
+
+drafted : (d : Data) (draft : JobDraft) → draft_at d ≡ Ok draft → IsDrafted draft
+unfolding draft_at known with_format with_network with_filters with_scripts with_order
+drafted d draft is =
+    let a = bound (only_at (codes "format" ∷ codes "network" ∷ codes "listeners" ∷ codes "workers" ∷ codes "order" ∷ []) d) (known d) draft is in
+    let b = bound (member_at (format_at One) (codes "format") d) (with_format d) draft a.2 in
+    let c = bound (member_at (network_at b.0) (codes "network") d) (with_network d b.0) draft b.2 in
+    let e = bound (member_or [] (listeners_at b.0) (codes "listeners") d) (with_filters d b.0 c.0) draft c.2 in
+    let f = bound (member_or [] (workers_at b.0) (codes "workers") d) (with_scripts d c.0 e.0) draft e.2 in
+    let g = bound (optional_at (order_at f.0) (codes "order") d) (with_order c.0 e.0 f.0) draft f.2 in
+    let made : JobDraft = record { network = c.0; filters = e.0; scripts = f.0; order = g.0 } in
+    let same : made ≡ draft = cc in
+    let kept : IsDrafted made = record {
+      few = few_scripts b.0 (get (codes "workers") d) f.0 f.1;
+      ordered = orders f.0 (get (codes "order") d) g.0 g.1;
+    } in
+    subst IsDrafted {x = made} same kept
+
+-- ---- the job
+
+no_fault : {A : Type 0} (read : Result A Fault) (x : A) → or_bad_job read ≡ Ok x → read ≡ Ok x
+no_fault (Ok y) x is = cc
+no_fault (Err fault) x is = cc
+
+of_draft : (read : Result JobDraft JobFault) (job : Job) → job_in read ≡ Ok job → (draft : JobDraft) × (read ≡ Ok draft) × (or_bad_job (loaded draft) ≡ Ok job)
+of_draft (Ok draft) job is = (draft, refl, is)
+of_draft (Err fault) job is = cc
+
+of_data : (data_read : Option Data) (draft : JobDraft) → draft_in data_read ≡ Ok draft → IsDrafted draft
+of_data None draft is = cc
+of_data (Some d) draft is = drafted d draft (no_fault (draft_at d) draft is)
+
+with_loaded : JobDraft → Network → Result Job Fault
+with_loaded draft network = Ok (record { network = network; filters = draft.filters; scripts = draft.scripts; order = draft.order })
+
+of_loaded : (draft : JobDraft) (job : Job) → loaded draft ≡ Ok job → IsDrafted draft → IsScheduled job
+unfolding loaded order_of with_loaded
+of_loaded draft job is kept =
+    let a = bound (network_load draft.network) (with_loaded draft) job is in
+    let made : Job = record { network = a.0; filters = draft.filters; scripts = draft.scripts; order = draft.order } in
+    let same : made ≡ job = cc in
+    let scheduled_made : IsScheduled made = record { few = kept.few; ordered = kept.ordered } in
+    subst IsScheduled same scheduled_made
+
+pub scheduled : (bytes : List ℕ) (job : Job) → job_of bytes ≡ Ok job → IsScheduled job
+unfolding job_of draft_of
+scheduled bytes job is =
+    let a = of_draft (draft_in (reading bytes)) job is in
+    of_loaded a.0 job (no_fault (loaded a.0) job a.2) (of_data (reading bytes) a.0 a.1)

@@ -1,0 +1,13 @@
+use Rattle.std.proofs.Common.{refl}
+use Rattle.grid_core.specs.History.{live, is_live}
+use Rattle.grid_report.specs.Histories.{variant_view}
+use Rattle.grid_cli.proofs.Showing.{stands}
+use Rattle.grid_cli.proofs.running.variant_view.Goals as goal
+
+pub level_views-requires : goal.level_views-requires
+unfolding is_live
+level_views-requires c = stands (live c.args.world.now.steps) c.args.place c.variant_name-name.result.now c.variant_name-name.ensures
+
+pub returns : goal.returns
+unfolding variant_view
+returns c = rw (c.variant_name-name.ensures, c.in_ok-copy.ensures, c.in_ok-views.ensures) refl
