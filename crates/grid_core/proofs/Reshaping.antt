@@ -1,17 +1,21 @@
 -- What an edit makes of the machine of all variants.
-use Rattle.std.proofs.Common.{◌≡◌, refl, sym, ap, ◌∙◌, ℕ, ℤ, zero, suc, ◌-◌, ◌<◌, ◌≤◌, Bool, true, List, [], ◌∷◌, ◌++◌, length, map, get_or, set, length-set, length-append, Some, None, All, arith}
+use Rattle.std.proofs.Common.{◌≡◌, refl, sym, ap, ◌∙◌, ℕ, ℤ, zero, suc, ◌+◌, ◌-◌, ◌<◌, ◌≤◌, Bool, true, List, [], ◌∷◌, ◌++◌, length, map, get_or, set, length-set, length-append, Some, None, All, arith}
 use Rattle.std.specs.Prelude.{slice_get, option_map, Ok, Err, Result}
-use Rattle.std.specs.Prelude.{nat_lt, remove}
-use Rattle.std.proofs.lemmas.Bool.{lt-ltb}
-use Rattle.std.proofs.lemmas.List.{length-map}
+use Rattle.std.specs.Prelude.{nat_lt, nat_le, remove, Option, take, drop}
+use Rattle.std.specs.List.{insert}
+use Rattle.std.proofs.lemmas.Bool.{lt-ltb, le-leb}
+use Rattle.std.proofs.lemmas.List.{length-map, take-append-drop}
 use Rattle.grid_kinds.specs.declared.SwitchKind.{SwitchKind}
-use Rattle.grid_states.specs.Rows.{row_at, with_last, without_flag}
+use Rattle.grid_states.specs.Rows.{row_at, with_last, without_flag, with_level}
 use Rattle.grid_structure.specs.Sites.{levels, find_level, find_switch}
 use Rattle.grid_structure.specs.declared.Edit.{Edit}
 use Rattle.grid_structure.specs.declared.Edit.TheVariants as edits
 use Rattle.grid_structure.specs.declared.EditFault.{EditFault}
 use Rattle.grid_structure.specs.Network.{Network}
 use Rattle.grid_structure.specs.Editing.{apply}
+use Rattle.grid_structure.specs.Soundness.{IsSound}
+use Rattle.grid_structure.proofs.Found.{level_below}
+use Rattle.grid_structure.proofs.ListOfLevels.{level_inserted}
 use Rattle.grid_slots.specs.Variants.{slot_of, all_changed, with_each_row, IsTable}
 use Rattle.grid_slots.proofs.Changing.{with_each_row-map}
 use Rattle.grid_core.specs.declared.request.Request.TheVariants as requests
@@ -25,12 +29,12 @@ use Rattle.grid_core.specs.Replies.{state_of, reply, reply_to, change_reply, edi
 use Rattle.grid_core.specs.Fitting.{StateFits}
 use Rattle.grid_core.specs.Made.{made_of}
 use Rattle.grid_core.specs.Machines.{Held, IsMachine, Steps}
-use Rattle.grid_core.specs.Edits.{LeavesPresent, GainsAt, LosesAt, shorter_at, longer_at, put_at, each_put}
+use Rattle.grid_core.specs.Edits.{LeavesPresent, GainsAt, LosesAt, WidensAt, AddsLevel, wider_at, shorter_at, longer_at, put_at, each_put}
 use Rattle.grid_core.proofs.Holding.{Rows, each_held}
 use Rattle.grid_core.proofs.Keeping.{state_of-fits}
 use Rattle.grid_core.proofs.Ranges.{rows_of_levels, switch_in_rows}
 use Rattle.grid_core.proofs.Naming.{slot_live}
-use Rattle.grid_core.proofs.EditRows.{switch_place, rows_after-switch, removed_place, rows_after-removed}
+use Rattle.grid_core.proofs.EditRows.{level_place, rows_after-level, switch_place, rows_after-switch, removed_place, rows_after-removed}
 use Rattle.grid_core.proofs.Stepping.{edited_step, refused_edit_step}
 use Rattle.grid_core.proofs.Together.{state_structure, parts_edited, parts_edited_alone}
 use Rattle.grid_core.proofs.Making.{makes, held_unmoved, slots_live}
@@ -236,3 +240,64 @@ loses_switch net id level place h flag new e = rows_after-removed flag net new i
 
 pub no_switch : (net : Network) (id : List ℕ) → find_switch net id ≡ None → LeavesPresent net (edits.RemoveSwitch id)
 no_switch net id h flag new rows e = let at = removed_place net new id e in absurd (cc (at.2, h))
+
+-- ---- a row more
+
+inserted_long : {X : Type 0} (xs : List X) (i : ℕ) (y : X) → length (insert xs i y) ≡ length xs + 1
+inserted_long xs i y =
+    let all = ap length (take-append-drop i xs) in
+    let parts = length-append (take i xs) (drop i xs) in
+    let made = length-append (take i xs) (y ∷ drop i xs) in
+    omega (arith, all, parts, made)
+
+pub level_room : (net new : Network) (edit : Edit) (id : List ℕ) (place : ℕ) → AddsLevel edit id → IsSound net → apply net edit ≡ Ok new → find_level new id ≡ Some place → place ≤ length (levels net)
+level_room net new edit id place adds sound e found =
+    let yes : apply net (edits.AddLevel id adds.0 adds.1 adds.2 adds.3) ≡ Ok new = ap (apply net) (sym adds.4) ∙ e in
+    let at = level_inserted net new id adds.0 adds.1 adds.2 adds.3 yes sound in
+    let below = level_below new id place found in
+    let long = ap length at.2 ∙ inserted_long (levels net) at.0 _ in
+    omega (arith, below, long)
+
+-- each variant has room for the row
+pub rows_room : (m : Machine) (place : ℕ) → IsMachine m → IsTable m.slots → place ≤ length (levels m.structure) → All (λ v. place ≤ length v.rows) m.slots
+rows_room m place held table within =
+    each_opened (λ rows. place ≤ length rows) m held table
+    (λ state f st.
+    let count = rows_of_levels state.structure state.opened f.opened in
+    let same : length (levels m.structure) ≡ length (levels state.structure) = ap (λ (n : Network). length (levels n)) st in
+    omega (arith, count, same, within))
+
+wider_room : (place : ℕ) (rows : Rows) → place ≤ length rows → wider_at place rows ≡ with_level rows place
+wider_room place rows h = let yes : nat_le place (length rows) ≡ true = le-leb place (length rows) h in rw yes refl
+
+pub widened : (m next : Machine) (worker place : ℕ) (edit : Edit) (new : Network) (made : Made) → IsMachine m → WidensAt m.structure edit place → apply m.structure edit ≡ Ok new → made ≡ made_of replies.Done (edit_events edit)
+    → next.structure ≡ new → next.working.items ≡ m.working.items → next.slots ≡ all_changed (λ rows. with_level rows place) m.slots → next.retained.items ≡ map (wider_at place) m.retained.items
+    → Steps m next worker (requests.Change edit) made
+widened m next worker place edit new made held widens e is st wo sl all =
+    edit_made m next worker edit new made e is st wo
+    (sl ∙ ap (λ f. all_changed f m.slots) (sym (widens.1 the_opened new e)))
+    (ap length all ∙ length-map m.retained.items (wider_at place))
+    (λ name slot at.
+    let there = kept_rows (λ r. place ≤ length r) m slot name held at
+    (λ state f stands.
+    let count = rows_of_levels state.structure state.retained f.retained in
+    let same : length (levels m.structure) ≡ length (levels state.structure) = ap (λ (n : Network). length (levels n)) stands in
+    let within = widens.0 in omega (arith, count, same, within)) in
+    ap (λ rs. slice_get rs slot) all ∙ get-map (wider_at place) m.retained.items slot
+    ∙ ap (option_map (wider_at place)) there.1
+    ∙ ap (λ (r : Rows). Some r) (wider_room place there.0 there.2 ∙ ap (λ (f : Rows → Rows). f there.0) (sym (widens.1 the_retained new e)))
+    ∙ ap (option_map (rows_after the_retained m.structure new edit)) (sym there.1))
+
+-- where the level will stand
+pub widens_level : (net new : Network) (edit : Edit) (id : List ℕ) (place : ℕ) → AddsLevel edit id → IsSound net → apply net edit ≡ Ok new → Some place ≡ find_level new id → WidensAt net edit place
+widens_level net new edit id place adds sound e found = (
+  level_room net new edit id place adds sound e (sym found),
+  λ flag other yes.
+      let same : new ≡ other = cc (e, yes) in
+      rw (adds.4) (rows_after-level flag net other id adds.0 adds.1 adds.2 adds.3 place (ap (λ (n : Network). find_level n id) (sym same) ∙ sym found)),
+)
+
+pub level_stands : (net new : Network) (edit : Edit) (id : List ℕ) → AddsLevel edit id → IsSound net → apply net edit ≡ Ok new → None ≡ find_level new id → ⊥
+level_stands net new edit id adds sound e none =
+    let yes : apply net (edits.AddLevel id adds.0 adds.1 adds.2 adds.3) ≡ Ok new = ap (apply net) (sym adds.4) ∙ e in
+    let at = level_place net new id adds.0 adds.1 adds.2 adds.3 sound yes in cc (at.1, none)

@@ -1,8 +1,10 @@
 -- Edits and rows of flags.
-use Rattle.std.specs.Prelude.{◌≡◌, ℕ, Bool, Ok, nat_lt, ◌&&◌, remove, if◌then◌else◌, List, [], ◌∷◌, ◌++◌, length}
-use Rattle.grid_states.specs.Rows.{row_at, with_row, with_last, without_flag}
+use Rattle.std.specs.Prelude.{◌≡◌, ℕ, ℤ, ◌≤◌, Option, Bool, Ok, nat_lt, nat_le, ◌&&◌, remove, if◌then◌else◌, List, [], ◌∷◌, ◌++◌, length}
+use Rattle.grid_states.specs.Rows.{row_at, with_row, with_last, without_flag, with_level}
 use Rattle.grid_structure.specs.Editing.{apply}
+use Rattle.grid_structure.specs.Sites.{levels}
 use Rattle.grid_structure.specs.declared.Edit.{Edit}
+use Rattle.grid_structure.specs.declared.Edit.TheVariants as edits
 use Rattle.grid_structure.specs.Network.{Network}
 use Rattle.grid_core.specs.Solo.{Flag, rows_after}
 
@@ -38,3 +40,15 @@ shorter_at level place rows = if nat_lt level (length rows) && nat_lt place (len
 -- accepted by the present structure, it takes a flag out of the row of a level
 abbrev pub LosesAt : Network → Edit → ℕ → ℕ → Type 0
 LosesAt net edit level place = (flag : Flag) (new : Network) → apply net edit ≡ Ok new → rows_after flag net new edit ≡ (λ rows. without_flag rows level place)
+
+-- the rows with an empty one for a level, where there is room for it
+abbrev pub wider_at : ℕ → List (List Bool) → List (List Bool)
+wider_at level rows = if nat_le level (length rows) then with_level rows level else []
+
+-- an edit that adds a level of this id
+abbrev pub AddsLevel : Edit → List ℕ → Type 0
+AddsLevel edit id = (substation : List ℕ) × (nominal_v : ℤ) × (low_v : Option ℤ) × (high_v : Option ℤ) × (edit ≡ edits.AddLevel id substation nominal_v low_v high_v)
+
+-- accepted by the present structure, it puts an empty row for a level
+abbrev pub WidensAt : Network → Edit → ℕ → Type 0
+WidensAt net edit place = (place ≤ length (levels net)) × ((flag : Flag) (new : Network) → apply net edit ≡ Ok new → rows_after flag net new edit ≡ (λ rows. with_level rows place))

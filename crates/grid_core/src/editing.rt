@@ -1,16 +1,17 @@
 // Edits of the structure, for every variant.
-ghost use Rattle.std.specs.Prelude.{◌≡◌, ◌<◌, length, IsTrue, Some, OnErr, IfOk};
+ghost use Rattle.std.specs.Prelude.{◌≡◌, ◌<◌, length, IsTrue, Some, Ok, OnErr, IfOk, IfErr};
+ghost use Rattle.grid_structure.specs.Editing.{apply, IsTold};
 ghost use Rattle.grid_structure.specs.Sites.{levels, find_switch};
 ghost use Rattle.grid_core.specs.Replies.{edit_events};
 ghost use Rattle.grid_core.specs.Machines.{IsMachine, IsSame, Steps};
-ghost use Rattle.grid_core.specs.Edits.{LeavesRows, LeavesPresent, GainsAt, LosesAt};
+ghost use Rattle.grid_core.specs.Edits.{LeavesRows, LeavesPresent, GainsAt, LosesAt, WidensAt, AddsLevel};
 
 use crate::machine::{Machine, Made, answer, make, one_event};
-use crate::retaining::{longer_retained, put_retained, shorter_retained};
+use crate::retaining::{longer_retained, put_retained, shorter_retained, wider_retained};
 use crate::{Refusal, Reply, Request};
 use grid_events::{Event, Events};
 use grid_ids::{Duplicate, Id, Memory};
-use grid_structure::{ApplyFault, Edit, SwitchAt};
+use grid_structure::{ApplyFault, Edit, Structure, SwitchAt};
 use std::alloc::Global;
 
 // The events of an edit that is accepted.
@@ -137,6 +138,68 @@ impl Machine {
         }
     }
 
+    // The structure that an edit leaves.
+    fn edited(&self, edit: &Edit) -> Result<Structure, ApplyFault>
+        ensures done { IfOk result (λ next. apply self.now.structure edit.now ≡ Ok next) }
+        ensures refused { IfErr result (IsTold (apply self.now.structure edit.now)) }
+    {
+        let mut next = self.structure.copy()?;
+        next.apply(edit)?;
+        Ok(next)
+    }
+
+    // Puts the structure that an edit leaves, and an empty row for its new level in every variant.
+    fn put_level(
+        &mut self,
+        alloc: Global,
+        worker: u32,
+        edit: &Edit,
+        next: Structure,
+        place: u32,
+    ) -> Result<Made, Memory>
+        requires held { IsMachine self.old }
+        requires next { apply self.old.structure edit.now ≡ Ok next }
+        requires rows { WidensAt self.old.structure edit.now place }
+        ensures made { IfOk result (Steps self.old self.new worker (Request.Change edit.now)) }
+        ensures same { OnErr result (IsSame self.old self.new) }
+        ensures count { length self.new.working.items ≡ length self.old.working.items }
+    {
+        self.slots.keeps();
+        let made = make(Reply::Done, events_of_edit(alloc, edit)?)?;
+        let retained = wider_retained(alloc, &self.retained, place)?;
+        self.slots.gain_level(place)?;
+        self.structure = next;
+        self.retained = retained;
+        Ok(made)
+    }
+
+    // Changes the structure, and puts an empty row for a new level in every variant.
+    fn gain_level(
+        &mut self,
+        alloc: Global,
+        worker: u32,
+        edit: &Edit,
+        id: &Id,
+    ) -> Result<Made, Memory>
+        requires held { IsMachine self.old }
+        requires level { AddsLevel edit.now id.now }
+        ensures made { IfOk result (Steps self.old self.new worker (Request.Change edit.now)) }
+        ensures same { OnErr result (IsSame self.old self.new) }
+        ensures count { length self.new.working.items ≡ length self.old.working.items }
+    {
+        self.structure.keeps();
+        match self.edited(edit) {
+            Ok(next) => match next.find_level(id) {
+                Some(place) => self.put_level(alloc, worker, edit, next, place),
+                None => unreachable!(),
+            },
+            Err(ApplyFault::Refused(fault)) => {
+                answer(alloc, Reply::Refused(Refusal::Edit(fault)))
+            }
+            Err(ApplyFault::Memory) => Err(Memory),
+        }
+    }
+
     /// Changes the structure, for every variant.
     pub(crate) fn change(&mut self, alloc: Global, worker: u32, edit: &Edit) -> Result<Made, Memory>
         requires held { IsMachine self.old }
@@ -161,6 +224,8 @@ impl Machine {
                 Some(at) => self.lose_flag(alloc, worker, edit, id, at),
                 None => self.change_structure(alloc, worker, edit),
             },
+            Edit::AddLevel { id, .. } => self.gain_level(alloc, worker, edit, id),
+            // Not reached: these leave the rows.
             _ => Err(Memory),
         }
     }

@@ -1,9 +1,9 @@
 // The flags retained of all slots, changed together: new rows are made first, and put then without memory.
-ghost use Rattle.std.specs.Prelude.{◌≡◌, [], ◌∷◌, ◌++◌, length, map, nat_lt, ◌&&◌, remove, if◌then◌else◌, IfOk};
-ghost use Rattle.grid_states.specs.Rows.{row_at, with_row};
-ghost use Rattle.grid_core.specs.Edits.{longer_at, shorter_at, put_at, each_put};
+ghost use Rattle.std.specs.Prelude.{◌≡◌, [], ◌∷◌, ◌++◌, length, map, nat_lt, nat_le, ◌&&◌, remove, if◌then◌else◌, IfOk};
+ghost use Rattle.grid_states.specs.Rows.{row_at, with_row, with_level};
+ghost use Rattle.grid_core.specs.Edits.{longer_at, shorter_at, wider_at, put_at, each_put};
 
-use grid_ids::Memory;
+use grid_ids::{Duplicate, Memory};
 use grid_states::{Row, States};
 use std::alloc::Global;
 
@@ -80,4 +80,31 @@ pub(crate) fn put_retained(retained: &mut Vec<States>, level: u32, mut rows: Vec
         place -= 1;
         put_in(&mut retained[place], level, row);
     }
+}
+
+// The rows with an empty one for a level, where there is room for it.
+fn wider_of(alloc: Global, rows: &States, level: u32) -> Result<States, Memory>
+    ensures { IfOk result (λ wider. wider ≡ wider_at level rows.now) }
+{
+    if level as usize > rows.level_count() {
+        return Ok(States::empty(alloc));
+    }
+    let mut wider = rows.copy()?;
+    wider.gain_level(level)?;
+    Ok(wider)
+}
+
+/// The rows of each slot with an empty one for a level, where there is room for it, and no row for the others.
+pub(crate) fn wider_retained(
+    alloc: Global,
+    retained: &[States],
+    level: u32,
+) -> Result<Vec<States>, Memory>
+    ensures { IfOk result (λ wider. wider.items ≡ map (wider_at level) retained.now) }
+{
+    let mut wider = Vec::with_capacity(alloc, retained.len())?;
+    for rows in retained {
+        wider.push(wider_of(alloc, rows, level)?)?;
+    }
+    Ok(wider)
 }
