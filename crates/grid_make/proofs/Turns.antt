@@ -1,7 +1,7 @@
 -- Edits and lists that are made in turn, as loops make them.
-use Rattle.std.proofs.Common.{◌≡◌, ℕ, zero, suc, ◌+◌, ◌-◌, ◌*◌, ◌<◌, ◌≤◌, List, [], ◌∷◌, ◌++◌, Result, Ok, Err, refl, sym, ap, ◌∙◌}
+use Rattle.std.proofs.Common.{◌≡◌, ℕ, zero, suc, ◌+◌, ◌-◌, ◌*◌, ◌<◌, ◌≤◌, List, [], ◌∷◌, ◌++◌, Result, Ok, Err, refl, sym, ap, ◌∙◌, arith}
+use Rattle.std.proofs.Math.Nat.{mul-suc}
 use Rattle.std.proofs.lemmas.List.{append_assoc, append-nil}
-use Rattle.std.proofs.lemmas.Arith.{arith}
 use Rattle.grid_structure.specs.declared.Edit.{Edit}
 use Rattle.grid_structure.specs.declared.EditFault.{EditFault}
 use Rattle.grid_structure.specs.Network.{Network}
@@ -22,8 +22,8 @@ unfolding unrefused
 unrefused_append [] rest net = refl
 unrefused_append (edit ∷ edits) rest net = bind_all (apply net edit) edits rest (unrefused_append edits rest)
 
-pub then : (edits rest : List Edit) (net middle after : Network) → unrefused edits net ≡ Ok middle → unrefused rest middle ≡ Ok after → unrefused (edits ++ rest) net ≡ Ok after
-then edits rest net middle after first second = unrefused_append edits rest net ∙ ap (λ answer. answer >>= unrefused rest) first ∙ second
+pub and_then : (edits rest : List Edit) (net middle after : Network) → unrefused edits net ≡ Ok middle → unrefused rest middle ≡ Ok after → unrefused (edits ++ rest) net ≡ Ok after
+and_then edits rest net middle after first second = unrefused_append edits rest net ∙ ap (λ answer. answer >>= unrefused rest) first ∙ second
 
 -- what is left of a count begins with the item at its front
 turn : {A : Type 0} (made : ℕ → ℕ → List A) (last : ℕ → ℕ) (from count before : ℕ) → from < count
@@ -75,23 +75,26 @@ later_one count x = let up : count + 1 ≡ suc count = omega arith in rw up refl
 
 pub later_more : (used count x : ℕ) → later used (later count x) ≡ later (used + count) x
 unfolding later
-later_more zero count x = refl
+later_more zero count x = let none : zero + count ≡ count = omega arith in rw none refl
 later_more (suc used) count x = let up : suc used + count ≡ suc (used + count) = omega arith in rw up (ap next (later_more used count x))
 
 -- after so many times so many draws, once more
 pub later_times : (used count x : ℕ) → later used (later (used * count) x) ≡ later (used * (count + 1)) x
-later_times used count x = let more : used + used * count ≡ used * (count + 1) = omega arith in later_more used (used * count) x ∙ ap (λ n. later n x) more
+later_times used count x =
+    let up : count + 1 ≡ suc count = omega arith in
+    let more : used + used * count ≡ used * (count + 1) = rw (up, mul-suc used count) (omega arith) in
+    later_more used (used * count) x ∙ ap (λ n. later n x) more
 
 -- ---- the network
 
--- where none is refused, the edits make this network
-pub unrefused_after : (edits : List Edit) (net after : Network) → unrefused edits net ≡ Ok after → network_after edits net ≡ after
 unrefused_from : (net : Network) (answer : Result Network EditFault) (edits : List Edit) (after : Network) → (answer >>= unrefused edits) ≡ Ok after
     → ((new : Network) → unrefused edits new ≡ Ok after → network_after edits new ≡ after) → network_after edits (changed_or net answer) ≡ after
 unfolding changed_or
 unrefused_from net (Ok new) edits after h go = go new h
-unrefused_from net (Err fault) edits after h go = search rules in h
+unrefused_from net (Err fault) edits after h go = cc h
 
-unfolding (unrefused, network_after)
-unrefused_after [] net after h = search rules
-unrefused_after (edit ∷ edits) net after h = unrefused_from net (apply net edit) edits after h (unrefused_after edits)
+-- where none is refused, the edits make this network
+pub unrefused_after : (edits : List Edit) (net after : Network) → unrefused edits net ≡ Ok after → network_after edits net ≡ after
+unfolding unrefused network_after
+unrefused_after [] net after h = cc h
+unrefused_after (edit ∷ edits) net after h = unrefused_from net (apply net edit) edits after h (λ new so. unrefused_after edits new after so)

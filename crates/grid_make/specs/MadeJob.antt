@@ -1,5 +1,5 @@
 -- The made job: its network, and the scripts of its four workers.
-use Rattle.std.specs.Prelude.{ℕ, pos, ◌+◌, ◌*◌, ◌/◌, ◌%◌, ◌==◌, false, if◌then◌else◌, None, List, [], ◌∷◌, ◌++◌, decimal, codes}
+use Rattle.std.specs.Prelude.{ℕ, pos, ◌*◌, ◌/◌, ◌%◌, ◌==◌, false, if◌then◌else◌, None, List, [], ◌∷◌, ◌++◌, decimal, codes}
 use Rattle.grid_slots.specs.Names.{initial_state}
 use Rattle.grid_core.specs.declared.request.Request.{Request}
 use Rattle.grid_core.specs.declared.request.Request.TheVariants as requests
@@ -29,11 +29,9 @@ next_command size number before = drawn_command size (next before) ∷ []
 -- a worker makes a variant and works in it, with four commands per level of the network, and looks at the first level last
 unfoldable pub script : ℕ → ℕ → ℕ → List Request
 script size w before =
-    requests.CloneVariant initial_state (variant_name w) false
-    ∷ requests.UseVariant (variant_name w)
-    ∷ in_turn (next_command size) next 0 (4 * size) before
-    ++ requests.BusView (level_name 0)
-    ∷ []
+    (requests.CloneVariant initial_state (variant_name w) false ∷ requests.UseVariant (variant_name w) ∷ [])
+    ++ in_turn (next_command size) next 0 (4 * size) before
+    ++ (requests.BusView (level_name 0) ∷ [])
 
 unfoldable pub worker_scripts : ℕ → ℕ → ℕ → List (List Request)
 worker_scripts size w before = script size w before ∷ []

@@ -1,5 +1,5 @@
 -- The network of the made job: the edits that make it of an empty network, in order.
-use Rattle.std.specs.Prelude.{◌≡◌, ℕ, ℤ, pos, ◌+◌, ◌-◌, ◌*◌, ◌%◌, ◌==◌, Bool, true, false, not, if◌then◌else◌, Option, None, Result, Ok, List, [], ◌∷◌, ◌++◌, decimal, codes}
+use Rattle.std.specs.Prelude.{◌≡◌, ℕ, ℤ, pos, ◌+◌, ◌-◌, ◌*◌, ◌%◌, ◌==◌, Bool, true, false, not, if◌then◌else◌, None, Result, Ok, List, [], ◌∷◌, ◌++◌, decimal, codes}
 use Rattle.grid_ids.specs.Refusing.{◌>>=◌}
 use Rattle.grid_kinds.specs.declared.Injection.{Injection}
 use Rattle.grid_kinds.specs.declared.Injection.TheVariants.{Load, Generator}
@@ -98,8 +98,7 @@ outlet_edits true i node1 node2 = internal_edit i node1 node2 ∷ []
 unfoldable pub level_edits : ℕ → ℕ → ℕ → List Edit
 level_edits size i before =
     busbar_edits i
-    ++ coupler_edit i before
-    ∷ in_turn (feeder_edits i) next 0 4 (next before)
+    ++ (coupler_edit i before ∷ in_turn (feeder_edits i) next 0 4 (next before))
     ++ outlet_edits (not (i + 1 == size)) i 0 100
     ++ outlet_edits (not (i == 0)) i 1 101
 

@@ -237,7 +237,8 @@ fn add_level(
     change(structure, coupler(alloc, draws, level)?)?;
     add_feeders(alloc, structure, draws, level)?;
     add_outlet(alloc, structure, level + 1 != size, level, 0, 100)?;
-    add_outlet(alloc, structure, level != 0, level, 1, 101)
+    add_outlet(alloc, structure, level != 0, level, 1, 101)?;
+    Ok(())
 }
 
 /// The levels of a network of this size.

@@ -63,12 +63,7 @@ fn push_commands(
 
 /// The script of a worker.
 #[tactic(auto, unfolding(crate::specs::MadeJob::script))]
-fn make_script(
-    alloc: Global,
-    draws: &mut Draws,
-    size: u32,
-    worker: u32,
-) -> Result<Script, Memory>
+fn make_script(alloc: Global, draws: &mut Draws, size: u32, worker: u32) -> Result<Script, Memory>
     requires some { 1 ≤ size }
     requires few { size ≤ 1000 }
     ensures script { IfOk result (λ script. script ≡ made.script size worker draws.old) }
