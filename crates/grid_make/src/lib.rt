@@ -1,7 +1,8 @@
 //! The made job: a large valid job from a seed and a size.
 #![tactic(auto)]
 
-ghost use Rattle.std.specs.Prelude.{◌≡◌, ◌≤◌, IfOk};
+ghost use Rattle.std.specs.Prelude.{◌≡◌, ◌≤◌, ◌+◌, ◌*◌, IfOk};
+ghost use Rattle.grid_json.specs.Job.{command_total, max_commands};
 ghost use Rattle.grid_make.specs.MadeNetwork.{IsUnrefused};
 ghost use Rattle.grid_make.specs.MadeJob.{made_job};
 
@@ -27,6 +28,8 @@ pub fn make_job(alloc: Global, seed: u32, size: u32) -> Result<Job, Memory>
     requires few { size ≤ 1000 }
     ensures made { IfOk result (λ job. job ≡ made_job seed size) }
     ensures whole { IfOk result (λ job. IsUnrefused seed size job.network) }
+    ensures commands { IfOk result (λ job. command_total job.scripts ≡ 4 * (3 + 4 * size)) }
+    ensures total { IfOk result (λ job. command_total job.scripts ≤ max_commands) }
 {
     let mut draws = Draws::new(seed);
     let network = make_network(alloc, &mut draws, size)?;
