@@ -36,3 +36,7 @@ total_of size from (suc count) before last =
 pub made_total : (seed size : ℕ) → command_total (made_scripts seed size) ≡ 4 * (3 + 4 * size)
 unfolding command_total made_scripts
 made_total seed size = total_of size 0 4 (later (5 * size) seed) (later (4 * size))
+
+pub made_workers : (seed size : ℕ) → length (made_scripts seed size) ≡ 4
+unfolding made_scripts in_turn worker_scripts
+made_workers seed size = refl

@@ -1,7 +1,7 @@
 //! The made job: a large valid job from a seed and a size.
 #![tactic(auto)]
 
-ghost use Rattle.std.specs.Prelude.{◌≡◌, ◌≤◌, ◌+◌, ◌*◌, IfOk};
+ghost use Rattle.std.specs.Prelude.{◌≡◌, ◌≤◌, ◌+◌, ◌*◌, length, IfOk};
 ghost use Rattle.grid_json.specs.Job.{command_total, max_commands};
 ghost use Rattle.grid_make.specs.MadeNetwork.{IsUnrefused};
 ghost use Rattle.grid_make.specs.MadeJob.{made_job};
@@ -28,6 +28,7 @@ pub fn make_job(alloc: Global, seed: u32, size: u32) -> Result<Job, Memory>
     requires few { size ≤ 1000 }
     ensures made { IfOk result (λ job. job ≡ made_job seed size) }
     ensures whole { IfOk result (λ job. IsUnrefused seed size job.network) }
+    ensures workers { IfOk result (λ job. length job.scripts ≡ 4) }
     ensures commands { IfOk result (λ job. command_total job.scripts ≡ 4 * (3 + 4 * size)) }
     ensures total { IfOk result (λ job. command_total job.scripts ≤ max_commands) }
 {
