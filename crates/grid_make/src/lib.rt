@@ -19,8 +19,8 @@ use grid_json::Job;
 use std::alloc::Global;
 
 /// The job of a seed up to 65,536 and a size from 1 to 1,000: a network of so many levels in a row, and four workers,
-/// each with four commands per level on a variant of its own. It has no listeners and no order. None of the edits
-/// that make the network is refused. Memory is the only other answer.
+/// each with four commands per level on a variant of its own. It has no listeners and no order. The network of a job
+/// that is made has every edit, none of them refused. The only other answer is Memory.
 #[tactic(auto, unfolding(crate::specs::MadeJob::made_job))]
 pub fn make_job(alloc: Global, seed: u32, size: u32) -> Result<Job, Memory>
     requires seed { seed ≤ 65536 }

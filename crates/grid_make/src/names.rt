@@ -5,7 +5,7 @@ ghost use Rattle.grid_make.specs.MadeNetwork.{part_name, switch_name, injection_
 use grid_ids::{Id, Memory};
 use std::alloc::Global;
 
-/// The id with this text, which is one.
+/// The id with this text. A text that is no id ends the making as want of memory does; the texts here are ids.
 pub fn id_of(alloc: Global, text: &str) -> Result<Id, Memory>
     ensures { IfOk result (λ id. id ≡ text.now) }
 {

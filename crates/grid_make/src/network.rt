@@ -32,7 +32,7 @@ fn node(number: u32) -> i64
     i64::from(number)
 }
 
-/// Makes an edit, which the structure does not refuse.
+/// Makes an edit. A refusal ends the making as want of memory does, so a job that is made has every edit.
 fn change(structure: &mut Structure, edit: Edit) -> Result<(), Memory>
     ensures { OnOk result (apply structure.old edit ≡ Ok structure.new) }
 {
