@@ -1,0 +1,10 @@
+//! Jobs and networks as JSON text.
+#![tactic(auto)]
+
+mod command;
+mod job;
+mod level;
+mod network;
+mod object;
+
+pub use job::{print_job, print_network};
