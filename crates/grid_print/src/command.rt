@@ -22,18 +22,24 @@ fn one(alloc: Global, verb: &str, name: &str, id: &Id) -> Result<Value, Memory>
 
 /// A command that names an equipment and a side.
 #[tactic(auto, unfolding(crate::specs::Objects::members_from))]
-fn side_command(alloc: Global, verb: &str, id: &Id, side: i64) -> Result<Value, Memory>
-    ensures { IfOk result (λ v. view v ≡ sided verb.now id.now side) }
+fn side_command(alloc: Global, verb: &str, id: &Id, side: &i64) -> Result<Value, Memory>
+    ensures { IfOk result (λ v. view v ≡ sided verb.now id.now side.now) }
 {
-    Ok(json!(in alloc; {"do": verb, "equipment": id.text(), "side": side})?)
+    Ok(json!(in alloc; {"do": verb, "equipment": id.text(), "side": *side})?)
 }
 
 /// An edit of an internal connection.
 #[tactic(auto, unfolding(crate::specs::Objects::members_from))]
-fn internal(alloc: Global, verb: &str, level: &Id, node1: i64, node2: i64) -> Result<Value, Memory>
-    ensures { IfOk result (λ v. view v ≡ internal_edit verb.now level.now node1 node2) }
+fn internal(
+    alloc: Global,
+    verb: &str,
+    level: &Id,
+    node1: &i64,
+    node2: &i64,
+) -> Result<Value, Memory>
+    ensures { IfOk result (λ v. view v ≡ internal_edit verb.now level.now node1.now node2.now) }
 {
-    Ok(json!(in alloc; {"do": verb, "level": level.text(), "node1": node1, "node2": node2})?)
+    Ok(json!(in alloc; {"do": verb, "level": level.text(), "node1": *node1, "node2": *node2})?)
 }
 
 #[tactic(auto, unfolding(crate::specs::Objects::members_from), using(crate::proofs::Fields::members_from_append))]
@@ -226,12 +232,12 @@ impl ToJson for Edit {
                 level,
                 node1,
                 node2,
-            } => internal(alloc, "add_internal", level, *node1, *node2),
+            } => internal(alloc, "add_internal", level, node1, node2),
             Edit::RemoveInternal {
                 level,
                 node1,
                 node2,
-            } => internal(alloc, "remove_internal", level, *node1, *node2),
+            } => internal(alloc, "remove_internal", level, node1, node2),
             Edit::AddInjection {
                 id,
                 level,
@@ -272,8 +278,8 @@ impl ToJson for Request {
             Request::OpenSwitch { id } => one(alloc, "open", "switch", id),
             Request::CloseSwitch { id } => one(alloc, "close", "switch", id),
             Request::RetainSwitch { id, retained } => retain(alloc, id, *retained),
-            Request::Connect { id, side } => side_command(alloc, "connect", id, *side),
-            Request::Disconnect { id, side } => side_command(alloc, "disconnect", id, *side),
+            Request::Connect { id, side } => side_command(alloc, "connect", id, side),
+            Request::Disconnect { id, side } => side_command(alloc, "disconnect", id, side),
             Request::BusBreakerView { level } => one(alloc, "bus_breaker_view", "level", level),
             Request::BusView { level } => one(alloc, "bus_view", "level", level),
             Request::Components { level } => one(alloc, "components", "level", level),

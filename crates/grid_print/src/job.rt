@@ -1,5 +1,6 @@
 // Jobs as JSON text.
 ghost use Rattle.std.specs.Prelude.{◌≡◌, ◌++◌, false, IfOk, OnOk, map};
+ghost use Rattle.std.specs.List.{list_any};
 ghost use Rattle.serde_json.specs.Written.{has_float};
 ghost use Rattle.serde_json.specs.View.{view};
 ghost use Rattle.grid_print.specs.Objects.{word_if, array_of as array};
@@ -79,16 +80,18 @@ fn script_retains(script: &Script) -> bool
     script.slice().iter().any(|request| retains_switch(request))
 }
 
+fn any_retains(scripts: &[Script]) -> bool
+    ensures { result ≡ list_any retains scripts.now }
+{
+    scripts.iter().any(|script| script_retains(script))
+}
+
 /// The least format that has the words of the scripts.
 #[tactic(auto, unfolding(crate::specs::Job::least_format))]
 fn format_of(scripts: &[Script]) -> u32
     ensures { result ≡ least_format scripts.now }
 {
-    if scripts.iter().any(|script| script_retains(script)) {
-        2
-    } else {
-        1
-    }
+    if any_retains(scripts) { 2 } else { 1 }
 }
 
 /// A job's value.

@@ -47,15 +47,16 @@ pub(crate) fn injection_word_of(item: &Injection) -> &'static str
 fn put_two(
     members: &mut Members,
     alloc: Global,
-    names: (&str, &str),
-    first: &i64,
-    second: &i64,
+    name1: &str,
+    value1: &i64,
+    name2: &str,
+    value2: &i64,
 ) -> Result<(), Memory>
     ensures { OnOk result (members_view members.new.entries
-        ≡ members_from (members_view members.old.entries) ((names.0.now, whole first.now) ∷ (names.1.now, whole second.now) ∷ [])) }
+        ≡ members_from (members_view members.old.entries) ((name1.now, whole value1.now) ∷ (name2.now, whole value2.now) ∷ [])) }
 {
-    put(members, alloc, names.0, first)?;
-    put(members, alloc, names.1, second)
+    put(members, alloc, name1, value1)?;
+    put(members, alloc, name2, value2)
 }
 
 /// Puts the members of an injection's kind.
@@ -65,15 +66,15 @@ pub(crate) fn put_item(members: &mut Members, alloc: Global, item: &Injection) -
         ≡ members_from (members_view members.old.entries) (injection_fields item.now)) }
 {
     match item {
-        Injection::Load { p0, q0 } => put_two(members, alloc, ("p0", "q0"), p0, q0),
+        Injection::Load { p0, q0 } => put_two(members, alloc, "p0", p0, "q0", q0),
         Injection::Generator {
             target_p,
             target_v,
             min_p,
             max_p,
         } => {
-            put_two(members, alloc, ("target_p", "target_v"), target_p, target_v)?;
-            put_two(members, alloc, ("min_p", "max_p"), min_p, max_p)
+            put_two(members, alloc, "target_p", target_p, "target_v", target_v)?;
+            put_two(members, alloc, "min_p", min_p, "max_p", max_p)
         }
         Injection::Battery {
             target_p,
@@ -81,8 +82,8 @@ pub(crate) fn put_item(members: &mut Members, alloc: Global, item: &Injection) -
             min_p,
             max_p,
         } => {
-            put_two(members, alloc, ("target_p", "target_q"), target_p, target_q)?;
-            put_two(members, alloc, ("min_p", "max_p"), min_p, max_p)
+            put_two(members, alloc, "target_p", target_p, "target_q", target_q)?;
+            put_two(members, alloc, "min_p", min_p, "max_p", max_p)
         }
         Injection::ShuntCompensator {
             section_count,
@@ -90,8 +91,9 @@ pub(crate) fn put_item(members: &mut Members, alloc: Global, item: &Injection) -
         } => put_two(
             members,
             alloc,
-            ("section_count", "max_sections"),
+            "section_count",
             section_count,
+            "max_sections",
             max_sections,
         ),
         Injection::StaticVarCompensator { target_q } => put(members, alloc, "target_q", target_q),

@@ -122,11 +122,12 @@ fn levels_end(network: &Structure, substation: u32, from: u32) -> u32
     requires begin { from ≡ levels_before substation network.now.substations }
     ensures { result ≡ levels_before (substation + 1) network.now.substations }
 {
-    let mut place = from;
-    while place < network.level_count() && network.substation_of(place) == substation {
-        place += 1;
+    for place in from..network.level_count() {
+        if network.substation_of(place) != substation {
+            return place;
+        }
     }
-    place
+    network.level_count()
 }
 
 /// Where the transformers of a substation end that begin at a place.
@@ -137,11 +138,12 @@ fn transformers_end(network: &Structure, substation: u32, from: u32) -> u32
 {
     network.keeps();
     let id = network.substation_id(substation);
-    let mut place = from;
-    while place < network.branch_count() && stands_in(network.branch(place), id) {
-        place += 1;
+    for place in from..network.branch_count() {
+        if !stands_in(network.branch(place), id) {
+            return place;
+        }
     }
-    place
+    network.branch_count()
 }
 
 #[tactic(auto, unfolding(crate::specs::Objects::members_from))]
