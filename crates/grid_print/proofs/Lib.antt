@@ -1,3 +1,4 @@
 pub mod Fields
 pub mod Wholes
+pub mod Rereading
 pub mod Standing

@@ -3,3 +3,4 @@ pub mod Network
 pub mod Cutting
 pub mod Command
 pub mod Job
+pub mod Laws

@@ -3,8 +3,10 @@
 
 mod command;
 mod job;
+mod laws;
 mod level;
 mod network;
 mod object;
 
 pub use job::{print_job, print_network};
+pub use laws::parts_are_read;
