@@ -1,22 +1,73 @@
 -- What is written is read back.
-use Rattle.std.specs.Prelude.{ℕ, ℤ, pos, ◌^◌, ◌<◌, ◌≡◌, List, None, Ok}
+use Rattle.std.specs.Prelude.{ℕ, ℤ, pos, ◌^◌, ◌<◌, ◌≡◌, List, [], ◌∷◌, map, int_lt, true, None, Result, Ok, ⊤}
 use Rattle.grid_ids.specs.Fault.{id_fault}
+use Rattle.grid_kinds.specs.declared.Injection.{Injection}
+use Rattle.grid_kinds.specs.declared.Injection.TheVariants as injections
 use Rattle.grid_level.specs.declared.Switch.{Switch}
 use Rattle.grid_level.specs.declared.Internal.{Internal}
+use Rattle.grid_structure.specs.declared.End.{End}
 use Rattle.grid_json.specs.declared.format.Format.{Format}
-use Rattle.grid_json.specs.Network.{busbar_at, switch_at, internal_at}
-use Rattle.grid_print.specs.Network.{busbar_value, switch_value, internal_value}
+use Rattle.grid_json.specs.declared.network.SwitchDraft.{SwitchDraft}
+use Rattle.grid_json.specs.declared.network.InternalDraft.{InternalDraft}
+use Rattle.grid_json.specs.Reading.{array_at}
+use Rattle.grid_json.specs.Network.{busbar_at, switch_at, internal_at, injection_at, end_at}
+use Rattle.grid_print.specs.Objects.{array_of}
+use Rattle.grid_print.specs.Network.{busbar_value, switch_value, internal_value, injection_value, end_value}
+
+-- a text that is an id
+abbrev pub IsId : List ℕ → Type 0
+IsId id = id_fault id ≡ None
+
+-- a number that 64 bits with a sign hold
+abbrev pub IsWhole : ℤ → Type 0
+IsWhole z = int_lt z (pos (2 ^ 63)) ≡ true
+
+-- ---- the parts of a level
 
 -- a busbar section at its node
 abbrev pub BusbarsAreRead : Type 0
-BusbarsAreRead = (id : List ℕ) (node : ℕ) → id_fault id ≡ None → node < 2 ^ 63 → busbar_at (busbar_value id node) ≡ Ok (record { id = id; node = pos node })
+BusbarsAreRead = (id : List ℕ) (node : ℕ) → IsId id → node < 2 ^ 63 → busbar_at (busbar_value id node) ≡ Ok (record { id = id; node = pos node })
 
--- a switch with its kind, its nodes and its flags
+abbrev pub switch_draft : Switch → SwitchDraft
+switch_draft s = record { id = s.id; kind = s.kind; node1 = pos s.node1; node2 = pos s.node2; opened = s.opened; retained = s.retained; fictitious = s.fictitious }
+
+abbrev pub IsReadableSwitch : Switch → Type 0
+IsReadableSwitch s = IsId s.id × (s.node1 < 2 ^ 63) × (s.node2 < 2 ^ 63)
+
+abbrev pub AreReadableSwitches : List Switch → Type 0
+AreReadableSwitches [] = ⊤
+AreReadableSwitches (s ∷ switches) = IsReadableSwitch s × AreReadableSwitches switches
+
+-- switches with their kinds, their nodes and their flags, in order
 abbrev pub SwitchesAreRead : Type 0
-SwitchesAreRead = (format : Format) (s : Switch) → id_fault s.id ≡ None → s.node1 < 2 ^ 63 → s.node2 < 2 ^ 63
-    → switch_at format (switch_value s)
-    ≡ Ok (record { id = s.id; kind = s.kind; node1 = pos s.node1; node2 = pos s.node2; opened = s.opened; retained = s.retained; fictitious = s.fictitious })
+SwitchesAreRead = (format : Format) (switches : List Switch) → AreReadableSwitches switches → array_at (switch_at format) (array_of switch_value switches) ≡ Ok (map switch_draft switches)
 
--- an internal connection with its nodes
+abbrev pub internal_draft : Internal → InternalDraft
+internal_draft i = record { node1 = pos i.node1; node2 = pos i.node2 }
+
+abbrev pub AreReadableInternals : List Internal → Type 0
+AreReadableInternals [] = ⊤
+AreReadableInternals (i ∷ internals) = ((i.node1 < 2 ^ 63) × (i.node2 < 2 ^ 63)) × AreReadableInternals internals
+
+-- internal connections with their nodes, in order
 abbrev pub InternalsAreRead : Type 0
-InternalsAreRead = (i : Internal) → i.node1 < 2 ^ 63 → i.node2 < 2 ^ 63 → internal_at (internal_value i) ≡ Ok (record { node1 = pos i.node1; node2 = pos i.node2 })
+InternalsAreRead = (internals : List Internal) → AreReadableInternals internals → array_at internal_at (array_of internal_value internals) ≡ Ok (map internal_draft internals)
+
+-- the numbers of an injection
+abbrev pub AreWhole : Injection → Type 0
+AreWhole (injections.Load p0 q0) = IsWhole p0 × IsWhole q0
+AreWhole (injections.Generator target_p target_v min_p max_p) = IsWhole target_p × IsWhole target_v × IsWhole min_p × IsWhole max_p
+AreWhole (injections.Battery target_p target_q min_p max_p) = IsWhole target_p × IsWhole target_q × IsWhole min_p × IsWhole max_p
+AreWhole (injections.ShuntCompensator section_count max_sections) = IsWhole section_count × IsWhole max_sections
+AreWhole (injections.StaticVarCompensator target_q) = IsWhole target_q
+
+-- an injection at its node
+abbrev pub InjectionsAreRead : Type 0
+InjectionsAreRead = (format : Format) (id : List ℕ) (node : ℕ) (read : Injection) → IsId id → node < 2 ^ 63 → AreWhole read
+    → injection_at format (injection_value id node read) ≡ Ok (record { id = id; node = pos node; item = read })
+
+-- ---- branches
+
+-- an end of a branch
+abbrev pub EndsAreRead : Type 0
+EndsAreRead = (e : End) → IsId e.level → IsWhole e.node → end_at (end_value e) ≡ Ok e

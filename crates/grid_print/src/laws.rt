@@ -1,9 +1,17 @@
 // Laws of what is written.
-ghost use Rattle.grid_print.specs.Laws.{BusbarsAreRead, InternalsAreRead};
+ghost use Rattle.grid_print.specs.Laws.{BusbarsAreRead, SwitchesAreRead, InternalsAreRead, InjectionsAreRead, EndsAreRead};
 
-/// Parts of a level that are written are read back.
-#[tactic(auto, using(crate::proofs::Rereading::busbars_are_read, crate::proofs::Rereading::internals_are_read))]
+/// Parts of a level that are written are read back, each as itself.
+#[tactic(auto, using(crate::proofs::Rereading::busbars_are_read, crate::proofs::Rereading::switches_are_read, crate::proofs::Rereading::internals_are_read, crate::proofs::Rereading::injections_are_read))]
 pub fn parts_are_read()
     ensures busbars { BusbarsAreRead }
+    ensures switches { SwitchesAreRead }
     ensures internals { InternalsAreRead }
+    ensures injections { InjectionsAreRead }
+{}
+
+/// The ends of branches that are written are read back.
+#[tactic(auto, using(crate::proofs::Rereading::ends_are_read))]
+pub fn ends_are_read()
+    ensures { EndsAreRead }
 {}
