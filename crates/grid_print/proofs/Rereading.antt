@@ -1,5 +1,10 @@
 -- Each part that is written is read back.
-use Rattle.std.proofs.Common.{◌≡◌, ◌<◌, ◌^◌, ℕ, suc, ℤ, pos, negsuc, List, [], ◌∷◌, map, None, Result, Ok, refl}
+use Rattle.std.proofs.Common.{◌≡◌, ◌<◌, ◌^◌, ℕ, suc, ℤ, pos, negsuc, List, [], ◌∷◌, ◌++◌, map, Option, Some, None, Ok, refl}
+use Rattle.std.specs.List.{flat_map}
+use Rattle.grid_level.specs.VoltageLevel.{VoltageLevel}
+use Rattle.grid_level.specs.declared.Placed.{Placed}
+use Rattle.grid_level.specs.declared.Stand.{Stand}
+use Rattle.grid_level.specs.declared.Stand.TheVariants.{Busbar, Feeder, BranchEnd}
 use Rattle.std.specs.Prelude.{⊤, codes}
 use Rattle.std.proofs.lemmas.Bool.{lt-ltb}
 use Rattle.serde_json.specs.Data.{Data}
@@ -15,10 +20,10 @@ use Rattle.grid_json.specs.declared.fault.Fault.{Fault}
 use Rattle.grid_json.specs.declared.format.Format.{Format}
 use Rattle.grid_json.specs.Reading.{items_at, whole_at}
 use Rattle.grid_json.specs.Kinds.{switch_kind_at}
-use Rattle.grid_json.specs.Network.{busbar_at, switch_at, internal_at, injection_at, item_at, end_at}
+use Rattle.grid_json.specs.Network.{busbar_at, switch_at, internal_at, injection_at, item_at, level_at, end_at}
 use Rattle.grid_print.specs.Objects.{members_from, whole}
-use Rattle.grid_print.specs.Network.{switch_word, switch_value, internal_value, end_value}
-use Rattle.grid_print.specs.Laws.{IsId, IsWhole, BusbarsAreRead, switch_draft, IsReadableSwitch, AreReadableSwitches, SwitchesAreRead, internal_draft, AreReadableInternals, InternalsAreRead, AreWhole, InjectionsAreRead, EndsAreRead}
+use Rattle.grid_print.specs.Network.{switch_value, internal_value, end_value, busbar_of, injection_of, busbars_value, injections_value, level_value}
+use Rattle.grid_print.specs.Laws.{IsId, IsWhole, BusbarsAreRead, switch_draft, IsReadableSwitch, AreReadableSwitches, SwitchesAreRead, internal_draft, AreReadableInternals, InternalsAreRead, AreWhole, InjectionsAreRead, EndsAreRead, busbar_draft_of, injection_draft_of, stand_is_whole, AreReadablePlaced, IsWholeIfGiven, IsReadableLevel, level_draft, LevelsAreRead}
 
 -- a number
 whole_read : (z : ℤ) → IsWhole z → whole_at (whole z) ≡ Ok z
@@ -67,6 +72,48 @@ injections_are_read format id node (injections.ShuntCompensator section_count ma
     rw (valid, lt-ltb node (2 ^ 63) small, whole_read section_count fits.0, whole_read max_sections fits.1) refl
 injections_are_read format id node (injections.StaticVarCompensator target_q) valid small fits =
     rw (valid, lt-ltb node (2 ^ 63) small, whole_read target_q fits) refl
+
+busbars_from : (n : ℕ) (placed : List Placed) → AreReadablePlaced placed
+    → items_at busbar_at n (items_of (flat_map (λ p. busbar_of p.terminal.equipment p.node p.stand) placed)) ≡ Ok (flat_map (λ p. busbar_draft_of p.terminal.equipment p.node p.stand) placed)
+unfolding items_at
+busbars_from n [] fit = refl
+busbars_from n (p ∷ placed) fit = by p.stand (λ m. busbars_from m placed fit.1)
+  where
+    by : (stand : Stand)
+        → ((m : ℕ) → items_at busbar_at m (items_of (flat_map (λ p. busbar_of p.terminal.equipment p.node p.stand) placed)) ≡ Ok (flat_map (λ p. busbar_draft_of p.terminal.equipment p.node p.stand) placed))
+        → items_at busbar_at n (items_of (busbar_of p.terminal.equipment p.node stand ++ flat_map (λ p. busbar_of p.terminal.equipment p.node p.stand) placed))
+        ≡ Ok (busbar_draft_of p.terminal.equipment p.node stand ++ flat_map (λ p. busbar_draft_of p.terminal.equipment p.node p.stand) placed)
+    by Busbar again = rw (busbars_are_read p.terminal.equipment p.node fit.0.0 fit.0.1, again (suc n)) refl
+    by (Feeder read) again = again n
+    by BranchEnd again = again n
+
+injections_from : (format : Format) (n : ℕ) (placed : List Placed) → AreReadablePlaced placed
+    → items_at (injection_at format) n (items_of (flat_map (λ p. injection_of p.terminal.equipment p.node p.stand) placed)) ≡ Ok (flat_map (λ p. injection_draft_of p.terminal.equipment p.node p.stand) placed)
+unfolding items_at
+injections_from format n [] fit = refl
+injections_from format n (p ∷ placed) fit = by p.stand fit.0.2 (λ m. injections_from format m placed fit.1)
+  where
+    by : (stand : Stand) → stand_is_whole stand
+        → ((m : ℕ) → items_at (injection_at format) m (items_of (flat_map (λ p. injection_of p.terminal.equipment p.node p.stand) placed)) ≡ Ok (flat_map (λ p. injection_draft_of p.terminal.equipment p.node p.stand) placed))
+        → items_at (injection_at format) n (items_of (injection_of p.terminal.equipment p.node stand ++ flat_map (λ p. injection_of p.terminal.equipment p.node p.stand) placed))
+        ≡ Ok (injection_draft_of p.terminal.equipment p.node stand ++ flat_map (λ p. injection_draft_of p.terminal.equipment p.node p.stand) placed)
+    by Busbar whole again = again n
+    by (Feeder read) whole again = rw (injections_are_read format p.terminal.equipment p.node read fit.0.0 fit.0.1 whole, again (suc n)) refl
+    by BranchEnd whole again = again n
+
+level_read : (format : Format) (l : VoltageLevel) (low high : Option ℤ) → l.low_v ≡ low → l.high_v ≡ high → IsWholeIfGiven low → IsWholeIfGiven high → IsReadableLevel l → level_at format (level_value l) ≡ Ok (level_draft l)
+unfolding level_at level_value busbars_value injections_value members_from
+level_read format l None None is1 is2 low high fits =
+    rw (is1, is2, fits.id, whole_read l.nominal_v fits.nominal, busbars_from 0 l.placed fits.placed, switches_from format 0 l.switches fits.switches, internals_from 0 l.internals fits.internals, injections_from format 0 l.placed fits.placed) refl
+level_read format l (Some a) None is1 is2 low high fits =
+    rw (is1, is2, fits.id, whole_read l.nominal_v fits.nominal, whole_read a low, busbars_from 0 l.placed fits.placed, switches_from format 0 l.switches fits.switches, internals_from 0 l.internals fits.internals, injections_from format 0 l.placed fits.placed) refl
+level_read format l None (Some b) is1 is2 low high fits =
+    rw (is1, is2, fits.id, whole_read l.nominal_v fits.nominal, whole_read b high, busbars_from 0 l.placed fits.placed, switches_from format 0 l.switches fits.switches, internals_from 0 l.internals fits.internals, injections_from format 0 l.placed fits.placed) refl
+level_read format l (Some a) (Some b) is1 is2 low high fits =
+    rw (is1, is2, fits.id, whole_read l.nominal_v fits.nominal, whole_read a low, whole_read b high, busbars_from 0 l.placed fits.placed, switches_from format 0 l.switches fits.switches, internals_from 0 l.internals fits.internals, injections_from format 0 l.placed fits.placed) refl
+
+pub levels_are_read : LevelsAreRead
+levels_are_read format l fits = level_read format l l.low_v l.high_v refl refl fits.low fits.high fits
 
 pub ends_are_read : EndsAreRead
 unfolding end_at end_value members_from

@@ -1,18 +1,25 @@
 -- What is written is read back.
-use Rattle.std.specs.Prelude.{ℕ, ℤ, pos, ◌^◌, ◌<◌, ◌≡◌, List, [], ◌∷◌, map, int_lt, true, None, Result, Ok, ⊤}
+use Rattle.std.specs.Prelude.{ℕ, ℤ, pos, ◌^◌, ◌<◌, ◌≡◌, List, [], ◌∷◌, map, flat_map, int_lt, true, Option, Some, None, Result, Ok, ⊤}
 use Rattle.grid_ids.specs.Fault.{id_fault}
 use Rattle.grid_kinds.specs.declared.Injection.{Injection}
 use Rattle.grid_kinds.specs.declared.Injection.TheVariants as injections
+use Rattle.grid_level.specs.VoltageLevel.{VoltageLevel}
+use Rattle.grid_level.specs.declared.Placed.{Placed}
+use Rattle.grid_level.specs.declared.Stand.{Stand}
+use Rattle.grid_level.specs.declared.Stand.TheVariants.{Busbar, Feeder, BranchEnd}
 use Rattle.grid_level.specs.declared.Switch.{Switch}
 use Rattle.grid_level.specs.declared.Internal.{Internal}
 use Rattle.grid_structure.specs.declared.End.{End}
 use Rattle.grid_json.specs.declared.format.Format.{Format}
+use Rattle.grid_json.specs.declared.network.BusbarDraft.{BusbarDraft}
+use Rattle.grid_json.specs.declared.network.InjectionDraft.{InjectionDraft}
+use Rattle.grid_json.specs.declared.network.LevelDraft.{LevelDraft}
 use Rattle.grid_json.specs.declared.network.SwitchDraft.{SwitchDraft}
 use Rattle.grid_json.specs.declared.network.InternalDraft.{InternalDraft}
 use Rattle.grid_json.specs.Reading.{array_at}
-use Rattle.grid_json.specs.Network.{busbar_at, switch_at, internal_at, injection_at, end_at}
+use Rattle.grid_json.specs.Network.{busbar_at, switch_at, internal_at, injection_at, level_at, end_at}
 use Rattle.grid_print.specs.Objects.{array_of}
-use Rattle.grid_print.specs.Network.{busbar_value, switch_value, internal_value, injection_value, end_value}
+use Rattle.grid_print.specs.Network.{busbar_value, switch_value, internal_value, injection_value, level_value, end_value}
 
 -- a text that is an id
 abbrev pub IsId : List ℕ → Type 0
@@ -65,6 +72,54 @@ AreWhole (injections.StaticVarCompensator target_q) = IsWhole target_q
 abbrev pub InjectionsAreRead : Type 0
 InjectionsAreRead = (format : Format) (id : List ℕ) (node : ℕ) (read : Injection) → IsId id → node < 2 ^ 63 → AreWhole read
     → injection_at format (injection_value id node read) ≡ Ok (record { id = id; node = pos node; item = read })
+
+abbrev pub busbar_draft_of : List ℕ → ℕ → Stand → List BusbarDraft
+busbar_draft_of id node Busbar = record { id = id; node = pos node } ∷ []
+busbar_draft_of id node (Feeder read) = []
+busbar_draft_of id node BranchEnd = []
+
+abbrev pub injection_draft_of : List ℕ → ℕ → Stand → List InjectionDraft
+injection_draft_of id node Busbar = []
+injection_draft_of id node (Feeder read) = record { id = id; node = pos node; item = read } ∷ []
+injection_draft_of id node BranchEnd = []
+
+abbrev pub stand_is_whole : Stand → Type 0
+stand_is_whole Busbar = ⊤
+stand_is_whole (Feeder read) = AreWhole read
+stand_is_whole BranchEnd = ⊤
+
+abbrev pub AreReadablePlaced : List Placed → Type 0
+AreReadablePlaced [] = ⊤
+AreReadablePlaced (p ∷ placed) = (IsId p.terminal.equipment × (p.node < 2 ^ 63) × stand_is_whole p.stand) × AreReadablePlaced placed
+
+abbrev pub IsWholeIfGiven : Option ℤ → Type 0
+IsWholeIfGiven None = ⊤
+IsWholeIfGiven (Some z) = IsWhole z
+
+pub record IsReadableLevel (l : VoltageLevel) : Type 0 where
+  pub id : IsId l.id
+  pub nominal : IsWhole l.nominal_v
+  pub low : IsWholeIfGiven l.low_v
+  pub high : IsWholeIfGiven l.high_v
+  pub placed : AreReadablePlaced l.placed
+  pub switches : AreReadableSwitches l.switches
+  pub internals : AreReadableInternals l.internals
+
+abbrev pub level_draft : VoltageLevel → LevelDraft
+level_draft l = record {
+  id = l.id;
+  nominal_v = l.nominal_v;
+  low_v = l.low_v;
+  high_v = l.high_v;
+  busbars = flat_map (λ p. busbar_draft_of p.terminal.equipment p.node p.stand) l.placed;
+  switches = map switch_draft l.switches;
+  internals = map internal_draft l.internals;
+  injections = flat_map (λ p. injection_draft_of p.terminal.equipment p.node p.stand) l.placed;
+}
+
+-- a level with its parts
+abbrev pub LevelsAreRead : Type 0
+LevelsAreRead = (format : Format) (l : VoltageLevel) → IsReadableLevel l → level_at format (level_value l) ≡ Ok (level_draft l)
 
 -- ---- branches
 

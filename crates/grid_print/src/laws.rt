@@ -1,5 +1,5 @@
 // Laws of what is written.
-ghost use Rattle.grid_print.specs.Laws.{BusbarsAreRead, SwitchesAreRead, InternalsAreRead, InjectionsAreRead, EndsAreRead};
+ghost use Rattle.grid_print.specs.Laws.{BusbarsAreRead, SwitchesAreRead, InternalsAreRead, InjectionsAreRead, LevelsAreRead, EndsAreRead};
 
 /// Parts of a level that are written are read back, each as itself.
 #[tactic(auto, using(crate::proofs::Rereading::busbars_are_read, crate::proofs::Rereading::switches_are_read, crate::proofs::Rereading::internals_are_read, crate::proofs::Rereading::injections_are_read))]
@@ -14,4 +14,10 @@ pub fn parts_are_read()
 #[tactic(auto, using(crate::proofs::Rereading::ends_are_read))]
 pub fn ends_are_read()
     ensures { EndsAreRead }
+{}
+
+/// A level that is written is read back, with its parts.
+#[tactic(auto, using(crate::proofs::Rereading::levels_are_read))]
+pub fn levels_are_read()
+    ensures { LevelsAreRead }
 {}
