@@ -9,17 +9,28 @@ use Rattle.grid_level.specs.declared.Stand.{Stand}
 use Rattle.grid_level.specs.declared.Stand.TheVariants.{Busbar, Feeder, BranchEnd}
 use Rattle.grid_level.specs.declared.Switch.{Switch}
 use Rattle.grid_level.specs.declared.Internal.{Internal}
+use Rattle.grid_structure.specs.Network.{Network, Substation}
+use Rattle.grid_structure.specs.declared.NamedBranch.{NamedBranch}
+use Rattle.grid_structure.specs.declared.Branch.{Branch}
+use Rattle.grid_structure.specs.declared.Branch.TheVariants.{Line, TwoWindings, ThreeWindings}
 use Rattle.grid_structure.specs.declared.End.{End}
 use Rattle.grid_json.specs.declared.format.Format.{Format}
 use Rattle.grid_json.specs.declared.network.BusbarDraft.{BusbarDraft}
 use Rattle.grid_json.specs.declared.network.InjectionDraft.{InjectionDraft}
 use Rattle.grid_json.specs.declared.network.LevelDraft.{LevelDraft}
+use Rattle.grid_json.specs.declared.network.TransformerDraft.{TransformerDraft}
+use Rattle.grid_json.specs.declared.network.Windings.TheVariants as windings
+use Rattle.grid_json.specs.declared.network.LineDraft.{LineDraft}
+use Rattle.grid_json.specs.declared.network.SubstationDraft.{SubstationDraft}
+use Rattle.grid_json.specs.declared.network.NetworkDraft.{NetworkDraft}
 use Rattle.grid_json.specs.declared.network.SwitchDraft.{SwitchDraft}
 use Rattle.grid_json.specs.declared.network.InternalDraft.{InternalDraft}
 use Rattle.grid_json.specs.Reading.{array_at}
-use Rattle.grid_json.specs.Network.{busbar_at, switch_at, internal_at, injection_at, level_at, end_at}
+use Rattle.grid_json.specs.Network.{busbar_at, switch_at, internal_at, injection_at, level_at, end_at, network_at}
+use Rattle.grid_json.specs.Job.{draft_at}
 use Rattle.grid_print.specs.Objects.{array_of}
-use Rattle.grid_print.specs.Network.{busbar_value, switch_value, internal_value, injection_value, level_value, end_value}
+use Rattle.grid_print.specs.Network.{busbar_value, switch_value, internal_value, injection_value, level_value, end_value, network_value}
+use Rattle.grid_print.specs.Job.{job_value}
 
 -- a text that is an id
 abbrev pub IsId : List ℕ → Type 0
@@ -126,3 +137,69 @@ LevelsAreRead = (format : Format) (l : VoltageLevel) → IsReadableLevel l → l
 -- an end of a branch
 abbrev pub EndsAreRead : Type 0
 EndsAreRead = (e : End) → IsId e.level → IsWhole e.node → end_at (end_value e) ≡ Ok e
+
+abbrev pub IsReadableEnd : End → Type 0
+IsReadableEnd e = IsId e.level × IsWhole e.node
+
+-- a transformer with its ends and its rated voltages
+abbrev pub IsReadableTransformer : Branch → Type 0
+IsReadableTransformer (Line end1 end2) = ⊥
+IsReadableTransformer (TwoWindings substation end1 end2 rated_u1 rated_u2) = IsReadableEnd end1 × (IsReadableEnd end2 × (IsWhole rated_u1 × IsWhole rated_u2))
+IsReadableTransformer (ThreeWindings substation end1 end2 end3 rated_u1 rated_u2 rated_u3) =
+    IsReadableEnd end1 × (IsReadableEnd end2 × (IsReadableEnd end3 × (IsWhole rated_u1 × (IsWhole rated_u2 × IsWhole rated_u3))))
+
+abbrev pub IsReadableLine : Branch → Type 0
+IsReadableLine (Line end1 end2) = IsReadableEnd end1 × IsReadableEnd end2
+IsReadableLine (TwoWindings substation end1 end2 rated_u1 rated_u2) = ⊥
+IsReadableLine (ThreeWindings substation end1 end2 end3 rated_u1 rated_u2 rated_u3) = ⊥
+
+abbrev pub AreReadableTransformers : List NamedBranch → Type 0
+AreReadableTransformers [] = ⊤
+AreReadableTransformers (b ∷ branches) = (IsId b.id × IsReadableTransformer b.shape) × AreReadableTransformers branches
+
+abbrev pub AreReadableLines : List NamedBranch → Type 0
+AreReadableLines [] = ⊤
+AreReadableLines (b ∷ branches) = (IsId b.id × IsReadableLine b.shape) × AreReadableLines branches
+
+abbrev pub transformer_draft_of : List ℕ → Branch → List TransformerDraft
+transformer_draft_of id (Line end1 end2) = []
+transformer_draft_of id (TwoWindings substation end1 end2 rated_u1 rated_u2) =
+    record { id = id; windings = windings.Two (record { first = end1; second = end2 }) (record { first = rated_u1; second = rated_u2 }) } ∷ []
+transformer_draft_of id (ThreeWindings substation end1 end2 end3 rated_u1 rated_u2 rated_u3) =
+    record { id = id; windings = windings.Three (record { first = end1; second = end2; third = end3 }) (record { first = rated_u1; second = rated_u2; third = rated_u3 }) } ∷ []
+
+abbrev pub line_draft_of : List ℕ → Branch → List LineDraft
+line_draft_of id (Line end1 end2) = record { id = id; ends = record { first = end1; second = end2 } } ∷ []
+line_draft_of id (TwoWindings substation end1 end2 rated_u1 rated_u2) = []
+line_draft_of id (ThreeWindings substation end1 end2 end3 rated_u1 rated_u2 rated_u3) = []
+
+-- ---- networks
+
+abbrev pub AreReadableLevels : List VoltageLevel → Type 0
+AreReadableLevels [] = ⊤
+AreReadableLevels (l ∷ levels) = IsReadableLevel l × AreReadableLevels levels
+
+abbrev pub AreReadableSubstations : List Substation → Type 0
+AreReadableSubstations [] = ⊤
+AreReadableSubstations (s ∷ substations) = (IsId s.id × (AreReadableLevels s.levels × AreReadableTransformers s.transformers)) × AreReadableSubstations substations
+
+-- ids are ids, numbers fit, and transformers and lines stand each in their own lists
+pub record IsReadable (net : Network) : Type 0 where
+  pub id : IsId net.id
+  pub substations : AreReadableSubstations net.substations
+  pub lines : AreReadableLines net.lines
+
+abbrev pub substation_draft : Substation → SubstationDraft
+substation_draft s = record { id = s.id; levels = map level_draft s.levels; transformers = flat_map (λ b. transformer_draft_of b.id b.shape) s.transformers }
+
+-- what a network is before it is loaded
+abbrev pub network_draft : Network → NetworkDraft
+network_draft net = record { id = net.id; substations = map substation_draft net.substations; lines = flat_map (λ b. line_draft_of b.id b.shape) net.lines }
+
+-- the first pass over a network that was written gives the network again, as it is before it is loaded
+abbrev pub NetworksAreRead : Type 0
+NetworksAreRead = (format : Format) (net : Network) → IsReadable net → network_at format (network_value net) ≡ Ok (network_draft net)
+
+-- and over the job of that network alone, a job with no listeners, no workers and no order
+abbrev pub NetworkJobsAreRead : Type 0
+NetworkJobsAreRead = (net : Network) → IsReadable net → draft_at (job_value net [] [] None) ≡ Ok (record { network = network_draft net; filters = []; scripts = []; order = None })

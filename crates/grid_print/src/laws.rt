@@ -1,5 +1,5 @@
 // Laws of what is written.
-ghost use Rattle.grid_print.specs.Laws.{BusbarsAreRead, SwitchesAreRead, InternalsAreRead, InjectionsAreRead, LevelsAreRead, EndsAreRead};
+ghost use Rattle.grid_print.specs.Laws.{BusbarsAreRead, SwitchesAreRead, InternalsAreRead, InjectionsAreRead, LevelsAreRead, EndsAreRead, NetworksAreRead, NetworkJobsAreRead};
 
 /// Parts of a level that are written are read back, each as itself.
 #[tactic(auto, using(crate::proofs::Rereading::busbars_are_read, crate::proofs::Rereading::switches_are_read, crate::proofs::Rereading::internals_are_read, crate::proofs::Rereading::injections_are_read))]
@@ -20,4 +20,12 @@ pub fn ends_are_read()
 #[tactic(auto, using(crate::proofs::Rereading::levels_are_read))]
 pub fn levels_are_read()
     ensures { LevelsAreRead }
+{}
+
+/// The first pass over a network that is written gives the network again, before it is loaded: alone, and in the job of
+/// that network.
+#[tactic(auto, using(crate::proofs::Rereading::networks_are_read, crate::proofs::Rereading::network_jobs_are_read))]
+pub fn networks_are_read()
+    ensures networks { NetworksAreRead }
+    ensures jobs { NetworkJobsAreRead }
 {}
