@@ -5,30 +5,25 @@ use Rattle.grid_level.specs.VoltageLevel.{VoltageLevel}
 use Rattle.grid_level.specs.declared.Placed.{Placed}
 use Rattle.grid_level.specs.declared.Stand.{Stand}
 use Rattle.grid_level.specs.declared.Stand.TheVariants.{Busbar, Feeder, BranchEnd}
-use Rattle.std.specs.Prelude.{⊤, codes}
 use Rattle.std.proofs.lemmas.Bool.{lt-ltb}
-use Rattle.serde_json.specs.Data.{Data}
 use Rattle.serde_json.specs.View.{items_of}
-use Rattle.grid_kinds.specs.declared.Injection.{Injection}
 use Rattle.grid_kinds.specs.declared.Injection.TheVariants as injections
 use Rattle.grid_kinds.specs.declared.SwitchKind.{SwitchKind}
 use Rattle.grid_kinds.specs.declared.SwitchKind.TheVariants.{Breaker, Disconnector, LoadBreakSwitch}
 use Rattle.grid_level.specs.declared.Switch.{Switch}
 use Rattle.grid_level.specs.declared.Internal.{Internal}
 use Rattle.grid_structure.specs.declared.End.{End}
-use Rattle.grid_json.specs.declared.fault.Fault.{Fault}
 use Rattle.grid_json.specs.declared.format.Format.{Format}
 use Rattle.grid_json.specs.Reading.{items_at, whole_at}
-use Rattle.grid_json.specs.Kinds.{switch_kind_at}
 use Rattle.grid_json.specs.Network.{busbar_at, switch_at, internal_at, injection_at, item_at, level_at, end_at, two_of, both, three_of, all_three, windings_at, transformer_at, line_at, substation_at, network_at}
 use Rattle.grid_print.specs.Objects.{members_from, whole}
 use Rattle.grid_print.specs.Network.{switch_value, internal_value, end_value, busbar_of, injection_of, busbars_value, injections_value, level_value, branch_value, named_branch_value, substation_value, network_value}
-use Rattle.grid_print.specs.Laws.{IsId, IsWhole, BusbarsAreRead, switch_draft, IsReadableSwitch, AreReadableSwitches, SwitchesAreRead, internal_draft, AreReadableInternals, InternalsAreRead, AreWhole, InjectionsAreRead, EndsAreRead, busbar_draft_of, injection_draft_of, stand_is_whole, AreReadablePlaced, IsWholeIfGiven, IsReadableLevel, level_draft, LevelsAreRead, IsReadableEnd, IsReadableTransformer, IsReadableLine, AreReadableTransformers, AreReadableLines, transformer_draft_of, line_draft_of, AreReadableLevels, AreReadableSubstations, substation_draft, NetworksAreRead, NetworkJobsAreRead}
+use Rattle.grid_print.specs.Laws.{IsId, IsWhole, BusbarsAreRead, switch_draft, IsReadableSwitch, AreReadableSwitches, SwitchesAreRead, internal_draft, AreReadableInternals, InternalsAreRead, InjectionsAreRead, EndsAreRead, busbar_draft_of, injection_draft_of, stand_is_whole, AreReadablePlaced, IsWholeIfGiven, IsReadableLevel, level_draft, LevelsAreRead, IsReadableEnd, IsReadableTransformer, IsReadableLine, AreReadableTransformers, AreReadableLines, transformer_draft_of, line_draft_of, AreReadableLevels, AreReadableSubstations, substation_draft, NetworksAreRead, NetworkJobsAreRead}
 use Rattle.grid_print.specs.Job.{job_value, least_format}
 use Rattle.grid_json.specs.Job.{draft_at, command_total}
 use Rattle.grid_json.specs.declared.format.Format.TheVariants.{One}
 use Rattle.grid_json.specs.declared.network.Windings.TheVariants as windings
-use Rattle.grid_structure.specs.Network.{Network, Substation}
+use Rattle.grid_structure.specs.Network.{Substation}
 use Rattle.grid_structure.specs.declared.NamedBranch.{NamedBranch}
 use Rattle.grid_structure.specs.declared.Branch.{Branch}
 use Rattle.grid_structure.specs.declared.Branch.TheVariants.{Line, TwoWindings, ThreeWindings}

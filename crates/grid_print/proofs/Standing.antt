@@ -1,5 +1,5 @@
 -- Where the substations' levels and transformers stand in the lists of a structure.
-use Rattle.std.proofs.Common.{◌≡◌, refl, sym, ap, ap₂, subst, ◌∙◌, ℕ, zero, suc, ◌+◌, ◌-◌, ◌<◌, ◌≤◌, Bool, true, false, cond, ◌&&◌, ◌||◌, not, List, [], ◌∷◌, ◌++◌, length, arith, Option, Some, None, take, drop, map, length-append, append_assoc, append-nil}
+use Rattle.std.proofs.Common.{◌≡◌, refl, sym, ap, ap₂, subst, ◌∙◌, ℕ, zero, suc, ◌+◌, ◌-◌, ◌<◌, ◌≤◌, Bool, true, false, cond, ◌||◌, not, List, [], ◌∷◌, ◌++◌, length, arith, Option, Some, None, take, drop, map, length-append, append_assoc, append-nil}
 use Rattle.std.specs.Prelude.{nat_lt, is_none}
 use Rattle.std.specs.List.{flat_map, slice_get, list_any, list_all}
 use Rattle.std.proofs.lemmas.Bool.{ltb-false, ltb-true, true≢false, and_parts}

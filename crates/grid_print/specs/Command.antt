@@ -3,7 +3,6 @@ use Rattle.std.specs.Prelude.{ℕ, ℤ, List, [], ◌∷◌, ◌++◌, codes, Bo
 use Rattle.serde_json.specs.Data.{Data, boolean, string}
 use Rattle.grid_kinds.specs.declared.Injection.{Injection}
 use Rattle.grid_kinds.specs.declared.SwitchKind.{SwitchKind}
-use Rattle.grid_structure.specs.declared.End.{End}
 use Rattle.grid_structure.specs.declared.Branch.{Branch}
 use Rattle.grid_structure.specs.declared.Branch.TheVariants.{Line, TwoWindings, ThreeWindings}
 use Rattle.grid_structure.specs.declared.Edit.{Edit}

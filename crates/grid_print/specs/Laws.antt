@@ -1,5 +1,5 @@
 -- What is written is read back.
-use Rattle.std.specs.Prelude.{ℕ, ℤ, pos, ◌^◌, ◌<◌, ◌≡◌, List, [], ◌∷◌, map, flat_map, int_lt, true, Option, Some, None, Result, Ok, ⊤}
+use Rattle.std.specs.Prelude.{ℕ, ℤ, pos, ◌^◌, ◌<◌, ◌≡◌, List, [], ◌∷◌, map, flat_map, int_lt, true, Option, Some, None, Ok, ⊤}
 use Rattle.grid_ids.specs.Fault.{id_fault}
 use Rattle.grid_kinds.specs.declared.Injection.{Injection}
 use Rattle.grid_kinds.specs.declared.Injection.TheVariants as injections

@@ -1,6 +1,6 @@
 -- Objects by their members, and arrays by their items.
-use Rattle.std.specs.Prelude.{ℕ, ℤ, List, [], ◌∷◌, Bool, true, false, Option, Some, None, map, fold}
-use Rattle.serde_json.specs.Data.{Data, Members, no_members, put, unsigned, boolean, number, string, array, object}
+use Rattle.std.specs.Prelude.{ℕ, ℤ, List, [], ◌∷◌, Bool, true, false, Option, Some, None, map}
+use Rattle.serde_json.specs.Data.{Data, Members, no_members, put, unsigned, number, string, array, object}
 use Rattle.serde_json.specs.Find.{of_integer}
 use Rattle.serde_json.specs.View.{items_of}
 

@@ -1,4 +1,4 @@
-use Rattle.std.proofs.Common.{◌≡◌, sym}
+use Rattle.std.proofs.Common.{sym}
 use Rattle.grid_print.specs.Command.{add_branch_value}
 use Rattle.grid_print.proofs.command.add_branch.Goals as goal
 

@@ -1,4 +1,4 @@
-use Rattle.std.proofs.Common.{◌≡◌, sym}
+use Rattle.std.proofs.Common.{sym}
 use Rattle.grid_print.specs.Network.{branch_value}
 use Rattle.grid_print.proofs.network.branch.Goals as goal
 

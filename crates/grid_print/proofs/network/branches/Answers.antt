@@ -1,4 +1,4 @@
-use Rattle.std.proofs.Common.{◌≡◌, sym, ap, ◌∙◌, arith, map}
+use Rattle.std.proofs.Common.{sym, ap, ◌∙◌, arith, map}
 use Rattle.serde_json.specs.View.{view}
 use Rattle.grid_structure.specs.Sites.{branches}
 use Rattle.grid_print.specs.Network.{named_branch_value}

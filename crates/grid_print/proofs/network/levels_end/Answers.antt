@@ -1,7 +1,6 @@
-use Rattle.std.proofs.Common.{◌≡◌, ◌+◌, ◌∙◌, ap, sym, arith}
+use Rattle.std.proofs.Common.{◌+◌, ◌∙◌, sym, arith}
 use Rattle.grid_structure.specs.Sites.{levels}
-use Rattle.grid_print.specs.Cutting.{levels_before}
-use Rattle.grid_print.proofs.Standing.{home_here, home_within, levels_grow, levels_within, at_end}
+use Rattle.grid_print.proofs.Standing.{home_within, levels_grow, levels_within, at_end}
 use Rattle.grid_print.proofs.network.levels_end.Goals as goal
 
 pub loop-place-init : goal.loop-place-init

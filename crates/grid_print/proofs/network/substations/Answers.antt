@@ -1,4 +1,4 @@
-use Rattle.std.proofs.Common.{◌≡◌, ◌+◌, refl, sym, ap, ap₂, ◌∙◌, arith, map}
+use Rattle.std.proofs.Common.{◌+◌, refl, sym, ap, ap₂, ◌∙◌, arith, map}
 use Rattle.serde_json.specs.View.{view}
 use Rattle.grid_structure.specs.Sites.{levels, branches}
 use Rattle.grid_print.specs.Objects.{array_of}

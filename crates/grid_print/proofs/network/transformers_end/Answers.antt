@@ -1,4 +1,4 @@
-use Rattle.std.proofs.Common.{◌≡◌, ◌+◌, ◌∙◌, ap, sym, arith}
+use Rattle.std.proofs.Common.{◌+◌, ◌∙◌, sym, arith}
 use Rattle.grid_print.proofs.Standing.{transformers_go, transformers_stop, transformers_grow, transformers_within}
 use Rattle.grid_print.proofs.network.transformers_end.Goals as goal
 

@@ -1,4 +1,3 @@
-use Rattle.std.proofs.Common.{◌≡◌}
 use Rattle.grid_print.specs.Command.{request_value}
 use Rattle.grid_print.proofs.command.RequestToJson.to_json.Goals as goal
 
