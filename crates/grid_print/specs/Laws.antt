@@ -1,5 +1,8 @@
 -- What is written is read back.
-use Rattle.std.specs.Prelude.{ℕ, ℤ, pos, ◌^◌, ◌<◌, ◌≡◌, List, [], ◌∷◌, map, flat_map, int_lt, true, Option, Some, None, Ok, ⊤}
+use Rattle.std.specs.Prelude.{ℕ, ℤ, pos, ◌^◌, ◌<◌, ◌≡◌, List, [], ◌∷◌, ◌++◌, map, flat_map, int_lt, true, Option, Some, None, Ok, ⊤}
+use Rattle.json.specs.Token.{Token}
+use Rattle.json.specs.Lex.{tokens}
+use Rattle.json.specs.Print.{print, ArePrintable}
 use Rattle.grid_ids.specs.Fault.{id_fault}
 use Rattle.grid_kinds.specs.declared.Injection.{Injection}
 use Rattle.grid_kinds.specs.declared.Injection.TheVariants as injections
@@ -203,3 +206,9 @@ NetworksAreRead = (format : Format) (net : Network) → IsReadable net → netwo
 -- and over the job of that network alone, a job with no listeners, no workers and no order
 abbrev pub NetworkJobsAreRead : Type 0
 NetworkJobsAreRead = (net : Network) → IsReadable net → draft_at (job_value net [] [] None) ≡ Ok (record { network = network_draft net; filters = []; scripts = []; order = None })
+
+-- ---- texts
+
+-- the tokens of a printed text are those of the text with a newline after it
+abbrev pub NewlinesArePassedOver : Type 0
+NewlinesArePassedOver = (ts : List Token) → ArePrintable ts → tokens (print ts ++ 10 ∷ []) ≡ tokens (print ts)

@@ -1,5 +1,5 @@
 // Laws of what is written.
-ghost use Rattle.grid_print.specs.Laws.{BusbarsAreRead, SwitchesAreRead, InternalsAreRead, InjectionsAreRead, LevelsAreRead, EndsAreRead, NetworksAreRead, NetworkJobsAreRead};
+ghost use Rattle.grid_print.specs.Laws.{BusbarsAreRead, SwitchesAreRead, InternalsAreRead, InjectionsAreRead, LevelsAreRead, EndsAreRead, NetworksAreRead, NetworkJobsAreRead, NewlinesArePassedOver};
 
 /// Parts of a level that are written are read back, each as itself.
 #[tactic(auto, using(crate::proofs::Rereading::busbars_are_read, crate::proofs::Rereading::switches_are_read, crate::proofs::Rereading::internals_are_read, crate::proofs::Rereading::injections_are_read))]
@@ -28,4 +28,10 @@ pub fn levels_are_read()
 pub fn networks_are_read()
     ensures networks { NetworksAreRead }
     ensures jobs { NetworkJobsAreRead }
+{}
+
+/// A newline after a text that was printed changes none of its tokens.
+#[tactic(auto, using(crate::proofs::Newline::tokens_newline))]
+pub fn newlines_are_passed_over()
+    ensures { NewlinesArePassedOver }
 {}
