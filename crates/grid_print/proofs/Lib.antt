@@ -1,0 +1,5 @@
+pub mod Fields
+pub mod Wholes
+pub mod Newline
+pub mod Rereading
+pub mod Standing

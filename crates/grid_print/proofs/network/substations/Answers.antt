@@ -1,0 +1,39 @@
+use Rattle.std.proofs.Common.{◌+◌, refl, sym, ap, ap₂, ◌∙◌, arith, map}
+use Rattle.serde_json.specs.View.{view}
+use Rattle.grid_structure.specs.Sites.{levels, branches}
+use Rattle.grid_print.specs.Objects.{array_of}
+use Rattle.grid_print.specs.Network.{level_value, named_branch_value, substation_value}
+use Rattle.grid_print.specs.Cutting.{between, levels_before, transformers_before}
+use Rattle.grid_print.proofs.Standing.{mapped_more, one_more_at, levels_grow, levels_within, transformers_grow, transformers_within, substation_made}
+use Rattle.grid_print.proofs.network.substations.Goals as goal
+
+pub loop-place-init : goal.loop-place-init
+unfolding levels_before transformers_before
+loop-place-init c = record { values = ap (map view) c.new-values.ensures.items; level = refl; transformer = refl }
+
+pub levels-requires-clause-order : goal.levels-requires-clause-order
+levels-requires-clause-order c = omega (arith, c.loop-place.invariant.level, c.levels_end-level_end.ensures, levels_grow c.args.network.now.substations c.loop-place.place)
+
+pub levels-requires-clause-within : goal.levels-requires-clause-within
+unfolding levels
+levels-requires-clause-within c = omega (arith, c.levels_end-level_end.ensures, levels_within c.args.network.now.substations (c.loop-place.place + 1))
+
+pub branches-requires-clause-order : goal.branches-requires-clause-order
+branches-requires-clause-order c = omega (arith, c.loop-place.invariant.transformer, c.transformers_end-transformer_end.ensures, transformers_grow c.args.network.now.substations c.loop-place.place)
+
+pub branches-requires-clause-within : goal.branches-requires-clause-within
+branches-requires-clause-within c = omega (arith, c.transformers_end-transformer_end.ensures, transformers_within c.args.network.now (c.loop-place.place + 1))
+
+pub loop-place-preserved : goal.loop-place-preserved
+loop-place-preserved c =
+    let net = c.args.network.now in
+    let made =
+    substation_made net c.loop-place.place c.substation_id.result.now (view c.in_ok-levels.levels) (view c.in_ok-transformers.transformers) c.substation_id.ensures
+    (c.in_ok-levels.ensures ∙ ap₂ (λ a b. array_of level_value (between a b (levels net))) c.loop-place.invariant.level c.levels_end-level_end.ensures)
+    (c.in_ok-transformers.ensures ∙ ap₂ (λ a b. array_of named_branch_value (between a b (branches net))) c.loop-place.invariant.transformer c.transformers_end-transformer_end.ensures) in
+    record {
+      values = mapped_more substation_value view _ _ _ c.in_ok-substation.field-0 made.0 c.in_ok-push.ensures.items c.loop-place.invariant.values (c.in_ok-substation.ensures ∙ made.2)
+          ∙ ap (map substation_value) (sym (one_more_at net.substations c.loop-place.place made.0 made.1));
+      level = c.levels_end-level_end.ensures;
+      transformer = c.transformers_end-transformer_end.ensures;
+    }

@@ -1,0 +1,12 @@
+use Rattle.std.proofs.Common.{◌≡◌, map, take}
+use Rattle.serde_json.specs.View.{view}
+use Rattle.grid_print.specs.Network.{substation_value}
+use Rattle.grid_print.specs.Cutting.{levels_before, transformers_before}
+use Rattle.grid_print.proofs.network.substations.Given as goal
+
+abbrev pub invariant-loop-place : goal.invariant-loop-place
+invariant-loop-place l = record {
+  values : map view l.values.items ≡ map substation_value (take l.place l.network.substations);
+  level : l.level ≡ levels_before l.place l.network.substations;
+  transformer : l.transformer ≡ transformers_before l.place l.network.substations;
+}

@@ -1,0 +1,6 @@
+pub mod Objects
+pub mod Network
+pub mod Cutting
+pub mod Command
+pub mod Job
+pub mod Laws

@@ -1,0 +1,152 @@
+// Jobs as JSON text.
+ghost use Rattle.std.specs.Prelude.{◌≡◌, ◌++◌, false, IfOk, OnOk, map};
+ghost use Rattle.std.specs.List.{list_any};
+ghost use Rattle.serde_json.specs.Written.{has_float};
+ghost use Rattle.serde_json.specs.View.{view};
+ghost use Rattle.grid_print.specs.Objects.{word_if, array_of as array};
+ghost use Rattle.grid_print.specs.Job.{is_retain, retains, least_format, kinds_value, job_value, line_of, job_text, network_text};
+
+use crate::object::{ToJson, array_of, put, put_given, put_value};
+use grid_core::{Request, Script};
+use grid_events::Filter;
+use grid_ids::{Memory, Seq};
+use grid_json::{Job, Order};
+use grid_structure::Structure;
+use serde_json::{Map, Value};
+use std::alloc::Global;
+
+/// Puts a word last where its flag is set.
+fn push_word(words: &mut Vec<Value>, alloc: Global, wanted: bool, word: &str) -> Result<(), Memory>
+    ensures { OnOk result (map view words.new.items ≡ map view words.old.items ++ word_if wanted word.now) }
+{
+    if wanted {
+        words.push(Value::try_from_str(alloc, word)?)?;
+    }
+    Ok(())
+}
+
+/// The kinds that a listener wants.
+#[tactic(auto, unfolding(crate::specs::Job::kinds_value))]
+fn kinds(alloc: Global, filter: &Filter) -> Result<Value, Memory>
+    ensures { IfOk result (λ v. view v ≡ kinds_value filter.now) }
+{
+    let mut words = Vec::new(alloc);
+    push_word(&mut words, alloc, filter.created, "created")?;
+    push_word(&mut words, alloc, filter.removed, "removed")?;
+    push_word(&mut words, alloc, filter.updated, "updated")?;
+    push_word(&mut words, alloc, filter.variant_created, "variant_created")?;
+    push_word(
+        &mut words,
+        alloc,
+        filter.variant_overwritten,
+        "variant_overwritten",
+    )?;
+    push_word(&mut words, alloc, filter.variant_removed, "variant_removed")?;
+    Ok(Value::from(words))
+}
+
+impl ToJson for Filter {
+    ghost use Rattle.grid_print.specs.Job.{listener_value};
+
+    ghost written = { listener_value };
+
+    #[tactic(auto, unfolding(crate::specs::Objects::members_from, crate::specs::Job::listener_value))]
+    fn to_json(&self, alloc: Global) -> Result<Value, Memory> {
+        let mut members = Map::new(alloc);
+        put_value(&mut members, alloc, "kinds", kinds(alloc, self)?)?;
+        put_given(&mut members, alloc, "variant", &self.variant)?;
+        Ok(Value::from(members))
+    }
+}
+
+impl<T: ToJson + Drop> ToJson for Seq<T> {
+    ghost written = { array T.ToJson.written };
+
+    fn to_json(&self, alloc: Global) -> Result<Value, Memory> {
+        array_of(alloc, self.slice())
+    }
+}
+
+fn retains_switch(request: &Request) -> bool
+    ensures { result ≡ is_retain request.now }
+{
+    matches!(request, Request::RetainSwitch { .. })
+}
+
+#[tactic(auto, unfolding(crate::specs::Job::retains))]
+fn script_retains(script: &Script) -> bool
+    ensures { result ≡ retains script.now }
+{
+    script.slice().iter().any(|request| retains_switch(request))
+}
+
+fn any_retains(scripts: &[Script]) -> bool
+    ensures { result ≡ list_any retains scripts.now }
+{
+    scripts.iter().any(|script| script_retains(script))
+}
+
+/// The least format that has the words of the scripts.
+#[tactic(auto, unfolding(crate::specs::Job::least_format))]
+fn format_of(scripts: &[Script]) -> u32
+    ensures { result ≡ least_format scripts.now }
+{
+    if any_retains(scripts) { 2 } else { 1 }
+}
+
+/// A job's value.
+#[tactic(auto, unfolding(crate::specs::Objects::members_from, crate::specs::Job::job_value))]
+fn value_of(
+    alloc: Global,
+    network: &Structure,
+    filters: &[Filter],
+    scripts: &[Script],
+    order: &Option<Order>,
+) -> Result<Value, Memory>
+    ensures { IfOk result (λ v. view v ≡ job_value network.now filters.now scripts.now order.now) }
+{
+    let mut members = Map::new(alloc);
+    put(&mut members, alloc, "format", &format_of(scripts))?;
+    put(&mut members, alloc, "network", network)?;
+    put_value(&mut members, alloc, "listeners", array_of(alloc, filters)?)?;
+    put_value(&mut members, alloc, "workers", array_of(alloc, scripts)?)?;
+    put_given(&mut members, alloc, "order", order)?;
+    Ok(Value::from(members))
+}
+
+/// The text of a value, with a newline after it.
+fn line(alloc: Global, value: &Value) -> Result<Vec<u8>, Memory>
+    requires { has_float (view value.now) ≡ false }
+    ensures { IfOk result (λ bytes. bytes.items ≡ line_of (view value.now)) }
+{
+    let mut bytes = value.to_vec(alloc)?;
+    bytes.push(b'\n')?;
+    Ok(bytes)
+}
+
+/// The text of a job: one line of JSON, with no space, members by byte order of their names, and a newline. It is of
+/// the least format that has the words of the job. Memory comes only for want of memory.
+#[tactic(auto, unfolding(crate::specs::Job::job_text), using(crate::proofs::Wholes::job_has_no_float))]
+pub fn print_job(alloc: Global, job: &Job) -> Result<Vec<u8>, Memory>
+    ensures { IfOk result (λ bytes. bytes.items ≡ job_text job.now) }
+{
+    let value = value_of(
+        alloc,
+        &job.network,
+        job.filters.slice(),
+        job.scripts.slice(),
+        &job.order,
+    )?;
+    line(alloc, &value)
+}
+
+/// The text of a job of this network alone, with no listeners, no workers and no order.
+#[tactic(auto, unfolding(crate::specs::Job::network_text), using(crate::proofs::Wholes::job_has_no_float))]
+pub fn print_network(alloc: Global, network: &Structure) -> Result<Vec<u8>, Memory>
+    ensures { IfOk result (λ bytes. bytes.items ≡ network_text network.now) }
+{
+    let filters = Seq::empty(alloc);
+    let scripts = Seq::empty(alloc);
+    let value = value_of(alloc, network, filters.slice(), scripts.slice(), &None)?;
+    line(alloc, &value)
+}
