@@ -1,7 +1,7 @@
 -- What an edit makes of the machine of all variants.
 use Rattle.std.proofs.Common.{◌≡◌, refl, sym, ap, ◌∙◌, ℕ, ℤ, zero, suc, ◌+◌, ◌-◌, ◌<◌, ◌≤◌, Bool, true, List, [], ◌∷◌, ◌++◌, length, map, get_or, set, length-set, length-append, Some, None, All, arith}
 use Rattle.std.specs.Prelude.{slice_get, option_map, Ok, Err, Result}
-use Rattle.std.specs.Prelude.{nat_lt, nat_le, remove, Option, take, drop}
+use Rattle.std.specs.Prelude.{nat_lt, nat_le, remove, take, drop}
 use Rattle.std.specs.List.{insert}
 use Rattle.std.proofs.lemmas.Bool.{lt-ltb, le-leb}
 use Rattle.std.proofs.lemmas.List.{length-map, take-append-drop}
