@@ -1,14 +1,14 @@
 // The edits of a structure, each as the definition of its change.
-ghost use Rattle.std.specs.Prelude.{◌≡◌, ◌<◌, ◌≤◌, [], ◌∷◌, ◌++◌, length, map, take, nat_lt, Ok, OnOk, OnErr, IfErr, IsTrue, IsFalse};
+ghost use Rattle.std.specs.Prelude.{◌≡◌, ◌<◌, [], ◌∷◌, ◌++◌, map, nat_lt, Ok, OnOk, OnErr, IfErr, IsTrue, IsFalse};
 ghost use Rattle.std.specs.List.{list_all};
 ghost use Rattle.grid_kinds.specs.Records.{Tells};
 ghost use Rattle.grid_level.specs.Passing.{is_branch_end};
-ghost use Rattle.grid_structure.specs.Cutting.{level_total};
 ghost use Rattle.grid_structure.specs.Editing as editing;
 ghost use Rattle.grid_structure.specs.Editing.{IsTold, IsRefused, told_of, stand_fault, with_single};
 ghost use Rattle.grid_structure.specs.Indexed as indexed;
 
 use crate::finding::{drop_entry, entry_of, keyed_level, make_room, put_entry};
+use crate::readers::levels_before;
 use crate::structure::{Entry, Head};
 use crate::{ApplyFault, Edit, EditFault, Structure};
 use grid_ids::{Duplicate, Id, Memory};
@@ -53,19 +53,6 @@ fn check_stand(stand: &Stand) -> Result<(), CheckFault>
         Stand::Busbar => Ok(()),
         Stand::BranchEnd => Ok(()),
     }
-}
-
-// How many levels the first substations have.
-fn levels_before(heads: &[Head], count: usize) -> u32
-    requires within { count ≤ length heads.now }
-    requires few { level_total heads.now ≤ 10000 }
-    ensures { result ≡ level_total (take count heads.now) }
-{
-    let mut total = 0;
-    for place in 0..count {
-        total += heads[place].levels;
-    }
-    total
 }
 
 // A place, after a new level stands at this one.

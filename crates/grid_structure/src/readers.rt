@@ -1,5 +1,5 @@
 // What a structure tells of itself. None of these takes memory.
-ghost use Rattle.std.specs.Prelude.{◌≡◌, ◌<◌, ◌^◌, length, Some, IsSome, slice_get};
+ghost use Rattle.std.specs.Prelude.{◌≡◌, ◌<◌, ◌≤◌, ◌^◌, length, take, Some, IsSome, IfSome, slice_get};
 ghost use Rattle.std.specs.Option.{option_map};
 ghost use Rattle.grid_structure.specs.Cutting.{level_total, head_place};
 ghost use Rattle.grid_structure.specs.Soundness.{IsSound};
@@ -28,6 +28,19 @@ pub(crate) fn head_of_level(heads: &[Head], level: u32) -> u32
     0
 }
 
+// How many levels the first substations have.
+pub(crate) fn levels_before(heads: &[Head], count: usize) -> u32
+    requires within { count ≤ length heads.now }
+    requires few { level_total heads.now ≤ 10000 }
+    ensures { result ≡ level_total (take count heads.now) }
+{
+    let mut total = 0;
+    for place in 0..count {
+        total += heads[place].levels;
+    }
+    total
+}
+
 impl Structure {
     /// The place of the substation of the level at a place.
     pub fn substation_of(&self, level: u32) -> u32
@@ -54,6 +67,33 @@ impl Structure {
         ensures { option_map (λ s. s.id) (slice_get self.now.substations place) ≡ Some result.now }
     {
         &self.heads[place as usize].id
+    }
+
+    /// How many levels the substation at a place has.
+    pub fn levels_of(&self, substation: u32) -> u32
+        requires { substation < length self.now.substations }
+        ensures { option_map (λ s. length s.levels) (slice_get self.now.substations substation) ≡ Some result }
+    {
+        self.heads[substation as usize].levels
+    }
+
+    /// How many transformers the substation at a place has.
+    pub fn transformers_of(&self, substation: u32) -> u32
+        requires { substation < length self.now.substations }
+        ensures { option_map (λ s. length s.transformers) (slice_get self.now.substations substation) ≡ Some result }
+    {
+        self.heads[substation as usize].transformers
+    }
+
+    /// Where a new level of a substation would stand; None exactly where there is no such substation.
+    pub fn level_place(&self, substation: &Id) -> Option<u32>
+        ensures place { result ≡ sites.new_level_place self.now.substations substation.now }
+        ensures below { IfSome result (λ place. place ≤ length (sites.levels self.now)) }
+    {
+        match self.find_substation(substation) {
+            Some(home) => Some(levels_before(self.heads.as_slice(), home as usize + 1)),
+            None => None,
+        }
     }
 
     pub fn level_count(&self) -> u32
