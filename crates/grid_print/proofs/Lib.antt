@@ -3,3 +3,6 @@ pub mod Wholes
 pub mod Newline
 pub mod Rereading
 pub mod Standing
+pub mod LevelRoom
+pub mod Filling
+pub mod LevelParts
