@@ -48,7 +48,7 @@ none_is None h = refl
 -- ---- ids
 
 -- fewer terminals have fewer ids
-fewer_names : (q : List ℕ) (a : Placed → Bool) (ps : List Placed) → times q (names_of (filter a ps)) ≤ times q (names_of ps)
+pub fewer_names : (q : List ℕ) (a : Placed → Bool) (ps : List Placed) → times q (names_of (filter a ps)) ≤ times q (names_of ps)
 fewer_names q a [] = omega arith
 fewer_names q a (p ∷ ps) = by (a p) (fewer_names q a ps)
   where

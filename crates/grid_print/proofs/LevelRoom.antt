@@ -29,8 +29,8 @@ last_differs : (es rest : List Edge) (e : Edge) → list_all ends_differ ((es ++
 unfolding ends_differ
 last_differs es rest e h = not-true _ (and_parts _ _ (all_parts ends_differ es (e ∷ []) (all_parts ends_differ (es ++ e ∷ []) rest h).0).1).0
 
-two_named : (level : VoltageLevel) (front : List ℕ) (a b : ℕ) (back : List ℕ) → list_all (λ n. nat_le n max_node) (front ++ a ∷ b ∷ back) ≡ true → (nat_le a max_node ≡ true) × (nat_le b max_node ≡ true)
-two_named level front a b back h =
+two_named : (front : List ℕ) (a b : ℕ) (back : List ℕ) → list_all (λ n. nat_le n max_node) (front ++ a ∷ b ∷ back) ≡ true → (nat_le a max_node ≡ true) × (nat_le b max_node ≡ true)
+two_named front a b back h =
     let first = and_parts (nat_le a max_node) (nat_le b max_node && list_all (λ n. nat_le n max_node) back) (all_parts (λ n. nat_le n max_node) front (a ∷ b ∷ back) h).1 in
     (first.0, (and_parts (nat_le b max_node) (list_all (λ n. nat_le n max_node) back) first.1).0)
 
@@ -40,7 +40,7 @@ pub switch_done : (level : VoltageLevel) (s : Switch) → IsWithin (with_switch 
 unfolding level_with_switch nodes edges ends
 switch_done level s k =
     let rest = internal_nodes level.internals ++ placed_nodes level.placed in
-    let near = two_named level (switch_nodes level.switches) s.node1 s.node2 rest (rw (named_switch level s) at k.in_range) in
+    let near = two_named (switch_nodes level.switches) s.node1 s.node2 rest (rw (named_switch level s) at k.in_range) in
     let differ : list_all ends_differ ((map switch_edge level.switches ++ switch_edge s ∷ []) ++ map internal_edge level.internals) ≡ true = rw (map-append switch_edge level.switches (s ∷ [])) at k.differ in
     let apart : (s.node1 == s.node2) ≡ false = last_differs (map switch_edge level.switches) (map internal_edge level.internals) (switch_edge s) differ in
     let room : length (edges level) < max_edges = omega (arith, k.few_edges, length-edges (with_switch level s), length-edges level, length-append level.switches (s ∷ [])) in
@@ -52,7 +52,7 @@ unfolding level_with_internal nodes edges ends
 internal_done level i k =
     let front = switch_nodes level.switches ++ internal_nodes level.internals in
     let back = placed_nodes level.placed in
-    let near = two_named level front i.node1 i.node2 back (rw (named_internal level i) at k.in_range) in
+    let near = two_named front i.node1 i.node2 back (rw (named_internal level i) at k.in_range) in
     let differ : list_all ends_differ (map switch_edge level.switches ++ (map internal_edge level.internals ++ internal_edge i ∷ [])) ≡ true = rw (map-append internal_edge level.internals (i ∷ [])) at k.differ in
     let split : (map switch_edge level.switches ++ map internal_edge level.internals ++ internal_edge i ∷ []) ++ [] ≡ map switch_edge level.switches ++ (map internal_edge level.internals ++ internal_edge i ∷ []) = append-nil _ ∙ append_assoc (map switch_edge level.switches) (map internal_edge level.internals) (internal_edge i ∷ []) in
     let apart : (i.node1 == i.node2) ≡ false = last_differs (map switch_edge level.switches ++ map internal_edge level.internals) [] (internal_edge i) (rw split differ) in

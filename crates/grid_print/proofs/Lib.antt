@@ -6,3 +6,4 @@ pub mod Standing
 pub mod LevelRoom
 pub mod Filling
 pub mod LevelParts
+pub mod LevelLoad
