@@ -1,5 +1,5 @@
 -- A network whose last level is being filled.
-use Rattle.std.proofs.Common.{◌≡◌, refl, sym, ap, ◌∙◌, ℕ, ◌+◌, ◌<◌, ◌≤◌, Bool, true, false, cond, List, [], ◌∷◌, ◌++◌, length, arith, Option, Some, None, append_assoc}
+use Rattle.std.proofs.Common.{◌≡◌, refl, sym, ap, ◌∙◌, ℕ, ◌+◌, ◌≤◌, Bool, true, false, cond, List, [], ◌∷◌, ◌++◌, length, arith, Option, Some, append_assoc}
 use Rattle.std.specs.Prelude.{map, find}
 use Rattle.std.proofs.lemmas.List.{append-nil, map-append, length-append}
 use Rattle.grid_ids.specs.Name.{same_id}
@@ -11,7 +11,7 @@ use Rattle.grid_structure.specs.Editing.{substation_with_levels, with_levels, wi
 use Rattle.grid_structure.proofs.Counts.{times, times-append}
 use Rattle.grid_structure.proofs.Framing.{put, is_same, ids_of, local, locals, locals-append, sub_ids, ids_counted, switch_total, switch_total-append, switches_counted}
 use Rattle.grid_structure.proofs.Homed.{none_there}
-use Rattle.grid_structure.proofs.Substations.{names, changed_at, names_at, levels_in, levels_at, transformers_in, transformers_at}
+use Rattle.grid_structure.proofs.Substations.{names, changed_at, names_at, levels_in, levels_at, transformers_at}
 use Rattle.grid_print.specs.Loads.{growing, more}
 
 -- ---- what has the id of no level

@@ -7,7 +7,6 @@ use Rattle.std.proofs.lemmas.List.{append-nil}
 use Rattle.std.proofs.lemmas.List.Elements.{filter-append}
 use Rattle.grid_ids.specs.Name.{ids_differ}
 use Rattle.grid_kinds.specs.Records.{injection_fault}
-use Rattle.grid_kinds.specs.declared.Injection.{Injection}
 use Rattle.grid_level.specs.declared.Placed.{Placed}
 use Rattle.grid_level.specs.declared.Switch.{Switch}
 use Rattle.grid_level.specs.declared.Internal.{Internal}

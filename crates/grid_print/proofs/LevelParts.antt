@@ -5,7 +5,6 @@ use Rattle.std.specs.List.{list_all}
 use Rattle.std.proofs.lemmas.Bool.{lt-leb, false≢true}
 use Rattle.std.proofs.lemmas.List.{map-append, length-append}
 use Rattle.std.proofs.lemmas.List.Elements.{filter-append}
-use Rattle.grid_ids.specs.Name.{same_id}
 use Rattle.grid_kinds.specs.Records.{level_fault, injection_fault}
 use Rattle.grid_kinds.specs.declared.Injection.{Injection}
 use Rattle.grid_level.specs.declared.Placed.{Placed}

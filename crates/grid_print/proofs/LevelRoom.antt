@@ -1,5 +1,5 @@
 -- A level that keeps its limits has room for its own parts, added one after the other.
-use Rattle.std.proofs.Common.{◌≡◌, refl, sym, ap, ◌∙◌, subst, ℕ, pos, ◌+◌, ◌<◌, ◌≤◌, Bool, true, false, cond, not, ◌&&◌, ◌||◌, List, [], ◌∷◌, ◌++◌, length, arith, Some, None, append_assoc}
+use Rattle.std.proofs.Common.{◌≡◌, refl, ap, ◌∙◌, subst, ℕ, pos, ◌<◌, ◌≤◌, Bool, true, false, cond, ◌&&◌, ◌||◌, List, [], ◌∷◌, ◌++◌, length, arith, None, append_assoc}
 use Rattle.std.specs.Prelude.{map, filter, find, nat_lt, nat_le, ◌==◌, Ok}
 use Rattle.std.specs.List.{list_all}
 use Rattle.std.proofs.lemmas.Bool.{and_parts, and_from, ltb-true, le-ltb, lt-leb, eq-eqb, ne_eqb, not-true}
@@ -14,8 +14,8 @@ use Rattle.grid_level.specs.LevelEdits.{max_node, max_nodes, max_edges, node_of,
 use Rattle.grid_level.specs.Sound.{ends_differ}
 use Rattle.grid_level.specs.Kept.{IsWithin}
 use Rattle.grid_level.proofs.Keeping.{switch_nodes, internal_nodes, placed_nodes, named_is, length-edges, grown_nodes}
-use Rattle.grid_level.proofs.Editing.{all_parts, all_filter, with_switch, with_internal, named_switch, named_internal, named_is_left, with_switches, with_internals, switch_cut_within, cut_within, fewer_placed_within}
-use Rattle.grid_level.proofs.Placing.{placed_in, rising_placed, nodes_placed}
+use Rattle.grid_level.proofs.Editing.{all_parts, with_switch, with_internal, named_switch, named_internal, named_is_left, with_switches, with_internals, switch_cut_within, cut_within, fewer_placed_within}
+use Rattle.grid_level.proofs.Placing.{rising_placed}
 
 -- ---- an edge
 
