@@ -3,3 +3,7 @@ pub mod Wholes
 pub mod Newline
 pub mod Rereading
 pub mod Standing
+pub mod LevelRoom
+pub mod Filling
+pub mod LevelParts
+pub mod LevelLoad

@@ -1,5 +1,6 @@
 // Laws of what is written.
 ghost use Rattle.grid_print.specs.Laws.{BusbarsAreRead, SwitchesAreRead, InternalsAreRead, InjectionsAreRead, LevelsAreRead, EndsAreRead, NetworksAreRead, NetworkJobsAreRead, NewlinesArePassedOver};
+ghost use Rattle.grid_print.specs.Loads.{LevelsAreLoaded};
 
 /// Parts of a level that are written are read back, each as itself.
 #[tactic(auto, using(crate::proofs::Rereading::busbars_are_read, crate::proofs::Rereading::switches_are_read, crate::proofs::Rereading::internals_are_read, crate::proofs::Rereading::injections_are_read))]
@@ -34,4 +35,10 @@ pub fn networks_are_read()
 #[tactic(auto, using(crate::proofs::Newline::tokens_newline))]
 pub fn newlines_are_passed_over()
     ensures { NewlinesArePassedOver }
+{}
+
+/// The draft of a level, loaded into its substation, gives the level again, without its branch ends.
+#[tactic(auto, using(crate::proofs::LevelLoad::level_is_loaded))]
+pub fn levels_are_loaded()
+    ensures { LevelsAreLoaded }
 {}
