@@ -6,3 +6,4 @@ pub mod Standing
 pub mod EndsLoad
 pub mod BranchLoad
 pub mod StageLoad
+pub mod NetworkLoad

@@ -4,3 +4,4 @@ pub mod Cutting
 pub mod Command
 pub mod Job
 pub mod Laws
+pub mod Loads

@@ -1,5 +1,6 @@
 // Laws of what is written.
 ghost use Rattle.grid_print.specs.Laws.{BusbarsAreRead, SwitchesAreRead, InternalsAreRead, InjectionsAreRead, LevelsAreRead, EndsAreRead, NetworksAreRead, NetworkJobsAreRead, NewlinesArePassedOver};
+ghost use Rattle.grid_print.specs.Loads.{LevelsAreLoaded, NetworksAreLoaded};
 
 /// Parts of a level that are written are read back, each as itself.
 #[tactic(auto, using(crate::proofs::Rereading::busbars_are_read, crate::proofs::Rereading::switches_are_read, crate::proofs::Rereading::internals_are_read, crate::proofs::Rereading::injections_are_read))]
@@ -34,4 +35,11 @@ pub fn networks_are_read()
 #[tactic(auto, using(crate::proofs::Newline::tokens_newline))]
 pub fn newlines_are_passed_over()
     ensures { NewlinesArePassedOver }
+{}
+
+/// A network that is loaded from its draft is the network again.
+#[tactic(auto, using(crate::proofs::NetworkLoad::network_is_loaded))]
+pub fn networks_are_loaded()
+    requires { LevelsAreLoaded }
+    ensures { NetworksAreLoaded }
 {}
