@@ -7,3 +7,7 @@ pub mod LevelRoom
 pub mod Filling
 pub mod LevelParts
 pub mod LevelLoad
+pub mod EndsLoad
+pub mod BranchLoad
+pub mod StageLoad
+pub mod NetworkLoad

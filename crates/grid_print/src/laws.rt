@@ -1,6 +1,6 @@
 // Laws of what is written.
 ghost use Rattle.grid_print.specs.Laws.{BusbarsAreRead, SwitchesAreRead, InternalsAreRead, InjectionsAreRead, LevelsAreRead, EndsAreRead, NetworksAreRead, NetworkJobsAreRead, NewlinesArePassedOver};
-ghost use Rattle.grid_print.specs.Loads.{LevelsAreLoaded};
+ghost use Rattle.grid_print.specs.Loads.{LevelsAreLoaded, NetworksAreLoaded};
 
 /// Parts of a level that are written are read back, each as itself.
 #[tactic(auto, using(crate::proofs::Rereading::busbars_are_read, crate::proofs::Rereading::switches_are_read, crate::proofs::Rereading::internals_are_read, crate::proofs::Rereading::injections_are_read))]
@@ -41,4 +41,10 @@ pub fn newlines_are_passed_over()
 #[tactic(auto, using(crate::proofs::LevelLoad::level_is_loaded))]
 pub fn levels_are_loaded()
     ensures { LevelsAreLoaded }
+{}
+
+/// A sound network that is loaded from its draft is the network again.
+#[tactic(auto, using(crate::proofs::NetworkLoad::networks_are_loaded))]
+pub fn networks_are_loaded()
+    ensures { NetworksAreLoaded }
 {}
