@@ -110,160 +110,6 @@ cut_out part rest (t ∷ subs) (suc k) s at =
     rw (one, many_suc part k t subs, many_suc part (k + 1) t subs, append_assoc (part t) (flat_map part subs) rest)
     (shifted (many part k subs) (many part (k + 1) subs) (part t) (flat_map part subs ++ rest) ∙ cut_out part rest subs k s at)
 
--- ---- levels
-
-pub home_here : (subs : List Substation) (k p : ℕ) → levels_before k subs ≤ p → p < levels_before (k + 1) subs → home_place subs p ≡ k
-unfolding home_place levels_before
-home_here [] k p lo hi = absurd (omega (arith, many_within (λ z. z.levels) [] (k + 1), hi))
-home_here (s ∷ subs) k p lo hi = by (nat_lt p (length s.levels)) refl k lo hi (λ j l h. home_here subs j (p - length s.levels) l h)
-  where
-    by : (t : Bool) → nat_lt p (length s.levels) ≡ t → (k : ℕ) → many (λ z. z.levels) k (s ∷ subs) ≤ p → p < many (λ z. z.levels) (k + 1) (s ∷ subs)
-        → ((j : ℕ) → many (λ z. z.levels) j subs ≤ p - length s.levels → p - length s.levels < many (λ z. z.levels) (j + 1) subs → home_place subs (p - length s.levels) ≡ j)
-        → cond t 0 (home_place subs (p - length s.levels) + 1) ≡ k
-    by true e zero lo hi again = refl
-    by true e (suc k) lo hi again = absurd (omega (arith, ltb-true p (length s.levels) e, many_suc (λ z. z.levels) k s subs, lo))
-    by false e zero lo hi again = absurd (omega (arith, ltb-false p (length s.levels) e, many_suc (λ z. z.levels) zero s subs, hi))
-    by false e (suc k) lo hi again =
-        let more : length s.levels ≤ p = ltb-false p (length s.levels) e in
-        let one : suc k + 1 ≡ suc (k + 1) = omega arith in
-        let hi' : p < many (λ z. z.levels) (suc (k + 1)) (s ∷ subs) = rw one at hi in
-        omega (arith, again k (omega (arith, more, many_suc (λ z. z.levels) k s subs, lo)) (omega (arith, more, many_suc (λ z. z.levels) (k + 1) s subs, hi')))
-
-pub home_within : (subs : List Substation) (k p : ℕ) → home_place subs p ≡ k → p < length (flat_map (λ s. s.levels) subs) → p < levels_before (k + 1) subs
-unfolding home_place levels_before
-home_within [] k p is lt = absurd (omega arith)
-home_within (s ∷ subs) k p is lt = by (nat_lt p (length s.levels)) refl k is (λ j h l. home_within subs j (p - length s.levels) h l)
-  where
-    by : (t : Bool) → nat_lt p (length s.levels) ≡ t → (k : ℕ) → cond t 0 (home_place subs (p - length s.levels) + 1) ≡ k
-        → ((j : ℕ) → home_place subs (p - length s.levels) ≡ j → p - length s.levels < length (flat_map (λ z. z.levels) subs) → p - length s.levels < many (λ z. z.levels) (j + 1) subs)
-        → p < many (λ z. z.levels) (k + 1) (s ∷ subs)
-    by true e k is again = let one : k + 1 ≡ suc k = omega arith in rw one (omega (arith, ltb-true p (length s.levels) e, many_suc (λ z. z.levels) k s subs))
-    by false e zero is again = absurd (omega (arith, is))
-    by false e (suc k) is again =
-        let more : length s.levels ≤ p = ltb-false p (length s.levels) e in
-        let one : suc k + 1 ≡ suc (k + 1) = omega arith in
-        rw one (omega (arith, more, many_suc (λ z. z.levels) (k + 1) s subs, again k (omega (arith, is)) (omega (arith, more, lt, length-append s.levels (flat_map (λ z. z.levels) subs)))))
-
--- ---- transformers
-
-abbrev EachHome : List Substation → Type 0
-EachHome subs = list_all (λ s. list_all (transformer_passes s) s.transformers) subs ≡ true
-
-all_at : {A : Type 0} (p : A → Bool) (xs : List A) (i : ℕ) (x : A) → list_all p xs ≡ true → slice_get xs i ≡ Some x → p x ≡ true
-all_at p [] i x h at = cc
-all_at p (y ∷ ys) zero x h at = let same : y ≡ x = cc in ap p (sym same) ∙ (and_parts (p y) (list_all p ys) h).0
-all_at p (y ∷ ys) (suc i) x h at = all_at p ys i x (and_parts (p y) (list_all p ys) h).1 at
-
-passes_home : (id : List ℕ) (ids : List (List ℕ)) (shape : Branch) (o : Option (List ℕ)) → stands_in id ids shape o ≡ true → is_home id o ≡ true
-unfolding stands_in
-passes_home id ids shape None e = absurd (true≢false (sym e))
-passes_home id ids shape (Some home) e = (and_parts (same_id home id) _ e).0
-
-passes_is_of : (s : Substation) (b : NamedBranch) → transformer_passes s b ≡ true → is_of s.id b.shape ≡ true
-unfolding transformer_passes is_of
-passes_is_of s b e = passes_home s.id _ b.shape (home_of b.shape) e
-
-no_home : (id : List ℕ) (o : Option (List ℕ)) → is_none o ≡ true → is_home id o ≡ true → ⊥
-no_home id None none e = true≢false (sym e)
-no_home id (Some home) none e = true≢false (sym none)
-
-same_homes : (a b : List ℕ) (o : Option (List ℕ)) → is_home a o ≡ true → is_home b o ≡ true → b ≡ a
-same_homes a b None x y = absurd (true≢false (sym x))
-same_homes a b (Some home) x y = sym ((bytes_eq-Decides home b).0 y) ∙ (bytes_eq-Decides home a).0 x
-
-same_is : (a b : List ℕ) → a ≡ b → same_id a b ≡ true
-same_is a b e = (bytes_eq-Decides a b).1 e
-
-any_later : (a b : Bool) → b ≡ true → (a || b) ≡ true
-any_later true b e = refl
-any_later false b e = e
-
-any_here : (a b : Bool) → a ≡ true → (a || b) ≡ true
-any_here a b e = rw e refl
-
-abbrev ids_of : List Substation → List (List ℕ)
-ids_of subs = map (λ s. s.id) subs
-
-id_among : (subs : List Substation) (k : ℕ) (s : Substation) (id : List ℕ) → slice_get subs k ≡ Some s → id ≡ s.id → has_id (ids_of subs) id ≡ true
-unfolding has_id
-id_among [] k s id at same = cc
-id_among (t ∷ subs) zero s id at same = let this : t ≡ s = cc in any_here _ _ (same_is id t.id (same ∙ ap (λ z. z.id) (sym this)))
-id_among (t ∷ subs) (suc k) s id at same = any_later _ _ (id_among subs k s id at same)
-
-never_twice : (id : List ℕ) (ids : List (List ℕ)) → ids_differ (id ∷ ids) ≡ true → has_id ids id ≡ true → ⊥
-unfolding ids_differ
-never_twice id ids differ has = true≢false (sym (rw has at (and_parts (not (has_id ids id)) _ differ).0))
-
-differ_later : (id : List ℕ) (ids : List (List ℕ)) → ids_differ (id ∷ ids) ≡ true → ids_differ ids ≡ true
-unfolding ids_differ
-differ_later id ids differ = (and_parts (not (has_id ids id)) _ differ).1
-
-module _ (rest : List NamedBranch) where
-  abbrev all_of : List Substation → List NamedBranch
-  all_of subs = flat_map (λ s. s.transformers) subs ++ rest
-
-  front_at : (t : Substation) (subs : List Substation) (p : ℕ) (b : NamedBranch) → p < length t.transformers → slice_get (all_of (t ∷ subs)) p ≡ Some b → slice_get t.transformers p ≡ Some b
-  front_at t subs p b l at = sym (get_front t.transformers (all_of subs) p l) ∙ rw (append_assoc t.transformers (flat_map (λ s. s.transformers) subs) rest) at at
-
-  back_at : (t : Substation) (subs : List Substation) (p : ℕ) (b : NamedBranch) → length t.transformers ≤ p → slice_get (all_of (t ∷ subs)) p ≡ Some b → slice_get (all_of subs) (p - length t.transformers) ≡ Some b
-  back_at t subs p b l at = sym (get_back t.transformers (all_of subs) p l) ∙ rw (append_assoc t.transformers (flat_map (λ s. s.transformers) subs) rest) at at
-
-  of_front : (t : Substation) (subs : List Substation) (p : ℕ) (b : NamedBranch) → EachHome (t ∷ subs) → p < length t.transformers → slice_get (all_of (t ∷ subs)) p ≡ Some b → is_of t.id b.shape ≡ true
-  of_front t subs p b each l at = passes_is_of t b (all_at (transformer_passes t) t.transformers p b (and_parts _ _ each).0 (front_at t subs p b l at))
-
-  pub own : (subs : List Substation) → EachHome subs → (k p : ℕ) (s : Substation) (b : NamedBranch) → slice_get subs k ≡ Some s → many (λ z. z.transformers) k subs ≤ p → p < many (λ z. z.transformers) (k + 1) subs
-      → slice_get (all_of subs) p ≡ Some b → is_of s.id b.shape ≡ true
-  own [] each k p s b here lo hi at = cc
-  own (t ∷ subs) each zero p s b here lo hi at =
-      let same : t ≡ s = cc in
-      ap (λ z. is_of z.id b.shape) (sym same) ∙ of_front t subs p b each (omega (arith, hi, many_suc (λ z. z.transformers) zero t subs)) at
-  own (t ∷ subs) each (suc k) p s b here lo hi at =
-      let low = many_suc (λ z. z.transformers) k t subs in
-      let one : suc k + 1 ≡ suc (k + 1) = omega arith in
-      let high = many_suc (λ z. z.transformers) (k + 1) t subs in
-      let hi' : p < many (λ z. z.transformers) (suc (k + 1)) (t ∷ subs) = rw one at hi in
-      own subs (and_parts _ _ each).1 k (p - length t.transformers) s b here (omega (arith, lo, low)) (omega (arith, lo, hi', low, high)) (back_at t subs p b (omega (arith, lo, low)) at)
-
-  module _ (lines : list_all line_passes rest ≡ true) where
-    no_line : (id : List ℕ) (p : ℕ) (b : NamedBranch) → slice_get rest p ≡ Some b → is_of id b.shape ≡ true → ⊥
-    unfolding line_passes is_of
-    no_line id p b at e = no_home id (home_of b.shape) (all_at line_passes rest p b lines at) e
-
-    among : (subs : List Substation) → EachHome subs → (id : List ℕ) (p : ℕ) (b : NamedBranch) → slice_get (all_of subs) p ≡ Some b → is_of id b.shape ≡ true → has_id (ids_of subs) id ≡ true
-    unfolding has_id is_of
-    among [] each id p b at e = absurd (no_line id p b at e)
-    among (t ∷ subs) each id p b at e = by (nat_lt p (length t.transformers)) refl (λ x. among subs (and_parts _ _ each).1 id (p - length t.transformers) b x e)
-      where
-        by : (y : Bool) → nat_lt p (length t.transformers) ≡ y → (slice_get (all_of subs) (p - length t.transformers) ≡ Some b → list_any (same_id id) (ids_of subs) ≡ true)
-            → (same_id id t.id || list_any (same_id id) (ids_of subs)) ≡ true
-        by true l again = any_here _ _ (same_is id t.id (same_homes t.id id (home_of b.shape) (of_front t subs p b each (ltb-true p (length t.transformers) l) at) e))
-        by false l again = any_later _ _ (again (back_at t subs p b (ltb-false p (length t.transformers) l) at))
-
-    pub within : (subs : List Substation) → EachHome subs → ids_differ (ids_of subs) ≡ true → (k p : ℕ) (s : Substation) (b : NamedBranch) → slice_get subs k ≡ Some s
-        → slice_get (all_of subs) p ≡ Some b → is_of s.id b.shape ≡ true → p < many (λ z. z.transformers) (k + 1) subs
-    unfolding is_of
-    within [] each differ k p s b here at e = cc
-    within (t ∷ subs) each differ zero p s b here at e = by (nat_lt p (length t.transformers)) refl
-      where
-        same : t ≡ s
-        same = cc
-
-        by : (y : Bool) → nat_lt p (length t.transformers) ≡ y → p < many (λ z. z.transformers) 1 (t ∷ subs)
-        by true l = omega (arith, ltb-true p (length t.transformers) l, many_suc (λ z. z.transformers) zero t subs)
-        by false l = absurd (never_twice t.id (ids_of subs) differ
-            (among subs (and_parts _ _ each).1 t.id (p - length t.transformers) b (back_at t subs p b (ltb-false p (length t.transformers) l) at) (ap (λ z. is_of z.id b.shape) same ∙ e)))
-    within (t ∷ subs) each differ (suc k) p s b here at e = by (nat_lt p (length t.transformers)) refl (λ x. within subs (and_parts _ _ each).1 (differ_later t.id (ids_of subs) differ) k (p - length t.transformers) s b here x e)
-      where
-        by : (y : Bool) → nat_lt p (length t.transformers) ≡ y → (slice_get (all_of subs) (p - length t.transformers) ≡ Some b → p - length t.transformers < many (λ z. z.transformers) (k + 1) subs)
-            → p < many (λ z. z.transformers) (suc k + 1) (t ∷ subs)
-        by true l again = absurd (never_twice t.id (ids_of subs) differ (id_among subs k s t.id here (sym (owned l))))
-          where
-            owned : nat_lt p (length t.transformers) ≡ true → s.id ≡ t.id
-            owned l = same_homes t.id s.id (home_of b.shape) (of_front t subs p b each (ltb-true p (length t.transformers) l) at) e
-        by false l again =
-            let one : suc k + 1 ≡ suc (k + 1) = omega arith in
-            rw one (omega (arith, ltb-false p (length t.transformers) l, many_suc (λ z. z.transformers) (k + 1) t subs, again (back_at t subs p b (ltb-false p (length t.transformers) l) at)))
-
 -- ---- turns of the loops
 
 -- one more value, and one more of what is written
@@ -280,56 +126,19 @@ pub levels_within : (subs : List Substation) (k : ℕ) → levels_before k subs 
 unfolding levels_before
 levels_within subs k = many_within (λ s. s.levels) subs k
 
-pub at_end : (subs : List Substation) (k p : ℕ) → levels_before k subs ≤ p → p ≤ levels_before (k + 1) subs → (home_place subs p ≡ k → ⊥) → p ≡ levels_before (k + 1) subs
-at_end subs k p lo hi other = by (nat_lt p (levels_before (k + 1) subs)) refl
-  where
-    by : (t : Bool) → nat_lt p (levels_before (k + 1) subs) ≡ t → p ≡ levels_before (k + 1) subs
-    by true e = absurd (other (home_here subs k p lo (ltb-true p (levels_before (k + 1) subs) e)))
-    by false e = omega (arith, hi, ltb-false p (levels_before (k + 1) subs) e)
-
 -- what the id and the shape were found of
 found_at : {A B : Type 0} (f : A → B) (o : Option A) (y : B) → option_map f o ≡ Some y → (x : A) × (o ≡ Some x) × (f x ≡ y)
 found_at f None y e = cc
 found_at f (Some x) y e = let same : f x ≡ y = cc in (x, refl, same)
 
-any_append : {A : Type 0} (p : A → Bool) (xs ys : List A) → list_any p (xs ++ ys) ≡ (list_any p xs || list_any p ys)
-any_append p [] ys = refl
-any_append p (x ∷ xs) ys = by (p x) (any_append p xs ys)
-  where
-    by : (t : Bool) → list_any p (xs ++ ys) ≡ (list_any p xs || list_any p ys) → (t || list_any p (xs ++ ys)) ≡ ((t || list_any p xs) || list_any p ys)
-    by true later = refl
-    by false later = later
+-- where a substation's levels and its transformers end
+pub levels_after : (subs : List Substation) (k n : ℕ) → option_map (λ s. length s.levels) (slice_get subs k) ≡ Some n → levels_before (k + 1) subs ≡ levels_before k subs + n
+unfolding levels_before
+levels_after subs k n e = let s = found_at (λ s. length s.levels) (slice_get subs k) n e in many_more (λ s. s.levels) subs k s.0 s.1 ∙ ap (λ m. many (λ s. s.levels) k subs + m) s.2
 
-not_left : (a b : Bool) → not (a || b) ≡ true → not a ≡ true
-not_left true b e = e
-not_left false b e = refl
-
-front_differ : (xs ys : List (List ℕ)) → ids_differ (xs ++ ys) ≡ true → ids_differ xs ≡ true
-unfolding ids_differ has_id
-front_differ [] ys e = refl
-front_differ (x ∷ xs) ys e =
-    let parts = and_parts (not (list_any (same_id x) (xs ++ ys))) (ids_differ (xs ++ ys)) e in
-    let here : not (list_any (same_id x) xs) ≡ true = not_left (list_any (same_id x) xs) (list_any (same_id x) ys) (rw (any_append (same_id x) xs ys) at parts.0) in
-    rw (here, front_differ xs ys parts.1) refl
-
-module _ (net : Network) (sound : IsSound net) (k p : ℕ) (id : List ℕ) (shape : Branch) (named : option_map (λ s. s.id) (slice_get net.substations k) ≡ Some id) (shaped : option_map (λ b. b.shape) (slice_get (branches net) p) ≡ Some shape) where
-  pub transformers_go : is_of id shape ≡ true → p < transformers_before (k + 1) net.substations
-  unfolding branches transformers_before all_ids
-  transformers_go e =
-      let s = found_at (λ s. s.id) (slice_get net.substations k) id named in
-      let b = found_at (λ b. b.shape) (slice_get (branches net) p) shape shaped in
-      within net.lines sound.lines net.substations sound.transformers (front_differ (ids_of net.substations) (level_ids net) (front_differ (ids_of net.substations ++ level_ids net) (switch_ids net) (front_differ (ids_of net.substations ++ level_ids net ++ switch_ids net) (equipment_ids net) sound.ids))) k p s.0 b.0 s.1 b.1 (ap₂ (λ i h. is_of i h) s.2 b.2 ∙ e)
-
-  pub transformers_stop : transformers_before k net.substations ≤ p → p ≤ transformers_before (k + 1) net.substations → is_of id shape ≡ false → p ≡ transformers_before (k + 1) net.substations
-  unfolding branches transformers_before
-  transformers_stop lo hi e = by (nat_lt p (many (λ z. z.transformers) (k + 1) net.substations)) refl
-    where
-      by : (t : Bool) → nat_lt p (many (λ z. z.transformers) (k + 1) net.substations) ≡ t → p ≡ many (λ z. z.transformers) (k + 1) net.substations
-      by true l =
-          let s = found_at (λ s. s.id) (slice_get net.substations k) id named in
-          let b = found_at (λ b. b.shape) (slice_get (branches net) p) shape shaped in
-          absurd (true≢false (sym (own net.lines net.substations sound.transformers k p s.0 b.0 s.1 lo (ltb-true p _ l) b.1) ∙ ap₂ (λ i h. is_of i h) s.2 b.2 ∙ e))
-      by false l = omega (arith, hi, ltb-false p (many (λ z. z.transformers) (k + 1) net.substations) l)
+pub transformers_after : (subs : List Substation) (k n : ℕ) → option_map (λ s. length s.transformers) (slice_get subs k) ≡ Some n → transformers_before (k + 1) subs ≡ transformers_before k subs + n
+unfolding transformers_before
+transformers_after subs k n e = let s = found_at (λ s. length s.transformers) (slice_get subs k) n e in many_more (λ s. s.transformers) subs k s.0 s.1 ∙ ap (λ m. many (λ s. s.transformers) k subs + m) s.2
 
 pub transformers_grow : (subs : List Substation) (k : ℕ) → transformers_before k subs ≤ transformers_before (k + 1) subs
 unfolding transformers_before

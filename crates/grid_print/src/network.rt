@@ -1,10 +1,10 @@
 // Networks as JSON. A structure has its levels one substation after the other, and its transformers too, before the lines.
-ghost use Rattle.std.specs.Prelude.{◌≡◌, ◌≤◌, ◌<◌, ◌+◌, IfOk, length, map, take, drop, Bool};
+ghost use Rattle.std.specs.Prelude.{◌≡◌, ◌≤◌, ◌<◌, ◌+◌, IfOk, length, map, take, drop};
 ghost use Rattle.serde_json.specs.View.{view};
 ghost use Rattle.grid_structure.specs.Sites as sites;
 ghost use Rattle.grid_print.specs.Objects.{array_of};
 ghost use Rattle.grid_print.specs.Network.{level_value, named_branch_value, branch_value, transformer_value, line_value, substation_of, substation_value, network_of, network_value};
-ghost use Rattle.grid_print.specs.Cutting.{between, is_of, levels_before, transformers_before};
+ghost use Rattle.grid_print.specs.Cutting.{between, levels_before, transformers_before};
 
 use crate::object::{ToJson, put, put_value, three, two};
 use grid_ids::{Id, Memory};
@@ -98,36 +98,15 @@ fn branches(alloc: Global, network: &Structure, from: u32, to: u32) -> Result<Va
     Ok(Value::from(values))
 }
 
-/// Whether a branch is a transformer of a substation.
-#[tactic(auto, unfolding(crate::specs::Cutting::is_of, grid_structure::specs::Sites::home_of))]
-fn stands_in(shape: &Branch, substation: &Id) -> bool
-    ensures { result ≡ is_of substation.now shape.now }
-{
-    match shape {
-        Branch::Line { .. } => false,
-        Branch::TwoWindings {
-            substation: home,
-            ..
-        } => home == substation,
-        Branch::ThreeWindings {
-            substation: home,
-            ..
-        } => home == substation,
-    }
-}
-
 /// Where the levels of a substation end that begin at a place.
 fn levels_end(network: &Structure, substation: u32, from: u32) -> u32
     requires inside { substation < length network.now.substations }
     requires begin { from ≡ levels_before substation network.now.substations }
     ensures { result ≡ levels_before (substation + 1) network.now.substations }
 {
-    for place in from..network.level_count() {
-        if network.substation_of(place) != substation {
-            return place;
-        }
-    }
-    network.level_count()
+    let all = network.level_count();
+    prove!(from <= all);
+    from + network.levels_of(substation)
 }
 
 /// Where the transformers of a substation end that begin at a place.
@@ -136,14 +115,9 @@ fn transformers_end(network: &Structure, substation: u32, from: u32) -> u32
     requires begin { from ≡ transformers_before substation network.now.substations }
     ensures { result ≡ transformers_before (substation + 1) network.now.substations }
 {
-    network.keeps();
-    let id = network.substation_id(substation);
-    for place in from..network.branch_count() {
-        if !stands_in(network.branch(place), id) {
-            return place;
-        }
-    }
-    network.branch_count()
+    let all = network.branch_count();
+    prove!(from <= all);
+    from + network.transformers_of(substation)
 }
 
 #[tactic(auto, unfolding(crate::specs::Objects::members_from))]
