@@ -13,13 +13,10 @@ fn worker_lines(alloc: Global, job: Vec<u8>) -> Result<String, Fail> {
     Ok(String::from_str(alloc, lines)?)
 }
 
-#[test]
-fn commands(rt: HostRuntime) -> Result<(), Fail> {
-    let alloc = rt.alloc();
-    let cases = [
-        (
-            r#"{"do":"bus_breaker_view","level":"VL"},{"do":"open","switch":"BC"},{"do":"bus_breaker_view","level":"VL"}"#,
-            r#"1 InitialState bus_breaker_view VL: 2 buses, 1 switches
+const COMMANDS: [(&str, &str); 5] = [
+    (
+        r#"{"do":"bus_breaker_view","level":"VL"},{"do":"open","switch":"BC"},{"do":"bus_breaker_view","level":"VL"}"#,
+        r#"1 InitialState bus_breaker_view VL: 2 buses, 1 switches
   bus VL_0 | 0 2 3 4 | BBS1.1 LD.1
   bus VL_1 | 1 5 | BBS2.1 G.1
   switch BC closed VL_0 VL_1
@@ -29,10 +26,10 @@ fn commands(rt: HostRuntime) -> Result<(), Fail> {
   bus VL_1 | 1 5 | BBS2.1 G.1
   switch BC open VL_0 VL_1
 "#,
-        ),
-        (
-            r#"{"do":"connect","equipment":"LD"},{"do":"disconnect","equipment":"LD"},{"do":"bus_view","level":"VL"},{"do":"connect","equipment":"LD"},{"do":"bus_view","level":"VL"},{"do":"disconnect","equipment":"BBS1"},{"do":"open","switch":"D1"},{"do":"open","switch":"B"},{"do":"connect","equipment":"LD"}"#,
-            r#"1 InitialState connect LD 1: already connected
+    ),
+    (
+        r#"{"do":"connect","equipment":"LD"},{"do":"disconnect","equipment":"LD"},{"do":"bus_view","level":"VL"},{"do":"connect","equipment":"LD"},{"do":"bus_view","level":"VL"},{"do":"disconnect","equipment":"BBS1"},{"do":"open","switch":"D1"},{"do":"open","switch":"B"},{"do":"connect","equipment":"LD"}"#,
+        r#"1 InitialState connect LD 1: already connected
 2 InitialState disconnect LD 1: opened B
 3 InitialState bus_view VL: 1 buses
   bus VL_0 | 0 1 2 5 | BBS1.1 BBS2.1 G.1 | load 0 | generation 60000000
@@ -44,10 +41,10 @@ fn commands(rt: HostRuntime) -> Result<(), Fail> {
 8 InitialState open B: done
 9 InitialState connect LD 1: no path
 "#,
-        ),
-        (
-            r#"{"do":"clone","from":"InitialState","to":"VA"},{"do":"use","variant":"VA"},{"do":"open","switch":"BC"},{"do":"clone","from":"VA","to":"VA"},{"do":"clone","from":"VA","to":"VA","overwrite":true},{"do":"bus_view","level":"VL"}"#,
-            r#"1 InitialState clone InitialState VA: created
+    ),
+    (
+        r#"{"do":"clone","from":"InitialState","to":"VA"},{"do":"use","variant":"VA"},{"do":"open","switch":"BC"},{"do":"clone","from":"VA","to":"VA"},{"do":"clone","from":"VA","to":"VA","overwrite":true},{"do":"bus_view","level":"VL"}"#,
+        r#"1 InitialState clone InitialState VA: created
 2 InitialState use VA: done
 3 VA open BC: done
 4 VA clone VA VA: refused 45 target exists
@@ -56,10 +53,10 @@ fn commands(rt: HostRuntime) -> Result<(), Fail> {
   bus VL_0 | 0 2 3 4 | BBS1.1 LD.1 | load 50000000 | generation 0
   bus VL_1 | 1 5 | BBS2.1 G.1 | load 0 | generation 60000000
 "#,
-        ),
-        (
-            r#"{"do":"clone","from":"InitialState","to":"VA"},{"do":"use","variant":"VA"},{"do":"open","switch":"BC"},{"do":"clone","from":"InitialState","to":"VB"},{"do":"use","variant":"VB"},{"do":"bus_view","level":"VL"},{"do":"use","variant":"VA"},{"do":"remove","variant":"VB"},{"do":"clone","from":"VA","to":"VB"},{"do":"use","variant":"VB"},{"do":"bus_view","level":"VL"},{"do":"remove","variant":"InitialState"}"#,
-            r#"1 InitialState clone InitialState VA: created
+    ),
+    (
+        r#"{"do":"clone","from":"InitialState","to":"VA"},{"do":"use","variant":"VA"},{"do":"open","switch":"BC"},{"do":"clone","from":"InitialState","to":"VB"},{"do":"use","variant":"VB"},{"do":"bus_view","level":"VL"},{"do":"use","variant":"VA"},{"do":"remove","variant":"VB"},{"do":"clone","from":"VA","to":"VB"},{"do":"use","variant":"VB"},{"do":"bus_view","level":"VL"},{"do":"remove","variant":"InitialState"}"#,
+        r#"1 InitialState clone InitialState VA: created
 2 InitialState use VA: done
 3 VA open BC: done
 4 VA clone InitialState VB: created
@@ -75,10 +72,10 @@ fn commands(rt: HostRuntime) -> Result<(), Fail> {
   bus VL_1 | 1 5 | BBS2.1 G.1 | load 0 | generation 60000000
 12 VB remove InitialState: refused 46 initial stays
 "#,
-        ),
-        (
-            r#"{"do":"add_switch","id":"LD","level":"VL","kind":"BREAKER","node1":0,"node2":5},{"do":"add_switch","id":"X","level":"ZZ","kind":"BREAKER","node1":0,"node2":5},{"do":"add_switch","id":"X","level":"VL","kind":"BREAKER","node1":3,"node2":3},{"do":"add_switch","id":"X","level":"VL","kind":"BREAKER","node1":0,"node2":65536},{"do":"add_injection","kind":"LOAD","id":"X","level":"VL","node":0,"p0":1,"q0":0},{"do":"remove_internal","level":"VL","node1":0,"node2":1},{"do":"remove_switch","id":"LD"},{"do":"add_level","id":"V2","substation":"S","nominal_v":0},{"do":"add_injection","kind":"GENERATOR","id":"X","level":"VL","node":6,"target_p":4,"target_v":1,"min_p":5,"max_p":3},{"do":"bus_view","level":"VL"}"#,
-            r#"1 InitialState add_switch LD: refused 30 id taken
+    ),
+    (
+        r#"{"do":"add_switch","id":"LD","level":"VL","kind":"BREAKER","node1":0,"node2":5},{"do":"add_switch","id":"X","level":"ZZ","kind":"BREAKER","node1":0,"node2":5},{"do":"add_switch","id":"X","level":"VL","kind":"BREAKER","node1":3,"node2":3},{"do":"add_switch","id":"X","level":"VL","kind":"BREAKER","node1":0,"node2":65536},{"do":"add_injection","kind":"LOAD","id":"X","level":"VL","node":0,"p0":1,"q0":0},{"do":"remove_internal","level":"VL","node1":0,"node2":1},{"do":"remove_switch","id":"LD"},{"do":"add_level","id":"V2","substation":"S","nominal_v":0},{"do":"add_injection","kind":"GENERATOR","id":"X","level":"VL","node":6,"target_p":4,"target_v":1,"min_p":5,"max_p":3},{"do":"bus_view","level":"VL"}"#,
+        r#"1 InitialState add_switch LD: refused 30 id taken
 2 InitialState add_switch X: refused 32 no level
 3 InitialState add_switch X: refused 22 same node 3
 4 InitialState add_switch X: refused 20 node range 65536
@@ -90,32 +87,33 @@ fn commands(rt: HostRuntime) -> Result<(), Fail> {
 10 InitialState bus_view VL: 1 buses
   bus VL_0 | 0 1 2 3 4 5 | BBS1.1 BBS2.1 LD.1 G.1 | load 50000000 | generation 60000000
 "#,
-        ),
-    ];
-    for (script, wanted) in cases {
+    ),
+];
+
+#[test]
+fn commands(rt: HostRuntime) -> Result<(), Fail> {
+    let alloc = rt.alloc();
+    for (script, wanted) in COMMANDS {
         let lines = worker_lines(alloc, duo_with(alloc, script, "]]}")?)?;
         assert_eq!(rt; lines.as_str(), wanted);
     }
     Ok(())
 }
 
-#[test]
-fn other_networks(rt: HostRuntime) -> Result<(), Fail> {
-    let alloc = rt.alloc();
-    let cases = [
-        (
-            r#"{"format":1,"network":{"id":"TIE","substations":[{"id":"S","levels":[{"id":"T","nominal_v":225000,"busbars":[{"id":"BA","node":0},{"id":"BB","node":1}],"switches":[{"id":"K1","kind":"BREAKER","node1":0,"node2":2,"open":true},{"id":"K2","kind":"BREAKER","node1":1,"node2":2,"open":true},{"id":"K3","kind":"BREAKER","node1":2,"node2":3}],"injections":[{"kind":"LOAD","id":"X","node":3,"p0":1,"q0":0}]}]}]},"workers":[[{"do":"connect","equipment":"X"}]]}"#,
-            r#"1 InitialState connect X 1: closed K1
+const OTHER_NETWORKS: [(&str, &str); 3] = [
+    (
+        r#"{"format":1,"network":{"id":"TIE","substations":[{"id":"S","levels":[{"id":"T","nominal_v":225000,"busbars":[{"id":"BA","node":0},{"id":"BB","node":1}],"switches":[{"id":"K1","kind":"BREAKER","node1":0,"node2":2,"open":true},{"id":"K2","kind":"BREAKER","node1":1,"node2":2,"open":true},{"id":"K3","kind":"BREAKER","node1":2,"node2":3}],"injections":[{"kind":"LOAD","id":"X","node":3,"p0":1,"q0":0}]}]}]},"workers":[[{"do":"connect","equipment":"X"}]]}"#,
+        r#"1 InitialState connect X 1: closed K1
 "#,
-        ),
-        (
-            r#"{"format":1,"network":{"id":"LONG","substations":[{"id":"S","levels":[{"id":"T","nominal_v":225000,"busbars":[{"id":"BA","node":0}],"switches":[{"id":"P","kind":"BREAKER","node1":0,"node2":2,"open":true},{"id":"Q","kind":"BREAKER","node1":2,"node2":1,"open":true},{"id":"R","kind":"DISCONNECTOR","node1":0,"node2":3},{"id":"S1","kind":"DISCONNECTOR","node1":3,"node2":4},{"id":"U","kind":"BREAKER","node1":4,"node2":1,"open":true}],"injections":[{"kind":"LOAD","id":"X","node":1,"p0":1,"q0":0}]}]}]},"workers":[[{"do":"connect","equipment":"X"}]]}"#,
-            r#"1 InitialState connect X 1: closed U
+    ),
+    (
+        r#"{"format":1,"network":{"id":"LONG","substations":[{"id":"S","levels":[{"id":"T","nominal_v":225000,"busbars":[{"id":"BA","node":0}],"switches":[{"id":"P","kind":"BREAKER","node1":0,"node2":2,"open":true},{"id":"Q","kind":"BREAKER","node1":2,"node2":1,"open":true},{"id":"R","kind":"DISCONNECTOR","node1":0,"node2":3},{"id":"S1","kind":"DISCONNECTOR","node1":3,"node2":4},{"id":"U","kind":"BREAKER","node1":4,"node2":1,"open":true}],"injections":[{"kind":"LOAD","id":"X","node":1,"p0":1,"q0":0}]}]}]},"workers":[[{"do":"connect","equipment":"X"}]]}"#,
+        r#"1 InitialState connect X 1: closed U
 "#,
-        ),
-        (
-            r#"{"format":1,"network":{"id":"LINEQ","substations":[{"id":"SQ","levels":[{"id":"Q","nominal_v":225000,"switches":[{"id":"KQ","kind":"BREAKER","node1":0,"node2":1}],"injections":[{"kind":"LOAD","id":"X","node":1,"p0":7,"q0":0}]}]},{"id":"SR","levels":[{"id":"R","nominal_v":225000}]}],"lines":[{"id":"Z","ends":[{"level":"Q","node":0},{"level":"R","node":0}]}]},"workers":[[{"do":"bus_view","level":"Q"},{"do":"connect","equipment":"X"},{"do":"disconnect","equipment":"X"},{"do":"bus_view","level":"R"},{"do":"components","level":"Q"}]]}"#,
-            r#"1 InitialState bus_view Q: 1 buses
+    ),
+    (
+        r#"{"format":1,"network":{"id":"LINEQ","substations":[{"id":"SQ","levels":[{"id":"Q","nominal_v":225000,"switches":[{"id":"KQ","kind":"BREAKER","node1":0,"node2":1}],"injections":[{"kind":"LOAD","id":"X","node":1,"p0":7,"q0":0}]}]},{"id":"SR","levels":[{"id":"R","nominal_v":225000}]}],"lines":[{"id":"Z","ends":[{"level":"Q","node":0},{"level":"R","node":0}]}]},"workers":[[{"do":"bus_view","level":"Q"},{"do":"connect","equipment":"X"},{"do":"disconnect","equipment":"X"},{"do":"bus_view","level":"R"},{"do":"components","level":"Q"}]]}"#,
+        r#"1 InitialState bus_view Q: 1 buses
   bus Q_0 | 0 1 | Z.1 X.1 | load 7 | generation 0
 2 InitialState connect X 1: no path
 3 InitialState disconnect X 1: already disconnected
@@ -123,9 +121,13 @@ fn other_networks(rt: HostRuntime) -> Result<(), Fail> {
 5 InitialState components Q: 1 buses
   Q_0 component 0 of 1 buses
 "#,
-        ),
-    ];
-    for (job, wanted) in cases {
+    ),
+];
+
+#[test]
+fn other_networks(rt: HostRuntime) -> Result<(), Fail> {
+    let alloc = rt.alloc();
+    for (job, wanted) in OTHER_NETWORKS {
         let lines = worker_lines(alloc, job.as_bytes().to_vec(alloc)?)?;
         assert_eq!(rt; lines.as_str(), wanted);
     }

@@ -5,14 +5,8 @@ use std::test::Fail;
 const FOUR: &str =
     r#"{"format":1,"network":{"id":"FOUR","substations":[{"id":"S1","levels":[{"id":"A","nominal_v":400000,"busbars":[{"id":"BBA","node":0}],"switches":[{"id":"A1","kind":"BREAKER","node1":0,"node2":1},{"id":"A2","kind":"BREAKER","node1":0,"node2":2}]},{"id":"B","nominal_v":225000,"busbars":[{"id":"BBB","node":0}],"switches":[{"id":"B1","kind":"BREAKER","node1":0,"node2":1},{"id":"B2","kind":"BREAKER","node1":0,"node2":2}],"injections":[{"kind":"LOAD","id":"LB","node":2,"p0":80000000,"q0":0}]}],"transformers":[{"kind":"TWO_WINDINGS","id":"TR","ends":[{"level":"A","node":2},{"level":"B","node":1}],"rated_u":[400000,225000]}]},{"id":"S2","levels":[{"id":"C","nominal_v":400000,"busbars":[{"id":"BBC","node":0}],"switches":[{"id":"C1","kind":"BREAKER","node1":0,"node2":1},{"id":"C2","kind":"BREAKER","node1":0,"node2":2},{"id":"C3","kind":"BREAKER","node1":0,"node2":3}],"injections":[{"kind":"LOAD","id":"LC","node":3,"p0":30000000,"q0":0}]}]},{"id":"S3","levels":[{"id":"D","nominal_v":400000,"busbars":[{"id":"BBD","node":0}],"switches":[{"id":"D1","kind":"BREAKER","node1":0,"node2":1},{"id":"D2","kind":"BREAKER","node1":0,"node2":2}],"injections":[{"kind":"GENERATOR","id":"GD","node":2,"target_p":120000000,"target_v":400000,"min_p":0,"max_p":200000000}]}]}],"lines":[{"id":"L1","ends":[{"level":"A","node":1},{"level":"C","node":1}]},{"id":"L2","ends":[{"level":"C","node":2},{"level":"D","node":1}]}]},"workers":[[{"do":"clone","from":"InitialState","to":"X"},{"do":"use","variant":"X"},{"do":"disconnect","equipment":"L1","side":1},{"do":"components","level":"C"}],[{"do":"clone","from":"InitialState","to":"Y"},{"do":"use","variant":"Y"},{"do":"disconnect","equipment":"GD","side":1},{"do":"bus_view","level":"D"}],[{"do":"add_switch","id":"A3","level":"A","kind":"BREAKER","node1":0,"node2":3},{"do":"add_injection","kind":"LOAD","id":"LA","level":"A","node":3,"p0":10000000,"q0":0},{"do":"bus_view","level":"A"}]]}"#;
 
-#[test]
-fn workers_in_turn(rt: HostRuntime) -> Result<(), Fail> {
-    let alloc = rt.alloc();
-    let (status, written) = told(alloc, &["replay"], FOUR.as_bytes().to_vec(alloc)?)?;
-    assert_eq!(rt; status.as_str(), "Done");
-    assert_eq!(rt;
-        written.as_str(),
-        r#"order 0 0 0 0 1 1 1 1 2 2 2
+// The report of FOUR.
+const FOUR_REPORT: &str = r#"order 0 0 0 0 1 1 1 1 2 2 2
 worker 0
 1 InitialState clone InitialState X: created
 2 InitialState use X: done
@@ -58,19 +52,22 @@ level C: 1 buses
 level D: 1 buses
   bus D_0 | 0 1 | BBD.1 L2.2 | load 0 | generation 0
 end
-"#
-    );
+"#;
+
+#[test]
+fn workers_in_turn(rt: HostRuntime) -> Result<(), Fail> {
+    let alloc = rt.alloc();
+    let (status, written) = told(alloc, &["replay"], FOUR.as_bytes().to_vec(alloc)?)?;
+    assert_eq!(rt; status.as_str(), "Done");
+    assert_eq!(rt; written.as_str(), FOUR_REPORT);
     Ok(())
 }
 
-#[test]
-fn orders_and_listeners(rt: HostRuntime) -> Result<(), Fail> {
-    let alloc = rt.alloc();
-    let cases = [
-        (
-            r#"{"do":"clone","from":"InitialState","to":"VA"},{"do":"use","variant":"VA"},{"do":"open","switch":"BC"}],[{"do":"clone","from":"InitialState","to":"VB"},{"do":"use","variant":"VB"},{"do":"disconnect","equipment":"LD"},{"do":"bus_view","level":"VL"}"#,
-            r#"]],"order":[1,0,1,0,1,0,1]}"#,
-            r#"order 1 0 1 0 1 0 1
+const ORDERS: [(&str, &str, &str); 3] = [
+    (
+        r#"{"do":"clone","from":"InitialState","to":"VA"},{"do":"use","variant":"VA"},{"do":"open","switch":"BC"}],[{"do":"clone","from":"InitialState","to":"VB"},{"do":"use","variant":"VB"},{"do":"disconnect","equipment":"LD"},{"do":"bus_view","level":"VL"}"#,
+        r#"]],"order":[1,0,1,0,1,0,1]}"#,
+        r#"order 1 0 1 0 1 0 1
 worker 0
 1 InitialState clone InitialState VA: created
 2 InitialState use VA: done
@@ -93,11 +90,11 @@ level VL: 1 buses
   bus VL_0 | 0 1 2 5 | BBS1.1 BBS2.1 G.1 | load 0 | generation 60000000
 end
 "#,
-        ),
-        (
-            r#"{"do":"clone","from":"InitialState","to":"VB"},{"do":"add_switch","id":"N","level":"VL","kind":"BREAKER","node1":3,"node2":5},{"do":"remove_switch","id":"N"}],[{"do":"use","variant":"VB"},{"do":"open","switch":"BC"},{"do":"bus_view","level":"VL"},{"do":"bus_view","level":"VL"},{"do":"open","switch":"N"}"#,
-            r#"]],"order":[0,1,1,1,0,1,0,1]}"#,
-            r#"order 0 1 1 1 0 1 0 1
+    ),
+    (
+        r#"{"do":"clone","from":"InitialState","to":"VB"},{"do":"add_switch","id":"N","level":"VL","kind":"BREAKER","node1":3,"node2":5},{"do":"remove_switch","id":"N"}],[{"do":"use","variant":"VB"},{"do":"open","switch":"BC"},{"do":"bus_view","level":"VL"},{"do":"bus_view","level":"VL"},{"do":"open","switch":"N"}"#,
+        r#"]],"order":[0,1,1,1,0,1,0,1]}"#,
+        r#"order 0 1 1 1 0 1 0 1
 worker 0
 1 InitialState clone InitialState VB: created
 2 InitialState add_switch N: done
@@ -120,11 +117,11 @@ level VL: 2 buses
   bus VL_1 | 1 5 | BBS2.1 G.1 | load 0 | generation 60000000
 end
 "#,
-        ),
-        (
-            r#"{"do":"clone","from":"InitialState","to":"VA"},{"do":"use","variant":"VA"},{"do":"open","switch":"BC"},{"do":"open","switch":"BC"}"#,
-            r#"]],"listeners":[{"kinds":["updated"],"variant":"VA"}]}"#,
-            r#"order 0 0 0 0
+    ),
+    (
+        r#"{"do":"clone","from":"InitialState","to":"VA"},{"do":"use","variant":"VA"},{"do":"open","switch":"BC"},{"do":"open","switch":"BC"}"#,
+        r#"]],"listeners":[{"kinds":["updated"],"variant":"VA"}]}"#,
+        r#"order 0 0 0 0
 worker 0
 1 InitialState clone InitialState VA: created
 2 InitialState use VA: done
@@ -141,9 +138,13 @@ listener 0
 updated VA BC opened
 end
 "#,
-        ),
-    ];
-    for (scripts, tail, wanted) in cases {
+    ),
+];
+
+#[test]
+fn orders_and_listeners(rt: HostRuntime) -> Result<(), Fail> {
+    let alloc = rt.alloc();
+    for (scripts, tail, wanted) in ORDERS {
         let (status, written) = told(alloc, &["replay"], duo_with(alloc, scripts, tail)?)?;
         assert_eq!(rt; status.as_str(), "Done");
         assert_eq!(rt; written.as_str(), wanted);

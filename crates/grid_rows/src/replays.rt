@@ -66,13 +66,10 @@ pub(crate) fn told(
     Ok((named(alloc, status)?, written))
 }
 
-#[test]
-fn reports(rt: HostRuntime) -> Result<(), Fail> {
-    let alloc = rt.alloc();
-    let cases = [
-        (
-            r#"{"do":"bus_view","level":"VL"}"#,
-            r#"order 0
+const REPORTS: [(&str, &str); 4] = [
+    (
+        r#"{"do":"bus_view","level":"VL"}"#,
+        r#"order 0
 worker 0
 1 InitialState bus_view VL: 1 buses
   bus VL_0 | 0 1 2 3 4 5 | BBS1.1 BBS2.1 LD.1 G.1 | load 50000000 | generation 60000000
@@ -81,10 +78,10 @@ level VL: 1 buses
   bus VL_0 | 0 1 2 3 4 5 | BBS1.1 BBS2.1 LD.1 G.1 | load 50000000 | generation 60000000
 end
 "#,
-        ),
-        (
-            r#"{"do":"open","switch":"BC"},{"do":"bus_view","level":"VL"}"#,
-            r#"order 0 0
+    ),
+    (
+        r#"{"do":"open","switch":"BC"},{"do":"bus_view","level":"VL"}"#,
+        r#"order 0 0
 worker 0
 1 InitialState open BC: done
 2 InitialState bus_view VL: 2 buses
@@ -96,10 +93,10 @@ level VL: 2 buses
   bus VL_1 | 1 5 | BBS2.1 G.1 | load 0 | generation 60000000
 end
 "#,
-        ),
-        (
-            r#"{"do":"close","switch":"D2"},{"do":"open","switch":"BC"},{"do":"bus_view","level":"VL"}"#,
-            r#"order 0 0 0
+    ),
+    (
+        r#"{"do":"close","switch":"D2"},{"do":"open","switch":"BC"},{"do":"bus_view","level":"VL"}"#,
+        r#"order 0 0 0
 worker 0
 1 InitialState close D2: done
 2 InitialState open BC: done
@@ -110,10 +107,10 @@ level VL: 1 buses
   bus VL_0 | 0 1 2 3 4 5 | BBS1.1 BBS2.1 LD.1 G.1 | load 50000000 | generation 60000000
 end
 "#,
-        ),
-        (
-            r#"{"do":"open","switch":"ZZ"},{"do":"open","switch":"BC"},{"do":"open","switch":"BC"},{"do":"bus_view","level":"ZZ"},{"do":"close","switch":"BC"},{"do":"close","switch":"BC"},{"do":"bus_view","level":"VL"}"#,
-            r#"order 0 0 0 0 0 0 0
+    ),
+    (
+        r#"{"do":"open","switch":"ZZ"},{"do":"open","switch":"BC"},{"do":"open","switch":"BC"},{"do":"bus_view","level":"ZZ"},{"do":"close","switch":"BC"},{"do":"close","switch":"BC"},{"do":"bus_view","level":"VL"}"#,
+        r#"order 0 0 0 0 0 0 0
 worker 0
 1 InitialState open ZZ: refused 41 no switch
 2 InitialState open BC: done
@@ -128,9 +125,13 @@ level VL: 1 buses
   bus VL_0 | 0 1 2 3 4 5 | BBS1.1 BBS2.1 LD.1 G.1 | load 50000000 | generation 60000000
 end
 "#,
-        ),
-    ];
-    for (script, wanted) in cases {
+    ),
+];
+
+#[test]
+fn reports(rt: HostRuntime) -> Result<(), Fail> {
+    let alloc = rt.alloc();
+    for (script, wanted) in REPORTS {
         let (status, written) = told(alloc, &["replay"], duo(alloc, script)?)?;
         assert_eq!(rt; status.as_str(), "Done");
         assert_eq!(rt; written.as_str(), wanted);
@@ -138,40 +139,37 @@ end
     Ok(())
 }
 
-#[test]
-fn networks(rt: HostRuntime) -> Result<(), Fail> {
-    let alloc = rt.alloc();
-    let cases: [(&str, &str, &str); 7] = [
-        (
-            "check",
-            ONE,
-            "ok: 1 substations, 1 levels, 0 switches, 0 commands\n",
-        ),
-        (
-            "check",
-            r#"{"format":1,"network":{"id":"N"},"workers":[[{"do":"use","variant":"A"},{"do":"open","switch":"B"}],[{"do":"components","level":"V"}]]}"#,
-            "ok: 0 substations, 0 levels, 0 switches, 3 commands\n",
-        ),
-        ("replay", EMPTY, "order\nvariant InitialState\nend\n"),
-        (
-            "replay",
-            r#"{"format":1,"network":{"id":"N"},"workers":[[],[]]}"#,
-            "order\nworker 0\nworker 1\nvariant InitialState\nend\n",
-        ),
-        (
-            "replay",
-            r#"{"format":1,"network":{"id":"N"},"workers":[[]],"order":[]}"#,
-            "order\nworker 0\nvariant InitialState\nend\n",
-        ),
-        (
-            "replay",
-            r#"{"format":1,"network":{"id":"N"},"workers":[[{"do":"components","level":"V"}]]}"#,
-            "order 0\nworker 0\n1 InitialState components V: refused 44 no level\nvariant InitialState\nend\n",
-        ),
-        (
-            "replay",
-            TWO,
-            r#"order 0 0 0
+const NETWORKS: [(&str, &str, &str); 7] = [
+    (
+        "check",
+        ONE,
+        "ok: 1 substations, 1 levels, 0 switches, 0 commands\n",
+    ),
+    (
+        "check",
+        r#"{"format":1,"network":{"id":"N"},"workers":[[{"do":"use","variant":"A"},{"do":"open","switch":"B"}],[{"do":"components","level":"V"}]]}"#,
+        "ok: 0 substations, 0 levels, 0 switches, 3 commands\n",
+    ),
+    ("replay", EMPTY, "order\nvariant InitialState\nend\n"),
+    (
+        "replay",
+        r#"{"format":1,"network":{"id":"N"},"workers":[[],[]]}"#,
+        "order\nworker 0\nworker 1\nvariant InitialState\nend\n",
+    ),
+    (
+        "replay",
+        r#"{"format":1,"network":{"id":"N"},"workers":[[]],"order":[]}"#,
+        "order\nworker 0\nvariant InitialState\nend\n",
+    ),
+    (
+        "replay",
+        r#"{"format":1,"network":{"id":"N"},"workers":[[{"do":"components","level":"V"}]]}"#,
+        "order 0\nworker 0\n1 InitialState components V: refused 44 no level\nvariant InitialState\nend\n",
+    ),
+    (
+        "replay",
+        TWO,
+        r#"order 0 0 0
 worker 0
 1 InitialState close X: done
 2 InitialState bus_view W: 1 buses
@@ -183,9 +181,13 @@ level W: 1 buses
   bus W_3 | 3 4 | B2.1 L2.1 | load 5 | generation 0
 end
 "#,
-        ),
-    ];
-    for (word, job, wanted) in cases {
+    ),
+];
+
+#[test]
+fn networks(rt: HostRuntime) -> Result<(), Fail> {
+    let alloc = rt.alloc();
+    for (word, job, wanted) in NETWORKS {
         let (status, written) = told(alloc, &[word], job.as_bytes().to_vec(alloc)?)?;
         assert_eq!(rt; status.as_str(), "Done");
         assert_eq!(rt; written.as_str(), wanted);
