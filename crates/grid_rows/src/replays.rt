@@ -139,7 +139,13 @@ fn reports(rt: HostRuntime) -> Result<(), Fail> {
     Ok(())
 }
 
-const NETWORKS: [(&str, &str, &str); 7] = [
+const NETWORKS: [(&str, &str, &str); 8] = [
+    (
+        "print",
+        ONE,
+        r#"{"format":1,"listeners":[],"network":{"id":"N","lines":[],"substations":[{"id":"S","levels":[{"busbars":[{"id":"BB","node":0}],"id":"V","injections":[],"internal":[],"nominal_v":400000,"switches":[]}],"transformers":[]}]},"workers":[]}
+"#,
+    ),
     (
         "check",
         ONE,
@@ -196,10 +202,38 @@ fn networks(rt: HostRuntime) -> Result<(), Fail> {
 }
 
 #[test]
+fn made_jobs(rt: HostRuntime) -> Result<(), Fail> {
+    let alloc = rt.alloc();
+    let (status, job) = told(alloc, &["make", "1", "1"], Vec::new(alloc))?;
+    assert_eq!(rt; status.as_str(), "Done");
+    let (status, counts) = told(alloc, &["check"], job.as_bytes().to_vec(alloc)?)?;
+    assert_eq!(rt; status.as_str(), "Done");
+    assert_eq!(rt;
+        counts.as_str(),
+        "ok: 1 substations, 1 levels, 13 switches, 28 commands\n"
+    );
+    let (status, line) = told(alloc, &["trial", "1", "1"], Vec::new(alloc))?;
+    assert_eq!(rt; status.as_str(), "Done");
+    assert_eq!(rt;
+        line.as_str(),
+        "trial 1 1: 28 commands, 8 switches operated, 6 buses\n"
+    );
+    Ok(())
+}
+
+#[test]
 fn statuses(rt: HostRuntime) -> Result<(), Fail> {
     let alloc = rt.alloc();
-    let cases: [(&[&str], &str, &str); 7] = [
+    let cases: [(&[&str], &str, &str); 15] = [
         (&[], "", "Usage"),
+        (&["make"], "", "Usage"),
+        (&["make", "1"], "", "Usage"),
+        (&["make", "01", "1"], "", "Usage"),
+        (&["make", "+1", "1"], "", "Usage"),
+        (&["make", "1", "1", "1"], "", "Usage"),
+        (&["trial", "65537", "1"], "", "Usage"),
+        (&["trial", "1", "0"], "", "Usage"),
+        (&["trial", "1", "1001"], "", "Usage"),
         (&["replay", "x"], "", "Usage"),
         (&["--help"], "", "Usage"),
         (&["replay"], "", "BadJson"),
