@@ -21,3 +21,4 @@ pub mod Operating
 pub mod Entering
 pub mod Beginning
 pub mod Reshaping
+pub mod Widening

@@ -9,15 +9,14 @@ use Rattle.grid_ids.specs.Name.{same_id, has_id}
 use Rattle.grid_level.specs.VoltageLevel.{VoltageLevel}
 use Rattle.grid_structure.specs.declared.NamedBranch.{NamedBranch}
 use Rattle.grid_structure.specs.declared.structure.Head.{Head}
-use Rattle.grid_structure.specs.Network.{Substation}
 use Rattle.grid_structure.specs.Cutting.{cut, level_total, transformer_total}
 use Rattle.grid_structure.specs.Clearing.{winding_place, IsDropped}
 use Rattle.grid_structure.specs.Editing.{without_branch, substation_without}
 use Rattle.grid_structure.proofs.Counts.{times, times-append, not_there}
-use Rattle.grid_structure.proofs.Places.{position-cons, position_found, position_none, length-slice_set, get_there}
+use Rattle.grid_structure.proofs.Places.{position-cons, position_found, position_none, length-slice_set}
 use Rattle.grid_structure.proofs.Found.{any-map}
 use Rattle.grid_structure.proofs.Cutting.{joined, length_drop}
-use Rattle.grid_structure.proofs.Homed.{Behind, found_back}
+use Rattle.grid_structure.proofs.Homed.{found_back}
 
 -- ---- one item out of a list, by its name
 

@@ -1,10 +1,10 @@
-use Rattle.std.proofs.Common.{◌≡◌, ◌∙◌, refl, sym, ap, rules, arith, Some, None, List, length}
+use Rattle.std.proofs.Common.{◌≡◌, ◌∙◌, refl, sym, ap, arith, Some, None, length}
 use Rattle.std.specs.Prelude.{map}
 use Rattle.std.specs.Str.{bytes_eq}
 use Rattle.std.specs.HashMap.{get}
 use Rattle.grid_level.specs.LevelEdits.{level_without_equipment}
 use Rattle.grid_structure.specs.Indexed.{sides_at, terminal_at}
-use Rattle.grid_structure.specs.Clearing.{cleared, IsDropped}
+use Rattle.grid_structure.specs.Clearing.{cleared}
 use Rattle.grid_structure.proofs.Cleared.{length-cleared}
 use Rattle.grid_structure.proofs.Equipped.{nothing_removed, side_inside, cleared_all, single_done, single_kept, equipment_done, equipment_kept, lines_differ, transformers_differ}
 use Rattle.grid_structure.proofs.structure.Structure.remove_equipment.Goals as goal
