@@ -1,6 +1,7 @@
 //! The program: real streams round the top call.
 #![tactic(auto)]
 
+mod usage;
 mod why;
 
 use grid_cli::{Status, grid_once};
@@ -9,12 +10,13 @@ use grid_source::{StdSink, StdSource};
 use std::process::ExitCode;
 use std::{env, io};
 use thiserror::Error;
+use usage::usage_text;
 use why::{Why, why_of};
 
 /// Why a run was not done: the line on standard error.
 #[derive(Debug, Drop, Error)]
 enum Fault {
-    #[error("grid: usage: grid check < JOB (counts what a job has), or grid replay < JOB > REPORT (runs a job)")]
+    #[error("grid: the words are none of the forms below; nothing was read")]
     Usage,
     #[error("grid: standard input could not be read to its end; nothing was written")]
     ReadFault,
@@ -85,10 +87,21 @@ fn run(rt: &HostRuntime) -> Status {
     grid_once(rt.alloc(), words.as_slice(), &mut source, &mut sink)
 }
 
+/// Tells a fault on standard error, and how the program is called where that is the fault.
+fn tell(rt: &HostRuntime, fault: &Fault) {
+    let _ = eprintln!(rt; "{fault}");
+    if !matches!(fault, Fault::Usage) {
+        return;
+    }
+    if let Ok(usage) = usage_text(rt.alloc()) {
+        let _ = eprint!(rt; "\n{usage}");
+    }
+}
+
 fn main(rt: HostRuntime) -> ExitCode {
     let (code, fault) = ending(run(&rt));
     if let Some(fault) = fault {
-        let _ = eprintln!(rt; "{fault}");
+        tell(&rt, &fault);
     }
     ExitCode::from(code)
 }

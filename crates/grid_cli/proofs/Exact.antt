@@ -4,16 +4,18 @@ use Rattle.std.specs.Io.KnownBytes.{Consumes, IsAtEnd}
 use Rattle.std.proofs.lemmas.Bool.{le-ltb, lt-ltb}
 use Rattle.grid_source.specs.declared.whole.TheConstants.{MOST}
 use Rattle.grid_cli.specs.declared.words.Form.{Form}
+use Rattle.grid_cli.specs.declared.words.Form.TheVariants.{Check, Replay, Print, Make, Trial}
 use Rattle.grid_cli.specs.declared.once.Status.{Status}
 use Rattle.grid_cli.specs.declared.once.Status.TheVariants as statuses
-use Rattle.grid_cli.specs.Once.{ReadsWhole, Outcome, OutcomeOf, output, status_for, wanted, IsWanted, Exact}
+use Rattle.grid_cli.specs.Once.{ReadsWhole, Outcome, OutcomeOf, WritesAlone, output, status_for, status_within, wanted, IsWanted, Exact, made_text}
+use Rattle.grid_cli.specs.Trials.{trial_text}
 
 all_of : (bytes b : List ℕ) (left' : Option (List ℕ)) → Consumes (Some bytes) left' b → IsAtEnd left' → bytes ≡ b
 all_of bytes b None p q = absurd p
 all_of bytes b (Some r) p q = p ∙ ap (λ l. b ++ l) q ∙ append-nil b
 
 -- the bytes that were read whole decide
-decided : (form : Form) (bytes b : List ℕ) (left' : Option (List ℕ)) → ReadsWhole (Some bytes) left' b → wanted form bytes ≡ status_for (output form b)
+decided : (form : Form) (bytes b : List ℕ) (left' : Option (List ℕ)) → ReadsWhole (Some bytes) left' b → status_within form bytes ≡ status_for (output form b)
 decided form bytes b left' r =
     let e : bytes ≡ b = all_of bytes b left' r.read.consumed r.read.end in
     let small = le-ltb MOST (length b) r.within in
@@ -23,7 +25,7 @@ front_long : (bytes b : List ℕ) (left' : Option (List ℕ)) → MOST < length 
 front_long bytes b None long p = absurd p
 front_long bytes b (Some r) long p = omega (arith, ap length p, length-append b r)
 
-exact_some : (form : Form) (bytes : List ℕ) (left' old new : Option (List ℕ)) (s : Status) → OutcomeOf form (Some bytes) left' old new s → IsWanted (wanted form bytes) s
+exact_some : (form : Form) (bytes : List ℕ) (left' old new : Option (List ℕ)) (s : Status) → OutcomeOf form (Some bytes) left' old new s → IsWanted (status_within form bytes) s
 exact_some form bytes left' old new statuses.Done o = sym (decided form bytes o.0 left' o.2 ∙ ap status_for o.3)
 exact_some form bytes left' old new statuses.Usage o = absurd o
 exact_some form bytes left' old new statuses.ReadFault o = tt
@@ -33,10 +35,28 @@ exact_some form bytes left' old new (statuses.BadJob place reason) o = sym (deci
 exact_some form bytes left' old new statuses.WriteFault o = decided form bytes o.0 left' o.2 ∙ ap status_for o.3
 exact_some form bytes left' old new statuses.NoMemory o = tt
 
+-- of a form that reads nothing
+written : (text : List ℕ) (left left' old new : Option (List ℕ)) (s : Status) → WritesAlone text left left' old new s → IsWanted statuses.Done s
+written text left left' old new statuses.Done o = refl
+written text left left' old new statuses.WriteFault o = refl
+written text left left' old new statuses.NoMemory o = tt
+written text left left' old new statuses.Usage o = absurd o.1
+written text left left' old new statuses.ReadFault o = absurd o.1
+written text left left' old new statuses.TooLong o = absurd o.1
+written text left left' old new statuses.BadJson o = absurd o.1
+written text left left' old new (statuses.BadJob place reason) o = absurd o.1
+
+exact_form : (form : Form) (bytes : List ℕ) (left' old new : Option (List ℕ)) (s : Status) → Outcome (Some form) (Some bytes) left' old new s → IsWanted (wanted form bytes) s
+exact_form Check bytes left' old new s o = exact_some Check bytes left' old new s o
+exact_form Replay bytes left' old new s o = exact_some Replay bytes left' old new s o
+exact_form Print bytes left' old new s o = exact_some Print bytes left' old new s o
+exact_form (Make seed size) bytes left' old new s o = written (made_text seed size) (Some bytes) left' old new s o
+exact_form (Trial seed size) bytes left' old new s o = written (trial_text seed size) (Some bytes) left' old new s o
+
 pub exact : (form : Option Form) (left left' old new : Option (List ℕ)) (s : Status) → Outcome form left left' old new s → Exact form left s
 exact None left left' old new s o f bytes e l = absurd cc
 exact (Some g) None left' old new s o f bytes e l = absurd cc
 exact (Some g) (Some b) left' old new s o f bytes e l =
     let h : b ≡ bytes = cc in
     let same : g ≡ f = cc in
-    subst (λ x. IsWanted (wanted f x) s) h (subst (λ x. IsWanted (wanted x b) s) same (exact_some g b left' old new s o))
+    subst (λ x. IsWanted (wanted f x) s) h (subst (λ x. IsWanted (wanted x b) s) same (exact_form g b left' old new s o))

@@ -4,3 +4,5 @@ pub mod Scheduled
 pub mod Showing
 pub mod Written
 pub mod Exact
+pub mod Numbers
+pub mod Trialled

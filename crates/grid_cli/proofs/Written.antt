@@ -1,5 +1,5 @@
 -- What was read and written, put together.
-use Rattle.std.proofs.Common.{◌≡◌, ℕ, List, Option, Result, Ok, Err, ap, subst, inl, inr}
+use Rattle.std.proofs.Common.{◌≡◌, ◌∙◌, ◌++◌, ℕ, List, Option, None, Some, Result, Ok, Err, ap, sym, subst, inl, inr, take, drop, append_assoc, take-append-drop}
 use Rattle.std.specs.Prelude.{OnOk, OnErr}
 use Rattle.std.specs.Io.KnownBytes.{Appends, Keeps}
 use Rattle.grid_source.specs.Whole.{IsBegun}
@@ -9,12 +9,15 @@ use Rattle.grid_report.specs.declared.outcome.Outcome.{Outcome}
 use Rattle.grid_report.specs.Outcomes.{report_of}
 use Rattle.grid_report.specs.Histories.{history_of, outcome_of, report_text}
 use Rattle.grid_json.specs.declared.whole.Job.{Job}
+use Rattle.grid_json.specs.declared.whole.JobFault.{JobFault}
+use Rattle.grid_json.specs.declared.whole.JobFault.TheVariants as jobs
 use Rattle.grid_json.specs.Whole.{job_of}
-use Rattle.grid_cli.specs.declared.words.Form.{Form}
+use Rattle.grid_cli.specs.declared.once.Answer.{Answer}
+use Rattle.grid_cli.specs.declared.once.Answer.TheVariants as answers
 use Rattle.grid_cli.specs.declared.once.Status.{Status}
 use Rattle.grid_cli.specs.declared.once.Status.TheVariants as statuses
 use Rattle.grid_cli.specs.Orders.{order_of, replay_text}
-use Rattle.grid_cli.specs.Once.{ReadsJob, ReadsNoJob, Writes, OutcomeOf, output, output_for, text_of, status_after}
+use Rattle.grid_cli.specs.Once.{ReadsJob, ReadsNoJob, Writes, OutcomeOf, output, answer_to, output_for, form_for, text_of, status_after}
 
 pub handed : (written : Result (Unit {0}) ReportFault) (text : List ℕ) (old new : Option (List ℕ)) → OnOk written (Appends old new text) → OnErr written (IsBegun old text new) → Writes text old new (status_after written)
 handed (Ok done) text old new ok err = ok
@@ -29,28 +32,45 @@ reported job came written old new is ok err =
     let text : report_of came ≡ replay_text job = ap report_of is in
     subst (λ t. Writes t old new (status_after written)) text (handed written (report_of came) old new ok err)
 
--- the text of the job that was read
-told : (form : Form) (bytes : List ℕ) (job : Job) → job_of bytes ≡ Ok job → output form bytes ≡ Ok (text_of form job)
-unfolding output
-told form bytes job read = ap (output_for form) read
+-- the output for the job that was read
+told : (answer : Answer) (bytes : List ℕ) (job : Job) → job_of bytes ≡ Ok job → output (form_for answer) bytes ≡ Ok (text_of answer job)
+unfolding output answer_to
+told answers.Counts bytes job read = ap (output_for answers.Counts) read
+told answers.Report bytes job read = ap (output_for answers.Report) read
+told answers.Network bytes job read = ap (output_for answers.Network) read
 
-pub answered : (form : Form) (left left' old new : Option (List ℕ)) (job : Job) (status : Status) → ReadsJob left left' job → Writes (text_of form job) old new status → OutcomeOf form left left' old new status
-answered form left left' old new job statuses.Done r w = (r.0, text_of form job, r.1, told form r.0 job r.2, w)
-answered form left left' old new job statuses.WriteFault r w = (r.0, text_of form job, r.1, told form r.0 job r.2, w)
-answered form left left' old new job statuses.NoMemory r w = inr (r.0, text_of form job, r.1, told form r.0 job r.2, w)
-answered form left left' old new job statuses.Usage r w = absurd w
-answered form left left' old new job statuses.ReadFault r w = absurd w
-answered form left left' old new job statuses.TooLong r w = absurd w
-answered form left left' old new job statuses.BadJson r w = absurd w
-answered form left left' old new job (statuses.BadJob place reason) r w = absurd w
+-- there is none where there is no job
+untold : (answer : Answer) (bytes : List ℕ) (fault : JobFault) → job_of bytes ≡ Err fault → output (form_for answer) bytes ≡ output_for answer (Err fault)
+unfolding output answer_to
+untold answers.Counts bytes fault read = ap (output_for answers.Counts) read
+untold answers.Report bytes fault read = ap (output_for answers.Report) read
+untold answers.Network bytes fault read = ap (output_for answers.Network) read
 
-pub unread : (form : Form) (left left' old new : Option (List ℕ)) (status : Status) → ReadsNoJob left left' status → Keeps old new → OutcomeOf form left left' old new status
-unfolding output
-unread form left left' old new statuses.Done r w = absurd r
-unread form left left' old new statuses.Usage r w = absurd r
-unread form left left' old new statuses.ReadFault r w = (r, w)
-unread form left left' old new statuses.TooLong r w = (r, w)
-unread form left left' old new statuses.BadJson r w = ((r.0, r.1, ap (output_for form) r.2), w)
-unread form left left' old new (statuses.BadJob place reason) r w = ((r.0, r.1, ap (output_for form) r.2), w)
-unread form left left' old new statuses.WriteFault r w = absurd r
-unread form left left' old new statuses.NoMemory r w = inl (r, w)
+pub answered : (answer : Answer) (left left' old new : Option (List ℕ)) (job : Job) (status : Status) → ReadsJob left left' job → Writes (text_of answer job) old new status
+    → OutcomeOf (form_for answer) left left' old new status
+answered answer left left' old new job statuses.Done r w = (r.0, text_of answer job, r.1, told answer r.0 job r.2, w)
+answered answer left left' old new job statuses.WriteFault r w = (r.0, text_of answer job, r.1, told answer r.0 job r.2, w)
+answered answer left left' old new job statuses.NoMemory r w = inr (r.0, text_of answer job, r.1, told answer r.0 job r.2, w)
+answered answer left left' old new job statuses.Usage r w = absurd w
+answered answer left left' old new job statuses.ReadFault r w = absurd w
+answered answer left left' old new job statuses.TooLong r w = absurd w
+answered answer left left' old new job statuses.BadJson r w = absurd w
+answered answer left left' old new job (statuses.BadJob place reason) r w = absurd w
+
+pub unread : (answer : Answer) (left left' old new : Option (List ℕ)) (status : Status) → ReadsNoJob left left' status → Keeps old new → OutcomeOf (form_for answer) left left' old new status
+unread answer left left' old new statuses.Done r w = absurd r
+unread answer left left' old new statuses.Usage r w = absurd r
+unread answer left left' old new statuses.ReadFault r w = (r, w)
+unread answer left left' old new statuses.TooLong r w = (r, w)
+unread answer left left' old new statuses.BadJson r w = ((r.0, r.1, untold answer r.0 jobs.BadJson r.2), w)
+unread answer left left' old new (statuses.BadJob place reason) r w = ((r.0, r.1, untold answer r.0 (jobs.BadJob place reason) r.2), w)
+unread answer left left' old new statuses.WriteFault r w = absurd r
+unread answer left left' old new statuses.NoMemory r w = inl (r, w)
+
+-- ---- bytes that are handed over
+
+-- a front of a text was written
+pub stopped : (text : List ℕ) (done : ℕ) (old new : Option (List ℕ)) → Appends old new (take done text) → IsBegun old text new
+stopped text done None new w = tt
+stopped text done (Some o) None w = absurd w
+stopped text done (Some o) (Some n) w = (drop done text, ap (λ z. o ++ z) (sym (take-append-drop done text)) ∙ sym (append_assoc o (take done text) (drop done text)) ∙ ap (λ z. z ++ drop done text) (sym w))

@@ -1,4 +1,5 @@
 pub mod Words
 pub mod Counts
 pub mod Orders
+pub mod Trials
 pub mod Once

@@ -9,29 +9,53 @@ use Rattle.grid_json.specs.declared.whole.Job.{Job}
 use Rattle.grid_json.specs.declared.whole.JobFault.{JobFault}
 use Rattle.grid_json.specs.declared.whole.JobFault.TheVariants as jobs
 use Rattle.grid_json.specs.Whole.{job_of}
+use Rattle.grid_print.specs.Job.{job_text, network_text}
+use Rattle.grid_make.specs.MadeJob.{made_job}
 use Rattle.grid_cli.specs.declared.words.Form.{Form}
-use Rattle.grid_cli.specs.declared.words.Form.TheVariants.{Check, Replay}
+use Rattle.grid_cli.specs.declared.words.Form.TheVariants.{Check, Replay, Print, Make, Trial}
+use Rattle.grid_cli.specs.declared.once.Answer.{Answer}
+use Rattle.grid_cli.specs.declared.once.Answer.TheVariants as answers
 use Rattle.grid_cli.specs.declared.once.Status.{Status}
 use Rattle.grid_cli.specs.declared.once.Status.TheVariants as statuses
 use Rattle.grid_cli.specs.Counts.{check_text}
 use Rattle.grid_cli.specs.Orders.{replay_text}
+use Rattle.grid_cli.specs.Trials.{trial_text}
 
 -- ---- the output
 
--- what a form writes for a job
-unfoldable pub text_of : Form → Job → List ℕ
-text_of Check job = check_text job
-text_of Replay job = replay_text job
+-- what is written for a job that was read
+unfoldable pub text_of : Answer → Job → List ℕ
+text_of answers.Counts job = check_text job
+text_of answers.Report job = replay_text job
+text_of answers.Network job = network_text job.network
 
-abbrev pub output_for : Form → Result Job JobFault → Result (List ℕ) Status
-output_for form (Ok job) = Ok (text_of form job)
-output_for form (Err jobs.BadJson) = Err statuses.BadJson
-output_for form (Err (jobs.BadJob place reason)) = Err (statuses.BadJob place reason)
-output_for form (Err jobs.Memory) = Err statuses.NoMemory
+abbrev pub output_for : Answer → Result Job JobFault → Result (List ℕ) Status
+output_for answer (Ok job) = Ok (text_of answer job)
+output_for answer (Err jobs.BadJson) = Err statuses.BadJson
+output_for answer (Err (jobs.BadJob place reason)) = Err (statuses.BadJob place reason)
+output_for answer (Err jobs.Memory) = Err statuses.NoMemory
 
--- what a form writes for some bytes, or the status that says why there is nothing to write
+-- what is written for some bytes, or the status that says why there is nothing to write
+unfoldable pub answer_to : Answer → List ℕ → Result (List ℕ) Status
+answer_to answer bytes = output_for answer (job_of bytes)
+
+-- the text of a made job
+unfoldable pub made_text : ℕ → ℕ → List ℕ
+made_text seed size = job_text (made_job seed size)
+
+-- what a form writes for an input, of which `make` and `trial` take nothing
 unfoldable pub output : Form → List ℕ → Result (List ℕ) Status
-output form bytes = output_for form (job_of bytes)
+output Check bytes = answer_to answers.Counts bytes
+output Replay bytes = answer_to answers.Report bytes
+output Print bytes = answer_to answers.Network bytes
+output (Make seed size) bytes = Ok (made_text seed size)
+output (Trial seed size) bytes = Ok (trial_text seed size)
+
+-- the form that asks for an answer
+abbrev pub form_for : Answer → Form
+form_for answers.Counts = Check
+form_for answers.Report = Replay
+form_for answers.Network = Print
 
 -- ---- what was read and written
 
@@ -65,6 +89,7 @@ status_after (Ok done) = statuses.Done
 status_after (Err Stopped) = statuses.WriteFault
 status_after (Err Memory) = statuses.NoMemory
 
+-- what a form that reads has read and written
 abbrev pub OutcomeOf : Form → Option (List ℕ) → Option (List ℕ) → Option (List ℕ) → Option (List ℕ) → Status → Type 0
 OutcomeOf form left left' old new statuses.Done = HasOutput form (λ text. Appends old new text) left left'
 OutcomeOf form left left' old new statuses.Usage = ⊥
@@ -75,10 +100,18 @@ OutcomeOf form left left' old new (statuses.BadJob place reason) = HasNoOutput f
 OutcomeOf form left left' old new statuses.WriteFault = HasOutput form (λ text. IsBegun old text new) left left'
 OutcomeOf form left left' old new statuses.NoMemory = (ReadsFront left left' × Keeps old new) ⊎ HasOutput form (λ text. IsBegun old text new) left left'
 
+-- what a form that reads nothing has written
+abbrev pub WritesAlone : List ℕ → Option (List ℕ) → Option (List ℕ) → Option (List ℕ) → Option (List ℕ) → Status → Type 0
+WritesAlone text left left' old new status = (left' ≡ left) × Writes text old new status
+
 -- what a run has read and written, where its words ask for a form, or for none
 abbrev pub Outcome : Option Form → Option (List ℕ) → Option (List ℕ) → Option (List ℕ) → Option (List ℕ) → Status → Type 0
 Outcome None left left' old new status = (status ≡ statuses.Usage) × (left' ≡ left) × (new ≡ old)
-Outcome (Some form) left left' old new status = OutcomeOf form left left' old new status
+Outcome (Some (Make seed size)) left left' old new status = WritesAlone (made_text seed size) left left' old new status
+Outcome (Some (Trial seed size)) left left' old new status = WritesAlone (trial_text seed size) left left' old new status
+Outcome (Some Check) left left' old new status = OutcomeOf Check left left' old new status
+Outcome (Some Replay) left left' old new status = OutcomeOf Replay left left' old new status
+Outcome (Some Print) left left' old new status = OutcomeOf Print left left' old new status
 
 -- why no job was read, and what was read of the input
 abbrev pub ReadsNoJob : Option (List ℕ) → Option (List ℕ) → Status → Type 0
@@ -99,9 +132,17 @@ abbrev pub status_for : Result (List ℕ) Status → Status
 status_for (Ok text) = statuses.Done
 status_for (Err status) = status
 
+-- of a form that reads: the input may have so many bytes
+abbrev pub status_within : Form → List ℕ → Status
+status_within form bytes = if nat_lt MOST (length bytes) then statuses.TooLong else status_for (output form bytes)
+
 -- the status that a form and the bytes ask for
 abbrev pub wanted : Form → List ℕ → Status
-wanted form bytes = if nat_lt MOST (length bytes) then statuses.TooLong else status_for (output form bytes)
+wanted (Make seed size) bytes = statuses.Done
+wanted (Trial seed size) bytes = statuses.Done
+wanted Check bytes = status_within Check bytes
+wanted Replay bytes = status_within Replay bytes
+wanted Print bytes = status_within Print bytes
 
 -- A fault of the source or the sink may come in place of the status that is wanted, and so may want of memory.
 abbrev pub IsWanted : Status → Status → Type 0

@@ -30,23 +30,23 @@ impl Shown for Counts {
     #[tactic(auto, unfolding(crate::specs::Counts::counts_text))]
     fn show(&self, out: &mut Text) -> Result<(), Memory> {
         out.put("ok: ")?;
-        put_counted(out, u64::from(self.substations), " substations, ")?;
-        put_counted(out, u64::from(self.levels), " levels, ")?;
-        put_counted(out, u64::from(self.switches), " switches, ")?;
-        put_counted(out, self.commands as u64, " commands\n")
+        put_counted(out, u128::from(self.substations), " substations, ")?;
+        put_counted(out, u128::from(self.levels), " levels, ")?;
+        put_counted(out, u128::from(self.switches), " switches, ")?;
+        put_counted(out, self.commands as u128, " commands\n")
     }
 }
 
 /// Puts a number and the word for what it counts.
-fn put_counted(out: &mut Text, number: u64, word: &str) -> Result<(), Memory>
+pub(crate) fn put_counted(out: &mut Text, number: u128, word: &str) -> Result<(), Memory>
     ensures { OnOk result (out.new ≡ out.old ++ decimal number ++ word.now) }
 {
-    out.put_unsigned(number)?;
+    out.put_total(number)?;
     out.put(word)
 }
 
 /// How many commands all scripts have.
-fn count_commands(scripts: &[Script]) -> usize
+pub(crate) fn count_commands(scripts: &[Script]) -> usize
     requires { command_total scripts.now ≤ 20000 }
     ensures { result ≡ command_total scripts.now }
 {

@@ -4,7 +4,8 @@
 mod counts;
 mod once;
 mod running;
+mod trial;
 mod words;
 
 pub use once::{Status, grid_once};
-pub use words::{Form, read_words};
+pub use words::{Form, MOST_SEED, MOST_SIZE, read_words};

@@ -2,17 +2,23 @@
 ghost use Rattle.std.specs.Prelude.{◌≡◌, ◌↔◌, ◌≤◌, None, Err, IfOk, IfErr, map, string_bytes};
 ghost use Rattle.grid_source.specs.Causes.{Rose};
 ghost use Rattle.grid_json.specs.Job.{command_total};
-ghost use Rattle.grid_cli.specs.Words.{form_of};
+ghost use Rattle.grid_print.specs.Job.{network_text};
+ghost use Rattle.grid_cli.specs.declared.words.TheConstants.{MOST_SEED, MOST_SIZE};
+ghost use Rattle.grid_cli.specs.Words.{form_of, ReadsNothing};
 ghost use Rattle.grid_cli.specs.Orders.{IsScheduled, replay_text};
-ghost use Rattle.grid_cli.specs.Once.{Outcome, Exact, Writes, ReadsNoJob, ReadsJob, status_after, text_of};
+ghost use Rattle.grid_cli.specs.Once.{Outcome, OutcomeOf, form_for, Exact, Writes, ReadsNoJob, ReadsJob, status_after, text_of, made_text};
 
 use crate::counts::write_counts;
 use crate::running::run_job;
+use crate::trial::write_trial;
 use crate::words::{Form, read_words};
 use grid_ids::Memory;
 use grid_json::{Job, JobFault, Place, Reason, read_job};
+use grid_make::make_job;
+use grid_print::{print_job, print_network};
 use grid_report::{ReportFault, write_report};
-use grid_source::{ReadAllFault, Sink, Source, read_all};
+use grid_source::{ReadAllFault, Sink, Source, read_all, write_all};
+use grid_structure::Structure;
 use std::alloc::Global;
 
 /// How a run ends. The numbers are the program's exit statuses.
@@ -54,26 +60,54 @@ pub fn grid_once<S: Source, K: Sink>(
 
     ensures read_fault { result ≡ Status.ReadFault → Rose (S.faults source.old) (S.faults source.new) }
     ensures write_fault { result ≡ Status.WriteFault → Rose (K.faults sink.old) (K.faults sink.new) }
-    ensures untouched { result ≡ Status.Usage → S.faults source.new ≡ S.faults source.old }
+    ensures untouched { ReadsNothing (form_of (map string_bytes words.now)) → S.faults source.new ≡ S.faults source.old }
 {
     run(alloc, words, source, sink)
 }
 
 // The same, without what follows from the other clauses.
-#[tactic(auto, using(crate::proofs::Written::answered, crate::proofs::Written::unread))]
 fn run<S: Source, K: Sink>(alloc: Global, words: &[String], source: &mut S, sink: &mut K) -> Status
     ensures usage { (result ≡ Status.Usage) ↔ (form_of (map string_bytes words.now) ≡ None) }
     ensures outcome { Outcome (form_of (map string_bytes words.now)) (S.left source.old)
         (S.left source.new) (K.written sink.old) (K.written sink.new) result }
     ensures read_fault { result ≡ Status.ReadFault → Rose (S.faults source.old) (S.faults source.new) }
     ensures write_fault { result ≡ Status.WriteFault → Rose (K.faults sink.old) (K.faults sink.new) }
-    ensures untouched { result ≡ Status.Usage → S.faults source.new ≡ S.faults source.old }
+    ensures untouched { ReadsNothing (form_of (map string_bytes words.now)) → S.faults source.new ≡ S.faults source.old }
 {
     let Some(form) = read_words(words) else {
         return Status::Usage;
     };
+    match form {
+        Form::Check => read_and_answer(alloc, Answer::Counts, source, sink),
+        Form::Replay => read_and_answer(alloc, Answer::Report, source, sink),
+        Form::Print => read_and_answer(alloc, Answer::Network, source, sink),
+        Form::Make { seed, size } => make(alloc, seed, size, sink),
+        Form::Trial { seed, size } => status_of(write_trial(alloc, seed, size, sink)),
+    }
+}
+
+// What is written for a job that was read.
+#[derive(Clone, Copy)]
+enum Answer {
+    Counts,
+    Report,
+    Network,
+}
+
+// Reads a job, and writes what is written for it.
+#[tactic(auto, using(crate::proofs::Written::answered, crate::proofs::Written::unread))]
+fn read_and_answer<S: Source, K: Sink>(
+    alloc: Global,
+    wanted: Answer,
+    source: &mut S,
+    sink: &mut K,
+) -> Status
+    ensures outcome { OutcomeOf (form_for wanted) (S.left source.old) (S.left source.new) (K.written sink.old) (K.written sink.new) result }
+    ensures read_fault { result ≡ Status.ReadFault → Rose (S.faults source.old) (S.faults source.new) }
+    ensures write_fault { result ≡ Status.WriteFault → Rose (K.faults sink.old) (K.faults sink.new) }
+{
     match read_from(alloc, source) {
-        Ok(job) => answer(alloc, form, job, sink),
+        Ok(job) => write_answer(alloc, wanted, job, sink),
         Err(status) => status,
     }
 }
@@ -100,17 +134,69 @@ fn read_from<S: Source>(alloc: Global, source: &mut S) -> Result<Job, Status>
     }
 }
 
-// Writes what a form writes for a job.
+// Writes what is written for a job.
 #[tactic(auto, unfolding(crate::specs::Once::text_of), using(crate::proofs::Written::handed))]
-fn answer<K: Sink>(alloc: Global, form: Form, job: Job, sink: &mut K) -> Status
+fn write_answer<K: Sink>(alloc: Global, wanted: Answer, job: Job, sink: &mut K) -> Status
     requires few { command_total job.scripts ≤ 20000 }
     requires scheduled { IsScheduled job }
-    ensures written { Writes (text_of form job) (K.written sink.old) (K.written sink.new) result }
+    ensures written { Writes (text_of wanted job) (K.written sink.old) (K.written sink.new) result }
     ensures fault { result ≡ Status.WriteFault → Rose (K.faults sink.old) (K.faults sink.new) }
 {
-    match form {
-        Form::Check => status_of(write_counts(alloc, &job, sink)),
-        Form::Replay => replay(alloc, job, sink),
+    match wanted {
+        Answer::Counts => status_of(write_counts(alloc, &job, sink)),
+        Answer::Report => replay(alloc, job, sink),
+        Answer::Network => print(alloc, &job.network, sink),
+    }
+}
+
+// Writes the text of a network.
+#[tactic(auto, using(crate::proofs::Begun::begun_at_start))]
+fn print<K: Sink>(alloc: Global, network: &Structure, sink: &mut K) -> Status
+    ensures written { Writes (network_text network.now) (K.written sink.old) (K.written sink.new) result }
+    ensures fault { result ≡ Status.WriteFault → Rose (K.faults sink.old) (K.faults sink.new) }
+{
+    match print_network(alloc, network) {
+        Ok(bytes) => hand_over(bytes.as_slice(), sink),
+        Err(Memory) => Status::NoMemory,
+    }
+}
+
+// The text of a made job.
+#[tactic(auto, unfolding(crate::specs::Once::made_text))]
+fn made_bytes(alloc: Global, seed: u32, size: u32) -> Result<Vec<u8>, Memory>
+    requires seed { seed ≤ MOST_SEED }
+    requires some { 1 ≤ size }
+    requires few { size ≤ MOST_SIZE }
+    ensures { IfOk result (λ bytes. bytes.items ≡ made_text seed size) }
+{
+    let job = make_job(alloc, seed, size)?;
+    print_job(alloc, &job)
+}
+
+// Makes a job, and writes its text.
+#[tactic(auto, using(crate::proofs::Begun::begun_at_start))]
+fn make<K: Sink>(alloc: Global, seed: u32, size: u32, sink: &mut K) -> Status
+    requires seed { seed ≤ MOST_SEED }
+    requires some { 1 ≤ size }
+    requires few { size ≤ MOST_SIZE }
+    ensures written { Writes (made_text seed size) (K.written sink.old) (K.written sink.new) result }
+    ensures fault { result ≡ Status.WriteFault → Rose (K.faults sink.old) (K.faults sink.new) }
+{
+    match made_bytes(alloc, seed, size) {
+        Ok(bytes) => hand_over(bytes.as_slice(), sink),
+        Err(Memory) => Status::NoMemory,
+    }
+}
+
+// Writes the bytes of a text.
+#[tactic(auto, using(crate::proofs::Written::stopped))]
+fn hand_over<K: Sink>(bytes: &[u8], sink: &mut K) -> Status
+    ensures written { Writes bytes.now (K.written sink.old) (K.written sink.new) result }
+    ensures fault { result ≡ Status.WriteFault → Rose (K.faults sink.old) (K.faults sink.new) }
+{
+    match write_all(sink, bytes) {
+        Ok(()) => Status::Done,
+        Err(_) => Status::WriteFault,
     }
 }
 

@@ -1,5 +1,5 @@
 // Jobs, run in their order.
-ghost use Rattle.std.specs.Prelude.{◌≡◌, ◌++◌, ◌≤◌, ◌<◌, length, map, IsTrue, IfOk, OnOk, Some, slice_get, option_map};
+ghost use Rattle.std.specs.Prelude.{◌≡◌, ◌++◌, ◌≤◌, ◌<◌, ◌^◌, All, length, map, IsTrue, IfOk, OnOk, Some, slice_get, option_map};
 ghost use Rattle.grid_core.specs.History.{live, is_live};
 ghost use Rattle.grid_json.specs.Job.{max_workers};
 ghost use Rattle.grid_report.specs.Histories.{variant_view, variant_views, history_of, outcome_of, in_turn, chosen_order, IsOrder};
@@ -59,7 +59,8 @@ fn run(
 /// The view of each level in a live variant, by place.
 fn level_views(alloc: Global, world: &World, name: &Id) -> Result<BusViews, Memory>
     requires { IsTrue (is_live world.now.steps name.now) }
-    ensures { IfOk result (λ views. views ≡ (variant_view world.now.origin world.now.steps name.now).views) }
+    ensures views { IfOk result (λ views. views ≡ (variant_view world.now.origin world.now.steps name.now).views) }
+    ensures few { IfOk result (λ views. length views < 2 ^ 32) }
 {
     let mut views = Seq::empty(alloc);
     for level in 0..world.level_count() {
@@ -72,7 +73,8 @@ fn level_views(alloc: Global, world: &World, name: &Id) -> Result<BusViews, Memo
 /// The views of the live variant at a place, by byte order of names.
 fn variant_view(alloc: Global, world: &World, place: u32) -> Result<VariantView, Memory>
     requires { place < length (live world.now.steps) }
-    ensures { IfOk result (λ view. option_map (variant_view world.now.origin world.now.steps) (slice_get (live world.now.steps) place) ≡ Some view) }
+    ensures view { IfOk result (λ view. option_map (variant_view world.now.origin world.now.steps) (slice_get (live world.now.steps) place) ≡ Some view) }
+    ensures few { IfOk result (λ view. length view.views < 2 ^ 32) }
 {
     let name = world.variant_name(place);
     let views = level_views(alloc, world, name)?;
@@ -84,7 +86,9 @@ fn variant_view(alloc: Global, world: &World, place: u32) -> Result<VariantView,
 
 /// The views of all live variants, by byte order of names.
 fn variant_views(alloc: Global, world: &World) -> Result<VariantViews, Memory>
-    ensures { IfOk result (λ views. views ≡ variant_views world.now.origin world.now.steps) }
+    ensures views { IfOk result (λ views. views ≡ variant_views world.now.origin world.now.steps) }
+    ensures few { IfOk result (λ views. length views < 2 ^ 32) }
+    ensures each { IfOk result (All (λ v. length v.views < 2 ^ 32)) }
 {
     let mut views = Seq::empty(alloc);
     for place in 0..world.variant_count() {
@@ -108,7 +112,9 @@ fn chosen_order(alloc: Global, order: Option<Order>, scripts: &[Script]) -> Resu
 /// What comes of a job that is run in its order.
 pub fn run_job(alloc: Global, job: Job) -> Result<Outcome, Memory>
     requires { IsScheduled job }
-    ensures { IfOk result (λ outcome. outcome ≡ outcome_of (history_of job.network job.scripts (order_of job)) job.filters) }
+    ensures outcome { IfOk result (λ outcome. outcome ≡ outcome_of (history_of job.network job.scripts (order_of job)) job.filters) }
+    ensures few { IfOk result (λ outcome. length outcome.views < 2 ^ 32) }
+    ensures each { IfOk result (λ outcome. All (λ v. length v.views < 2 ^ 32) outcome.views) }
 {
     let order = chosen_order(alloc, job.order, job.scripts.slice())?;
     let world = run(alloc, job.network, job.scripts.slice(), order.slice())?;

@@ -59,6 +59,14 @@ impl Text {
         Ok(())
     }
 
+    /// Puts a total last, in decimal digits without a leading zero.
+    pub fn put_total(&mut self, total: u128) -> Result<(), Memory>
+        ensures { OnOk result (self.new ≡ self.old ++ decimal total) }
+    {
+        write!(self.bytes, "{total}")?;
+        Ok(())
+    }
+
     /// Puts a whole number last, with a minus sign in front of its digits where it is below 0.
     #[tactic(auto, unfolding(crate::specs::Words::signed))]
     pub fn put_whole(&mut self, number: &i64) -> Result<(), Memory>

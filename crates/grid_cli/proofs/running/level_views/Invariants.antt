@@ -10,4 +10,5 @@ abbrev pub invariant-loop-level : goal.invariant-loop-level
 invariant-loop-level l = record {
   within : l.level ≤ length (levels (structure l.world.origin l.world.steps));
   views : l.views ≡ filter_map (view l.world.origin l.world.steps l.name) (range_with_len 0 l.level);
+  count : length l.views ≡ l.level;
 }

@@ -10,8 +10,8 @@ run-requires-clause-order c =
     let ordered = c.in_ok-order.ensures ∙ ap (λ s. chosen_order s c.args.job.order) c.slice.ensures in
     stays_order c.args.job c.in_ok-order.order c.slice-3.result.now c.slice-2.result.now c.requires.ordered ordered c.slice-3.ensures c.slice-2.ensures
 
-pub returns : goal.returns
+pub returns-clause-outcome : goal.returns-clause-outcome
 unfolding order_of
-returns c =
+returns-clause-outcome c =
     let ordered = c.in_ok-order.ensures ∙ ap (λ s. chosen_order s c.args.job.order) c.slice.ensures in
-    came c.args.job c.in_ok-order.order c.slice-3.result.now c.slice-2.result.now c.in_ok-world.world _ _ _ ordered c.slice-3.ensures c.slice-2.ensures c.in_ok-world.ensures c.into_journal.ensures c.len.ensures c.in_ok-views.ensures
+    came c.args.job c.in_ok-order.order c.slice-3.result.now c.slice-2.result.now c.in_ok-world.world _ _ _ ordered c.slice-3.ensures c.slice-2.ensures c.in_ok-world.ensures c.into_journal.ensures c.len.ensures c.in_ok-views.ensures.views

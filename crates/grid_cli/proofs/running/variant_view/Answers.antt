@@ -8,6 +8,6 @@ pub level_views-requires : goal.level_views-requires
 unfolding is_live
 level_views-requires c = stands (live c.args.world.now.steps) c.args.place c.variant_name-name.result.now c.variant_name-name.ensures
 
-pub returns : goal.returns
+pub returns-clause-view : goal.returns-clause-view
 unfolding variant_view
-returns c = rw (c.variant_name-name.ensures, c.in_ok-copy.ensures, c.in_ok-views.ensures) refl
+returns-clause-view c = rw (c.variant_name-name.ensures, c.in_ok-copy.ensures, c.in_ok-views.ensures.views) refl
