@@ -1,8 +1,11 @@
 // Jobs as JSON text.
-ghost use Rattle.std.specs.Prelude.{◌≡◌, ◌++◌, false, IfOk, OnOk, map};
+ghost use Rattle.std.specs.Prelude.{◌≡◌, ◌≤◌, [], ◌++◌, false, Some, None, IfOk, OnOk, map};
 ghost use Rattle.std.specs.List.{list_any};
+ghost use Rattle.serde_json.specs.Data.{depth};
+ghost use Rattle.serde_json.specs.Read.{max_depth};
 ghost use Rattle.serde_json.specs.Written.{has_float};
 ghost use Rattle.serde_json.specs.View.{view};
+ghost use Rattle.grid_json.specs.Bytes.{reading};
 ghost use Rattle.grid_print.specs.Objects.{word_if, array_of as array};
 ghost use Rattle.grid_print.specs.Job.{is_retain, retains, least_format, kinds_value, job_value, line_of, job_text, network_text};
 
@@ -115,9 +118,12 @@ fn value_of(
 }
 
 /// The text of a value, with a newline after it.
+#[tactic(auto, using(crate::proofs::Returning::line_returns))]
 fn line(alloc: Global, value: &Value) -> Result<Vec<u8>, Memory>
-    requires { has_float (view value.now) ≡ false }
-    ensures { IfOk result (λ bytes. bytes.items ≡ line_of (view value.now)) }
+    requires whole { has_float (view value.now) ≡ false }
+    requires shallow { depth (view value.now) ≤ max_depth }
+    ensures text { IfOk result (λ bytes. bytes.items ≡ line_of (view value.now)) }
+    ensures read { IfOk result (λ bytes. reading bytes.items ≡ Some (view value.now)) }
 {
     let mut bytes = value.to_vec(alloc)?;
     bytes.push(b'\n')?;
@@ -126,9 +132,10 @@ fn line(alloc: Global, value: &Value) -> Result<Vec<u8>, Memory>
 
 /// The text of a job: one line of JSON, with no space, members by byte order of their names, and a newline. It is of
 /// the least format that has the words of the job. Memory comes only for want of memory.
-#[tactic(auto, unfolding(crate::specs::Job::job_text), using(crate::proofs::Wholes::job_has_no_float))]
+#[tactic(auto, unfolding(crate::specs::Job::job_text), using(crate::proofs::Wholes::job_has_no_float, crate::proofs::Wholes::job_is_shallow))]
 pub fn print_job(alloc: Global, job: &Job) -> Result<Vec<u8>, Memory>
-    ensures { IfOk result (λ bytes. bytes.items ≡ job_text job.now) }
+    ensures text { IfOk result (λ bytes. bytes.items ≡ job_text job.now) }
+    ensures read { IfOk result (λ bytes. reading bytes.items ≡ Some (job_value job.now.network job.now.filters job.now.scripts job.now.order)) }
 {
     let value = value_of(
         alloc,
@@ -141,9 +148,10 @@ pub fn print_job(alloc: Global, job: &Job) -> Result<Vec<u8>, Memory>
 }
 
 /// The text of a job of this network alone, with no listeners, no workers and no order.
-#[tactic(auto, unfolding(crate::specs::Job::network_text), using(crate::proofs::Wholes::job_has_no_float))]
+#[tactic(auto, unfolding(crate::specs::Job::network_text), using(crate::proofs::Wholes::job_has_no_float, crate::proofs::Wholes::job_is_shallow))]
 pub fn print_network(alloc: Global, network: &Structure) -> Result<Vec<u8>, Memory>
-    ensures { IfOk result (λ bytes. bytes.items ≡ network_text network.now) }
+    ensures text { IfOk result (λ bytes. bytes.items ≡ network_text network.now) }
+    ensures read { IfOk result (λ bytes. reading bytes.items ≡ Some (job_value network.now [] [] None)) }
 {
     let filters = Seq::empty(alloc);
     let scripts = Seq::empty(alloc);
