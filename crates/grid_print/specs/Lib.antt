@@ -3,4 +3,5 @@ pub mod Network
 pub mod Cutting
 pub mod Command
 pub mod Job
+pub mod Readable
 pub mod Laws

@@ -88,8 +88,11 @@ fn add_injection(
 
 impl ToJson for End {
     ghost use Rattle.grid_print.specs.Network.{end_value};
+    ghost use Rattle.grid_print.specs.Readable.{IsReadableEnd};
 
     ghost written = { end_value };
+
+    ghost readable = { IsReadableEnd };
 
     #[tactic(auto, unfolding(crate::specs::Objects::members_from, crate::specs::Network::end_value))]
     fn to_json(&self, alloc: Global) -> Result<Value, Memory> {

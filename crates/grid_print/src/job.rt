@@ -6,6 +6,7 @@ ghost use Rattle.serde_json.specs.Read.{max_depth};
 ghost use Rattle.serde_json.specs.Written.{has_float};
 ghost use Rattle.serde_json.specs.View.{view};
 ghost use Rattle.grid_json.specs.Bytes.{reading};
+ghost use Rattle.grid_print.specs.Readable.{IsReadable};
 ghost use Rattle.grid_print.specs.Objects.{word_if, array_of as array};
 ghost use Rattle.grid_print.specs.Job.{is_retain, retains, least_format, kinds_value, job_value, line_of, job_text, network_text};
 
@@ -106,7 +107,8 @@ fn value_of(
     scripts: &[Script],
     order: &Option<Order>,
 ) -> Result<Value, Memory>
-    ensures { IfOk result (λ v. view v ≡ job_value network.now filters.now scripts.now order.now) }
+    ensures value { IfOk result (λ v. view v ≡ job_value network.now filters.now scripts.now order.now) }
+    ensures readable { OnOk result (IsReadable network.now) }
 {
     let mut members = Map::new(alloc);
     put(&mut members, alloc, "format", &format_of(scripts))?;
@@ -152,6 +154,7 @@ pub fn print_job(alloc: Global, job: &Job) -> Result<Vec<u8>, Memory>
 pub fn print_network(alloc: Global, network: &Structure) -> Result<Vec<u8>, Memory>
     ensures text { IfOk result (λ bytes. bytes.items ≡ network_text network.now) }
     ensures read { IfOk result (λ bytes. reading bytes.items ≡ Some (job_value network.now [] [] None)) }
+    ensures readable { OnOk result (IsReadable network.now) }
 {
     let filters = Seq::empty(alloc);
     let scripts = Seq::empty(alloc);
