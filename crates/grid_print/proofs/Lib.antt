@@ -4,5 +4,6 @@ pub mod Wholes
 pub mod Newline
 pub mod Returning
 pub mod Rereading
+pub mod Drafted
 pub mod Standing
 pub mod Printed

@@ -1,12 +1,14 @@
 // Jobs as JSON text.
-ghost use Rattle.std.specs.Prelude.{◌≡◌, ◌≤◌, [], ◌++◌, false, Some, None, IfOk, OnOk, map};
+ghost use Rattle.std.specs.Prelude.{◌≡◌, ◌≤◌, [], ◌++◌, false, Some, None, Ok, IfOk, OnOk, map};
 ghost use Rattle.std.specs.List.{list_any};
 ghost use Rattle.serde_json.specs.Data.{depth};
 ghost use Rattle.serde_json.specs.Read.{max_depth};
 ghost use Rattle.serde_json.specs.Written.{has_float};
 ghost use Rattle.serde_json.specs.View.{view};
 ghost use Rattle.grid_json.specs.Bytes.{reading};
+ghost use Rattle.grid_json.specs.Whole.{draft_of};
 ghost use Rattle.grid_print.specs.Readable.{IsReadable};
+ghost use Rattle.grid_print.specs.Laws.{draft_alone};
 ghost use Rattle.grid_print.specs.Objects.{word_if, array_of as array};
 ghost use Rattle.grid_print.specs.Job.{is_retain, retains, least_format, kinds_value, job_value, line_of, job_text, network_text};
 
@@ -150,11 +152,12 @@ pub fn print_job(alloc: Global, job: &Job) -> Result<Vec<u8>, Memory>
 }
 
 /// The text of a job of this network alone, with no listeners, no workers and no order.
-#[tactic(auto, unfolding(crate::specs::Job::network_text), using(crate::proofs::Wholes::job_has_no_float, crate::proofs::Wholes::job_is_shallow))]
+#[tactic(auto, unfolding(crate::specs::Job::network_text), using(crate::proofs::Wholes::job_has_no_float, crate::proofs::Wholes::job_is_shallow, crate::proofs::Drafted::printed_is_drafted))]
 pub fn print_network(alloc: Global, network: &Structure) -> Result<Vec<u8>, Memory>
     ensures text { IfOk result (λ bytes. bytes.items ≡ network_text network.now) }
     ensures read { IfOk result (λ bytes. reading bytes.items ≡ Some (job_value network.now [] [] None)) }
     ensures readable { OnOk result (IsReadable network.now) }
+    ensures drafted { IfOk result (λ bytes. draft_of bytes.items ≡ Ok (draft_alone network.now)) }
 {
     let filters = Seq::empty(alloc);
     let scripts = Seq::empty(alloc);
