@@ -107,19 +107,26 @@ injections_from format n (p ∷ placed) fit = by p.stand fit.0 (λ m. injections
     by (Feeder read) here again = rw (injections_are_read format p.terminal.equipment p.node read here.0 here.1 here.2, again (suc n)) refl
     by BranchEnd here again = again n
 
-level_read : (format : Format) (l : VoltageLevel) (low high : Option ℤ) → l.low_v ≡ low → l.high_v ≡ high → IfSome low IsWhole → IfSome high IsWhole → IsReadableLevel l → level_at format (level_value l) ≡ Ok (level_draft l)
+level_read : (format : Format) (l : VoltageLevel) (low high : Option ℤ) → l.low_v ≡ low → l.high_v ≡ high → IfSome low IsWhole → IfSome high IsWhole → IsReadableLevel l
+    → AllByRecursion (λ p. IsReadableBusbar p.terminal.equipment p.node p.stand) l.placed → AllByRecursion IsReadableSwitch l.switches → AllByRecursion IsReadableInternal l.internals
+    → AllByRecursion (λ p. IsReadableInjection p.terminal.equipment p.node p.stand) l.placed → level_at format (level_value l) ≡ Ok (level_draft l)
 unfolding level_at level_value busbars_value injections_value members_from
-level_read format l None None is1 is2 low high fits =
-    rw (is1, is2, fits.id, whole_read l.nominal_v fits.nominal, busbars_from 0 l.placed (each_of (λ p. IsReadableBusbar p.terminal.equipment p.node p.stand) l.placed fits.busbars), switches_from format 0 l.switches (each_of IsReadableSwitch l.switches fits.switches), internals_from 0 l.internals (each_of IsReadableInternal l.internals fits.internals), injections_from format 0 l.placed (each_of (λ p. IsReadableInjection p.terminal.equipment p.node p.stand) l.placed fits.injections)) refl
-level_read format l (Some a) None is1 is2 low high fits =
-    rw (is1, is2, fits.id, whole_read l.nominal_v fits.nominal, whole_read a low, busbars_from 0 l.placed (each_of (λ p. IsReadableBusbar p.terminal.equipment p.node p.stand) l.placed fits.busbars), switches_from format 0 l.switches (each_of IsReadableSwitch l.switches fits.switches), internals_from 0 l.internals (each_of IsReadableInternal l.internals fits.internals), injections_from format 0 l.placed (each_of (λ p. IsReadableInjection p.terminal.equipment p.node p.stand) l.placed fits.injections)) refl
-level_read format l None (Some b) is1 is2 low high fits =
-    rw (is1, is2, fits.id, whole_read l.nominal_v fits.nominal, whole_read b high, busbars_from 0 l.placed (each_of (λ p. IsReadableBusbar p.terminal.equipment p.node p.stand) l.placed fits.busbars), switches_from format 0 l.switches (each_of IsReadableSwitch l.switches fits.switches), internals_from 0 l.internals (each_of IsReadableInternal l.internals fits.internals), injections_from format 0 l.placed (each_of (λ p. IsReadableInjection p.terminal.equipment p.node p.stand) l.placed fits.injections)) refl
-level_read format l (Some a) (Some b) is1 is2 low high fits =
-    rw (is1, is2, fits.id, whole_read l.nominal_v fits.nominal, whole_read a low, whole_read b high, busbars_from 0 l.placed (each_of (λ p. IsReadableBusbar p.terminal.equipment p.node p.stand) l.placed fits.busbars), switches_from format 0 l.switches (each_of IsReadableSwitch l.switches fits.switches), internals_from 0 l.internals (each_of IsReadableInternal l.internals fits.internals), injections_from format 0 l.placed (each_of (λ p. IsReadableInjection p.terminal.equipment p.node p.stand) l.placed fits.injections)) refl
+level_read format l None None is1 is2 low high fits busbars switches internals injections =
+    rw (is1, is2, fits.id, whole_read l.nominal_v fits.nominal, busbars_from 0 l.placed busbars, switches_from format 0 l.switches switches, internals_from 0 l.internals internals, injections_from format 0 l.placed injections) refl
+level_read format l (Some a) None is1 is2 low high fits busbars switches internals injections =
+    rw (is1, is2, fits.id, whole_read l.nominal_v fits.nominal, whole_read a low, busbars_from 0 l.placed busbars, switches_from format 0 l.switches switches, internals_from 0 l.internals internals, injections_from format 0 l.placed injections) refl
+level_read format l None (Some b) is1 is2 low high fits busbars switches internals injections =
+    rw (is1, is2, fits.id, whole_read l.nominal_v fits.nominal, whole_read b high, busbars_from 0 l.placed busbars, switches_from format 0 l.switches switches, internals_from 0 l.internals internals, injections_from format 0 l.placed injections) refl
+level_read format l (Some a) (Some b) is1 is2 low high fits busbars switches internals injections =
+    rw (is1, is2, fits.id, whole_read l.nominal_v fits.nominal, whole_read a low, whole_read b high, busbars_from 0 l.placed busbars, switches_from format 0 l.switches switches, internals_from 0 l.internals internals, injections_from format 0 l.placed injections) refl
 
 pub levels_are_read : LevelsAreRead
-levels_are_read format l fits = level_read format l l.low_v l.high_v refl refl fits.low fits.high fits
+levels_are_read format l fits =
+    level_read format l l.low_v l.high_v refl refl fits.low fits.high fits
+    (each_of (λ p. IsReadableBusbar p.terminal.equipment p.node p.stand) l.placed fits.busbars)
+    (each_of IsReadableSwitch l.switches fits.switches)
+    (each_of IsReadableInternal l.internals fits.internals)
+    (each_of (λ p. IsReadableInjection p.terminal.equipment p.node p.stand) l.placed fits.injections)
 
 pub ends_are_read : EndsAreRead
 unfolding end_at end_value members_from

@@ -135,7 +135,8 @@ fn line(alloc: Global, value: &Value) -> Result<Vec<u8>, Memory>
 }
 
 /// The text of a job: one line of JSON, with no space, members by byte order of their names, and a newline. It is of
-/// the least format that has the words of the job. Memory comes only for want of memory.
+/// the least format that has the words of the job. It is read back as the same value. Memory comes only for want of
+/// memory.
 #[tactic(auto, unfolding(crate::specs::Job::job_text), using(crate::proofs::Wholes::job_has_no_float, crate::proofs::Wholes::job_is_shallow))]
 pub fn print_job(alloc: Global, job: &Job) -> Result<Vec<u8>, Memory>
     ensures text { IfOk result (λ bytes. bytes.items ≡ job_text job.now) }
@@ -151,7 +152,8 @@ pub fn print_job(alloc: Global, job: &Job) -> Result<Vec<u8>, Memory>
     line(alloc, &value)
 }
 
-/// The text of a job of this network alone, with no listeners, no workers and no order.
+/// The text of a job of this network alone, with no listeners, no workers and no order. It is read back as the same
+/// value, and the first pass gives the network again, before it is loaded.
 #[tactic(auto, unfolding(crate::specs::Job::network_text), using(crate::proofs::Wholes::job_has_no_float, crate::proofs::Wholes::job_is_shallow, crate::proofs::Drafted::printed_is_drafted))]
 pub fn print_network(alloc: Global, network: &Structure) -> Result<Vec<u8>, Memory>
     ensures text { IfOk result (λ bytes. bytes.items ≡ network_text network.now) }
