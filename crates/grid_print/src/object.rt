@@ -71,6 +71,16 @@ impl ToJson for i64 {
     }
 }
 
+impl ToJson for bool {
+    ghost use Rattle.serde_json.specs.Data.{boolean};
+
+    ghost written = { boolean };
+
+    fn to_json(&self, _alloc: Global) -> Result<Value, Memory> {
+        Ok(Value::from(*self))
+    }
+}
+
 impl ToJson for u32 {
     ghost use Rattle.grid_print.specs.Objects.{natural};
 

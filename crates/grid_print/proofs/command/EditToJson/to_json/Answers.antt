@@ -1,16 +1,9 @@
-use Rattle.std.proofs.Common.{rules}
-use Rattle.std.proofs.lemmas.Int.{to_z-of_z}
-use mir.Syntax.{w64}
-use mir.Val.{SFits}
 use Rattle.grid_print.specs.Command.{edit_value}
 use Rattle.grid_print.proofs.command.EditToJson.to_json.Goals as goal
 
 pub returns-in-AddSwitch-clause-value : goal.returns-in-AddSwitch-clause-value
 unfolding edit_value
-returns-in-AddSwitch-clause-value c =
-    let fits1 : SFits w64 c.in-AddSwitch.node1 = search rules in
-    let fits2 : SFits w64 c.in-AddSwitch.node2 = search rules in
-    rw c.in-AddSwitch.is (rw (to_z-of_z w64 c.in-AddSwitch.node1 fits1, to_z-of_z w64 c.in-AddSwitch.node2 fits2) at c.add_switch.ensures)
+returns-in-AddSwitch-clause-value c = rw c.in-AddSwitch.is (rw c.in-AddSwitch.is at c.add_switch.ensures)
 
 pub returns-in-RemoveSwitch-clause-value : goal.returns-in-RemoveSwitch-clause-value
 unfolding edit_value
