@@ -1,7 +1,10 @@
 pub mod Fields
+pub mod Each
 pub mod Wholes
 pub mod Newline
+pub mod Returning
 pub mod Rereading
+pub mod Drafted
 pub mod Standing
 pub mod LevelRoom
 pub mod Filling
@@ -11,3 +14,4 @@ pub mod EndsLoad
 pub mod BranchLoad
 pub mod StageLoad
 pub mod NetworkLoad
+pub mod Printed

@@ -1,6 +1,7 @@
 -- Each part that is written is read back.
 use Rattle.std.proofs.Common.{◌≡◌, ◌<◌, ◌^◌, ℕ, suc, ℤ, pos, negsuc, List, [], ◌∷◌, ◌++◌, map, Option, Some, None, Ok, refl}
-use Rattle.std.specs.List.{flat_map}
+use Rattle.std.specs.List.{flat_map, AllByRecursion}
+use Rattle.std.specs.Prelude.{IfSome}
 use Rattle.grid_level.specs.VoltageLevel.{VoltageLevel}
 use Rattle.grid_level.specs.declared.Placed.{Placed}
 use Rattle.grid_level.specs.declared.Stand.{Stand}
@@ -18,7 +19,9 @@ use Rattle.grid_json.specs.Reading.{items_at, whole_at}
 use Rattle.grid_json.specs.Network.{busbar_at, switch_at, internal_at, injection_at, item_at, level_at, end_at, two_of, both, three_of, all_three, windings_at, transformer_at, line_at, substation_at, network_at}
 use Rattle.grid_print.specs.Objects.{members_from, whole}
 use Rattle.grid_print.specs.Network.{switch_value, internal_value, end_value, busbar_of, injection_of, busbars_value, injections_value, level_value, branch_value, named_branch_value, substation_value, network_value}
-use Rattle.grid_print.specs.Laws.{IsId, IsWhole, BusbarsAreRead, switch_draft, IsReadableSwitch, AreReadableSwitches, SwitchesAreRead, internal_draft, AreReadableInternals, InternalsAreRead, InjectionsAreRead, EndsAreRead, busbar_draft_of, injection_draft_of, stand_is_whole, AreReadablePlaced, IsWholeIfGiven, IsReadableLevel, level_draft, LevelsAreRead, IsReadableEnd, IsReadableTransformer, IsReadableLine, AreReadableTransformers, AreReadableLines, transformer_draft_of, line_draft_of, AreReadableLevels, AreReadableSubstations, substation_draft, NetworksAreRead, NetworkJobsAreRead}
+use Rattle.grid_print.specs.Readable.{IsId, IsWhole, IsReadableSwitch, IsReadableInternal, IsReadableBusbar, IsReadableInjection, IsReadableLevel, IsReadableEnd, IsReadableShape, IsReadableBranch, IsTransformer, IsLine, IsReadableSubstation}
+use Rattle.grid_print.specs.Laws.{BusbarsAreRead, switch_draft, SwitchesAreRead, internal_draft, InternalsAreRead, InjectionsAreRead, EndsAreRead, busbar_draft_of, injection_draft_of, level_draft, LevelsAreRead, transformer_draft_of, line_draft_of, substation_draft, NetworksAreRead, NetworkJobsAreRead}
+use Rattle.grid_print.proofs.Each.{each_of}
 use Rattle.grid_print.specs.Job.{job_value, least_format}
 use Rattle.grid_json.specs.Job.{draft_at, command_total}
 use Rattle.grid_json.specs.declared.format.Format.TheVariants.{One}
@@ -43,25 +46,25 @@ switch_read format Breaker s is fits = rw (is, fits.0, lt-ltb s.node1 (2 ^ 63) f
 switch_read format Disconnector s is fits = rw (is, fits.0, lt-ltb s.node1 (2 ^ 63) fits.1, lt-ltb s.node2 (2 ^ 63) fits.2) refl
 switch_read format LoadBreakSwitch s is fits = rw (is, fits.0, lt-ltb s.node1 (2 ^ 63) fits.1, lt-ltb s.node2 (2 ^ 63) fits.2) refl
 
-switches_from : (format : Format) (n : ℕ) (switches : List Switch) → AreReadableSwitches switches → items_at (switch_at format) n (items_of (map switch_value switches)) ≡ Ok (map switch_draft switches)
+switches_from : (format : Format) (n : ℕ) (switches : List Switch) → AllByRecursion IsReadableSwitch switches → items_at (switch_at format) n (items_of (map switch_value switches)) ≡ Ok (map switch_draft switches)
 unfolding items_at
 switches_from format n [] fit = refl
 switches_from format n (s ∷ switches) fit = rw (switch_read format s.kind s refl fit.0, switches_from format (suc n) switches fit.1) refl
 
 pub switches_are_read : SwitchesAreRead
-switches_are_read format switches fit = switches_from format 0 switches fit
+switches_are_read format switches fit = switches_from format 0 switches (each_of IsReadableSwitch switches fit)
 
 internal_read : (i : Internal) → i.node1 < 2 ^ 63 → i.node2 < 2 ^ 63 → internal_at (internal_value i) ≡ Ok (internal_draft i)
 unfolding internal_at internal_value members_from
 internal_read i small1 small2 = rw (lt-ltb i.node1 (2 ^ 63) small1, lt-ltb i.node2 (2 ^ 63) small2) refl
 
-internals_from : (n : ℕ) (internals : List Internal) → AreReadableInternals internals → items_at internal_at n (items_of (map internal_value internals)) ≡ Ok (map internal_draft internals)
+internals_from : (n : ℕ) (internals : List Internal) → AllByRecursion IsReadableInternal internals → items_at internal_at n (items_of (map internal_value internals)) ≡ Ok (map internal_draft internals)
 unfolding items_at
 internals_from n [] fit = refl
 internals_from n (i ∷ internals) fit = rw (internal_read i fit.0.0 fit.0.1, internals_from (suc n) internals fit.1) refl
 
 pub internals_are_read : InternalsAreRead
-internals_are_read internals fit = internals_from 0 internals fit
+internals_are_read internals fit = internals_from 0 internals (each_of IsReadableInternal internals fit)
 
 pub injections_are_read : InjectionsAreRead
 unfolding injection_at item_at members_from
@@ -76,71 +79,78 @@ injections_are_read format id node (injections.ShuntCompensator section_count ma
 injections_are_read format id node (injections.StaticVarCompensator target_q) valid small fits =
     rw (valid, lt-ltb node (2 ^ 63) small, whole_read target_q fits) refl
 
-busbars_from : (n : ℕ) (placed : List Placed) → AreReadablePlaced placed
+busbars_from : (n : ℕ) (placed : List Placed) → AllByRecursion (λ p. IsReadableBusbar p.terminal.equipment p.node p.stand) placed
     → items_at busbar_at n (items_of (flat_map (λ p. busbar_of p.terminal.equipment p.node p.stand) placed)) ≡ Ok (flat_map (λ p. busbar_draft_of p.terminal.equipment p.node p.stand) placed)
 unfolding items_at
 busbars_from n [] fit = refl
-busbars_from n (p ∷ placed) fit = by p.stand (λ m. busbars_from m placed fit.1)
+busbars_from n (p ∷ placed) fit = by p.stand fit.0 (λ m. busbars_from m placed fit.1)
   where
-    by : (stand : Stand)
+    by : (stand : Stand) → IsReadableBusbar p.terminal.equipment p.node stand
         → ((m : ℕ) → items_at busbar_at m (items_of (flat_map (λ p. busbar_of p.terminal.equipment p.node p.stand) placed)) ≡ Ok (flat_map (λ p. busbar_draft_of p.terminal.equipment p.node p.stand) placed))
         → items_at busbar_at n (items_of (busbar_of p.terminal.equipment p.node stand ++ flat_map (λ p. busbar_of p.terminal.equipment p.node p.stand) placed))
         ≡ Ok (busbar_draft_of p.terminal.equipment p.node stand ++ flat_map (λ p. busbar_draft_of p.terminal.equipment p.node p.stand) placed)
-    by Busbar again = rw (busbars_are_read p.terminal.equipment p.node fit.0.0 fit.0.1, again (suc n)) refl
-    by (Feeder read) again = again n
-    by BranchEnd again = again n
+    by Busbar here again = rw (busbars_are_read p.terminal.equipment p.node here.0 here.1, again (suc n)) refl
+    by (Feeder read) here again = again n
+    by BranchEnd here again = again n
 
-injections_from : (format : Format) (n : ℕ) (placed : List Placed) → AreReadablePlaced placed
+injections_from : (format : Format) (n : ℕ) (placed : List Placed) → AllByRecursion (λ p. IsReadableInjection p.terminal.equipment p.node p.stand) placed
     → items_at (injection_at format) n (items_of (flat_map (λ p. injection_of p.terminal.equipment p.node p.stand) placed)) ≡ Ok (flat_map (λ p. injection_draft_of p.terminal.equipment p.node p.stand) placed)
 unfolding items_at
 injections_from format n [] fit = refl
-injections_from format n (p ∷ placed) fit = by p.stand fit.0.2 (λ m. injections_from format m placed fit.1)
+injections_from format n (p ∷ placed) fit = by p.stand fit.0 (λ m. injections_from format m placed fit.1)
   where
-    by : (stand : Stand) → stand_is_whole stand
+    by : (stand : Stand) → IsReadableInjection p.terminal.equipment p.node stand
         → ((m : ℕ) → items_at (injection_at format) m (items_of (flat_map (λ p. injection_of p.terminal.equipment p.node p.stand) placed)) ≡ Ok (flat_map (λ p. injection_draft_of p.terminal.equipment p.node p.stand) placed))
         → items_at (injection_at format) n (items_of (injection_of p.terminal.equipment p.node stand ++ flat_map (λ p. injection_of p.terminal.equipment p.node p.stand) placed))
         ≡ Ok (injection_draft_of p.terminal.equipment p.node stand ++ flat_map (λ p. injection_draft_of p.terminal.equipment p.node p.stand) placed)
-    by Busbar whole again = again n
-    by (Feeder read) whole again = rw (injections_are_read format p.terminal.equipment p.node read fit.0.0 fit.0.1 whole, again (suc n)) refl
-    by BranchEnd whole again = again n
+    by Busbar here again = again n
+    by (Feeder read) here again = rw (injections_are_read format p.terminal.equipment p.node read here.0 here.1 here.2, again (suc n)) refl
+    by BranchEnd here again = again n
 
-level_read : (format : Format) (l : VoltageLevel) (low high : Option ℤ) → l.low_v ≡ low → l.high_v ≡ high → IsWholeIfGiven low → IsWholeIfGiven high → IsReadableLevel l → level_at format (level_value l) ≡ Ok (level_draft l)
+level_read : (format : Format) (l : VoltageLevel) (low high : Option ℤ) → l.low_v ≡ low → l.high_v ≡ high → IfSome low IsWhole → IfSome high IsWhole → IsReadableLevel l
+    → AllByRecursion (λ p. IsReadableBusbar p.terminal.equipment p.node p.stand) l.placed → AllByRecursion IsReadableSwitch l.switches → AllByRecursion IsReadableInternal l.internals
+    → AllByRecursion (λ p. IsReadableInjection p.terminal.equipment p.node p.stand) l.placed → level_at format (level_value l) ≡ Ok (level_draft l)
 unfolding level_at level_value busbars_value injections_value members_from
-level_read format l None None is1 is2 low high fits =
-    rw (is1, is2, fits.id, whole_read l.nominal_v fits.nominal, busbars_from 0 l.placed fits.placed, switches_from format 0 l.switches fits.switches, internals_from 0 l.internals fits.internals, injections_from format 0 l.placed fits.placed) refl
-level_read format l (Some a) None is1 is2 low high fits =
-    rw (is1, is2, fits.id, whole_read l.nominal_v fits.nominal, whole_read a low, busbars_from 0 l.placed fits.placed, switches_from format 0 l.switches fits.switches, internals_from 0 l.internals fits.internals, injections_from format 0 l.placed fits.placed) refl
-level_read format l None (Some b) is1 is2 low high fits =
-    rw (is1, is2, fits.id, whole_read l.nominal_v fits.nominal, whole_read b high, busbars_from 0 l.placed fits.placed, switches_from format 0 l.switches fits.switches, internals_from 0 l.internals fits.internals, injections_from format 0 l.placed fits.placed) refl
-level_read format l (Some a) (Some b) is1 is2 low high fits =
-    rw (is1, is2, fits.id, whole_read l.nominal_v fits.nominal, whole_read a low, whole_read b high, busbars_from 0 l.placed fits.placed, switches_from format 0 l.switches fits.switches, internals_from 0 l.internals fits.internals, injections_from format 0 l.placed fits.placed) refl
+level_read format l None None is1 is2 low high fits busbars switches internals injections =
+    rw (is1, is2, fits.id, whole_read l.nominal_v fits.nominal, busbars_from 0 l.placed busbars, switches_from format 0 l.switches switches, internals_from 0 l.internals internals, injections_from format 0 l.placed injections) refl
+level_read format l (Some a) None is1 is2 low high fits busbars switches internals injections =
+    rw (is1, is2, fits.id, whole_read l.nominal_v fits.nominal, whole_read a low, busbars_from 0 l.placed busbars, switches_from format 0 l.switches switches, internals_from 0 l.internals internals, injections_from format 0 l.placed injections) refl
+level_read format l None (Some b) is1 is2 low high fits busbars switches internals injections =
+    rw (is1, is2, fits.id, whole_read l.nominal_v fits.nominal, whole_read b high, busbars_from 0 l.placed busbars, switches_from format 0 l.switches switches, internals_from 0 l.internals internals, injections_from format 0 l.placed injections) refl
+level_read format l (Some a) (Some b) is1 is2 low high fits busbars switches internals injections =
+    rw (is1, is2, fits.id, whole_read l.nominal_v fits.nominal, whole_read a low, whole_read b high, busbars_from 0 l.placed busbars, switches_from format 0 l.switches switches, internals_from 0 l.internals internals, injections_from format 0 l.placed injections) refl
 
 pub levels_are_read : LevelsAreRead
-levels_are_read format l fits = level_read format l l.low_v l.high_v refl refl fits.low fits.high fits
+levels_are_read format l fits =
+    level_read format l l.low_v l.high_v refl refl fits.low fits.high fits
+    (each_of (λ p. IsReadableBusbar p.terminal.equipment p.node p.stand) l.placed fits.busbars)
+    (each_of IsReadableSwitch l.switches fits.switches)
+    (each_of IsReadableInternal l.internals fits.internals)
+    (each_of (λ p. IsReadableInjection p.terminal.equipment p.node p.stand) l.placed fits.injections)
 
 pub ends_are_read : EndsAreRead
 unfolding end_at end_value members_from
-ends_are_read e valid small = rw (valid, whole_read e.node small) refl
+ends_are_read e fits = rw (fits.0, whole_read e.node fits.1) refl
 
 -- ---- branches
 
-two_read : (format : Format) (id home : List ℕ) (end1 end2 : End) (rated_u1 rated_u2 : ℤ) → IsId id → IsReadableTransformer (TwoWindings home end1 end2 rated_u1 rated_u2)
+two_read : (format : Format) (id home : List ℕ) (end1 end2 : End) (rated_u1 rated_u2 : ℤ) → IsId id → IsReadableShape (TwoWindings home end1 end2 rated_u1 rated_u2)
     → transformer_at format (branch_value id (TwoWindings home end1 end2 rated_u1 rated_u2))
     ≡ Ok (record { id = id; windings = windings.Two (record { first = end1; second = end2 }) (record { first = rated_u1; second = rated_u2 }) })
 unfolding transformer_at windings_at two_of both branch_value members_from
 two_read format id home end1 end2 rated_u1 rated_u2 valid fits =
-    rw (valid, ends_are_read end1 fits.0.0 fits.0.1, ends_are_read end2 fits.1.0.0 fits.1.0.1, whole_read rated_u1 fits.1.1.0, whole_read rated_u2 fits.1.1.1) refl
+    rw (valid, ends_are_read end1 fits.0, ends_are_read end2 fits.1.0, whole_read rated_u1 fits.1.1.0, whole_read rated_u2 fits.1.1.1) refl
 
-three_read : (format : Format) (id home : List ℕ) (end1 end2 end3 : End) (rated_u1 rated_u2 rated_u3 : ℤ) → IsId id → IsReadableTransformer (ThreeWindings home end1 end2 end3 rated_u1 rated_u2 rated_u3)
+three_read : (format : Format) (id home : List ℕ) (end1 end2 end3 : End) (rated_u1 rated_u2 rated_u3 : ℤ) → IsId id → IsReadableShape (ThreeWindings home end1 end2 end3 rated_u1 rated_u2 rated_u3)
     → transformer_at format (branch_value id (ThreeWindings home end1 end2 end3 rated_u1 rated_u2 rated_u3))
     ≡ Ok (record { id = id; windings = windings.Three (record { first = end1; second = end2; third = end3 }) (record { first = rated_u1; second = rated_u2; third = rated_u3 }) })
 unfolding transformer_at windings_at three_of all_three branch_value members_from
 three_read format id home end1 end2 end3 rated_u1 rated_u2 rated_u3 valid fits =
     rw (
       valid,
-      ends_are_read end1 fits.0.0 fits.0.1,
-      ends_are_read end2 fits.1.0.0 fits.1.0.1,
-      ends_are_read end3 fits.1.1.0.0 fits.1.1.0.1,
+      ends_are_read end1 fits.0,
+      ends_are_read end2 fits.1.0,
+      ends_are_read end3 fits.1.1.0,
       whole_read rated_u1 fits.1.1.1.0,
       whole_read rated_u2 fits.1.1.1.1.0,
       whole_read rated_u3 fits.1.1.1.1.1,
@@ -148,50 +158,60 @@ three_read format id home end1 end2 end3 rated_u1 rated_u2 rated_u3 valid fits =
 
 line_read : (id : List ℕ) (end1 end2 : End) → IsId id → IsReadableEnd end1 → IsReadableEnd end2 → line_at (branch_value id (Line end1 end2)) ≡ Ok (record { id = id; ends = record { first = end1; second = end2 } })
 unfolding line_at two_of both branch_value members_from
-line_read id end1 end2 valid fit1 fit2 = rw (valid, ends_are_read end1 fit1.0 fit1.1, ends_are_read end2 fit2.0 fit2.1) refl
+line_read id end1 end2 valid fit1 fit2 = rw (valid, ends_are_read end1 fit1, ends_are_read end2 fit2) refl
 
-transformers_from : (format : Format) (n : ℕ) (bs : List NamedBranch) → AreReadableTransformers bs
+transformers_from : (format : Format) (n : ℕ) (bs : List NamedBranch) → AllByRecursion IsReadableBranch bs → AllByRecursion (λ b. IsTransformer b.shape) bs
     → items_at (transformer_at format) n (items_of (map named_branch_value bs)) ≡ Ok (flat_map (λ b. transformer_draft_of b.id b.shape) bs)
 unfolding items_at
-transformers_from format n [] fit = refl
-transformers_from format n (b ∷ bs) fit = by b.shape fit.0.1 (transformers_from format (suc n) bs fit.1)
+transformers_from format n [] fit kinds = refl
+transformers_from format n (b ∷ bs) fit kinds = by b.shape fit.0.1 kinds.0 (transformers_from format (suc n) bs fit.1 kinds.1)
   where
-    by : (shape : Branch) → IsReadableTransformer shape → items_at (transformer_at format) (suc n) (items_of (map named_branch_value bs)) ≡ Ok (flat_map (λ b. transformer_draft_of b.id b.shape) bs)
+    by : (shape : Branch) → IsReadableShape shape → IsTransformer shape → items_at (transformer_at format) (suc n) (items_of (map named_branch_value bs)) ≡ Ok (flat_map (λ b. transformer_draft_of b.id b.shape) bs)
         → items_at (transformer_at format) n (items_of (branch_value b.id shape ∷ map named_branch_value bs)) ≡ Ok (transformer_draft_of b.id shape ++ flat_map (λ b. transformer_draft_of b.id b.shape) bs)
-    by (Line end1 end2) fits again = absurd fits
-    by (TwoWindings home end1 end2 rated_u1 rated_u2) fits again = rw (two_read format b.id home end1 end2 rated_u1 rated_u2 fit.0.0 fits, again) refl
-    by (ThreeWindings home end1 end2 end3 rated_u1 rated_u2 rated_u3) fits again = rw (three_read format b.id home end1 end2 end3 rated_u1 rated_u2 rated_u3 fit.0.0 fits, again) refl
+    by (Line end1 end2) fits kind again = absurd kind
+    by (TwoWindings home end1 end2 rated_u1 rated_u2) fits kind again = rw (two_read format b.id home end1 end2 rated_u1 rated_u2 fit.0.0 fits, again) refl
+    by (ThreeWindings home end1 end2 end3 rated_u1 rated_u2 rated_u3) fits kind again = rw (three_read format b.id home end1 end2 end3 rated_u1 rated_u2 rated_u3 fit.0.0 fits, again) refl
 
-lines_from : (n : ℕ) (bs : List NamedBranch) → AreReadableLines bs → items_at line_at n (items_of (map named_branch_value bs)) ≡ Ok (flat_map (λ b. line_draft_of b.id b.shape) bs)
+lines_from : (n : ℕ) (bs : List NamedBranch) → AllByRecursion IsReadableBranch bs → AllByRecursion (λ b. IsLine b.shape) bs → items_at line_at n (items_of (map named_branch_value bs)) ≡ Ok (flat_map (λ b. line_draft_of b.id b.shape) bs)
 unfolding items_at
-lines_from n [] fit = refl
-lines_from n (b ∷ bs) fit = by b.shape fit.0.1 (lines_from (suc n) bs fit.1)
+lines_from n [] fit kinds = refl
+lines_from n (b ∷ bs) fit kinds = by b.shape fit.0.1 kinds.0 (lines_from (suc n) bs fit.1 kinds.1)
   where
-    by : (shape : Branch) → IsReadableLine shape → items_at line_at (suc n) (items_of (map named_branch_value bs)) ≡ Ok (flat_map (λ b. line_draft_of b.id b.shape) bs)
+    by : (shape : Branch) → IsReadableShape shape → IsLine shape → items_at line_at (suc n) (items_of (map named_branch_value bs)) ≡ Ok (flat_map (λ b. line_draft_of b.id b.shape) bs)
         → items_at line_at n (items_of (branch_value b.id shape ∷ map named_branch_value bs)) ≡ Ok (line_draft_of b.id shape ++ flat_map (λ b. line_draft_of b.id b.shape) bs)
-    by (Line end1 end2) fits again = rw (line_read b.id end1 end2 fit.0.0 fits.0 fits.1, again) refl
-    by (TwoWindings home end1 end2 rated_u1 rated_u2) fits again = absurd fits
-    by (ThreeWindings home end1 end2 end3 rated_u1 rated_u2 rated_u3) fits again = absurd fits
+    by (Line end1 end2) fits kind again = rw (line_read b.id end1 end2 fit.0.0 fits.0 fits.1, again) refl
+    by (TwoWindings home end1 end2 rated_u1 rated_u2) fits kind again = absurd kind
+    by (ThreeWindings home end1 end2 end3 rated_u1 rated_u2 rated_u3) fits kind again = absurd kind
 
 -- ---- networks
 
-levels_from : (format : Format) (n : ℕ) (ls : List VoltageLevel) → AreReadableLevels ls → items_at (level_at format) n (items_of (map level_value ls)) ≡ Ok (map level_draft ls)
+levels_from : (format : Format) (n : ℕ) (ls : List VoltageLevel) → AllByRecursion IsReadableLevel ls → items_at (level_at format) n (items_of (map level_value ls)) ≡ Ok (map level_draft ls)
 unfolding items_at
 levels_from format n [] fit = refl
 levels_from format n (l ∷ ls) fit = rw (levels_are_read format l fit.0, levels_from format (suc n) ls fit.1) refl
 
-substation_read : (format : Format) (s : Substation) → IsId s.id → AreReadableLevels s.levels → AreReadableTransformers s.transformers → substation_at format (substation_value s) ≡ Ok (substation_draft s)
+substation_read : (format : Format) (s : Substation) → IsReadableSubstation s → substation_at format (substation_value s) ≡ Ok (substation_draft s)
 unfolding substation_at substation_value members_from
-substation_read format s valid levels transformers = rw (valid, levels_from format 0 s.levels levels, transformers_from format 0 s.transformers transformers) refl
+substation_read format s fits =
+    rw (
+      fits.id,
+      levels_from format 0 s.levels (each_of IsReadableLevel s.levels fits.levels),
+      transformers_from format 0 s.transformers (each_of IsReadableBranch s.transformers fits.transformers) (each_of (λ b. IsTransformer b.shape) s.transformers fits.are_transformers),
+    ) refl
 
-substations_from : (format : Format) (n : ℕ) (ss : List Substation) → AreReadableSubstations ss → items_at (substation_at format) n (items_of (map substation_value ss)) ≡ Ok (map substation_draft ss)
+substations_from : (format : Format) (n : ℕ) (ss : List Substation) → AllByRecursion IsReadableSubstation ss → items_at (substation_at format) n (items_of (map substation_value ss)) ≡ Ok (map substation_draft ss)
 unfolding items_at
 substations_from format n [] fit = refl
-substations_from format n (s ∷ ss) fit = rw (substation_read format s fit.0.0 fit.0.1.0 fit.0.1.1, substations_from format (suc n) ss fit.1) refl
+substations_from format n (s ∷ ss) fit = rw (substation_read format s fit.0, substations_from format (suc n) ss fit.1) refl
 
 pub networks_are_read : NetworksAreRead
 unfolding network_at network_value members_from
-networks_are_read format net fits = rw (fits.id, substations_from format 0 net.substations fits.substations, lines_from 0 net.lines fits.lines) refl
+networks_are_read format net fits =
+    rw (
+      fits.id,
+      substations_from format 0 net.substations (each_of IsReadableSubstation net.substations fits.substations),
+      lines_from 0 net.lines (each_of IsReadableBranch net.lines fits.lines) (each_of (λ b. IsLine b.shape) net.lines fits.are_lines),
+    ) refl
 
 pub network_jobs_are_read : NetworkJobsAreRead
 unfolding draft_at job_value least_format command_total items_at members_from

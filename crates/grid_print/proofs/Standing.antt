@@ -4,6 +4,7 @@ use Rattle.std.specs.Prelude.{nat_lt, is_none}
 use Rattle.std.specs.List.{flat_map, slice_get, list_any, list_all}
 use Rattle.std.proofs.lemmas.Bool.{ltb-false, ltb-true, true≢false, and_parts}
 use Rattle.std.proofs.lemmas.List.{map-append}
+use Rattle.std.proofs.lemmas.Grind.{flat_map-append}
 use Rattle.std.proofs.lemmas.Slice.Eq.{bytes_eq-Decides}
 use Rattle.grid_ids.specs.Name.{same_id, has_id, ids_differ}
 use Rattle.grid_structure.specs.declared.NamedBranch.{NamedBranch}
@@ -118,6 +119,13 @@ pub mapped_more : {A V D : Type 0} (written : A → D) (view : V → D) (front :
 mapped_more written view front old new v x grown so_far made =
     rw grown (map-append view old (v ∷ []) ∙ ap₂ (λ ds d. ds ++ d ∷ []) so_far made ∙ sym (map-append written front (x ∷ [])))
 
+-- one more element, with what is written of it
+pub flat_mapped : {A V D : Type 0} (written : A → List D) (view : V → D) (xs : List A) (n : ℕ) (x : A) → slice_get xs n ≡ Some x → (old new some : List V) → new ≡ old ++ some → map view old ≡ flat_map written (take n xs)
+    → map view some ≡ written x → map view new ≡ flat_map written (take (n + 1) xs)
+flat_mapped written view xs n x at old new some grown so_far made =
+    let more : flat_map written (take n xs ++ x ∷ []) ≡ flat_map written (take n xs) ++ written x = flat_map-append written (take n xs) (x ∷ []) ∙ ap (λ ds. flat_map written (take n xs) ++ ds) (append-nil (written x)) in
+    rw (grown, one_more_at xs n x at) (map-append view old some ∙ ap₂ (λ ds es. ds ++ es) so_far made ∙ sym more)
+
 pub levels_grow : (subs : List Substation) (k : ℕ) → levels_before k subs ≤ levels_before (k + 1) subs
 unfolding levels_before
 levels_grow subs k = many_grow (λ s. s.levels) subs k
@@ -148,11 +156,15 @@ pub transformers_within : (net : Network) (k : ℕ) → transformers_before k ne
 unfolding transformers_before branches
 transformers_within net k = omega (arith, many_within (λ s. s.transformers) net.substations k, length-append (flat_map (λ s. s.transformers) net.substations) net.lines)
 
+pub levels_all : (net : Network) → levels_before (length net.substations) net.substations ≡ length (levels net)
+unfolding levels_before levels
+levels_all net = many_all (λ s. s.levels) net.substations
+
 -- the value of the substation at a place
 pub substation_made : (net : Network) (k : ℕ) (id : List ℕ) (ls ts : Data) → option_map (λ s. s.id) (slice_get net.substations k) ≡ Some id
     → ls ≡ array_of level_value (between (levels_before k net.substations) (levels_before (k + 1) net.substations) (levels net))
     → ts ≡ array_of named_branch_value (between (transformers_before k net.substations) (transformers_before (k + 1) net.substations) (branches net))
-    → (s : Substation) × (slice_get net.substations k ≡ Some s) × (substation_of id ls ts ≡ substation_value s)
+    → (s : Substation) × (slice_get net.substations k ≡ Some s) × (substation_of id ls ts ≡ substation_value s) × (s.id ≡ id)
 unfolding substation_value levels branches levels_before transformers_before
 substation_made net k id ls ts named made_ls made_ts =
     let s = found_at (λ s. s.id) (slice_get net.substations k) id named in
@@ -162,15 +174,15 @@ substation_made net k id ls ts named made_ls made_ts =
     let some_transformers = cut_out (λ z. z.transformers) net.lines net.substations k s.0 s.1 in
     let l : ls ≡ array_of level_value s.0.levels = made_ls ∙ ap (array_of level_value) some_levels in
     let t : ts ≡ array_of named_branch_value s.0.transformers = made_ts ∙ ap (array_of named_branch_value) some_transformers in
-    (s.0, s.1, ap (λ i. substation_of i ls ts) (sym s.2) ∙ ap₂ (substation_of s.0.id) l t)
+    (s.0, s.1, ap (λ i. substation_of i ls ts) (sym s.2) ∙ ap₂ (substation_of s.0.id) l t, s.2)
 
 -- the branch at a place
 pub branch_made : (net : Network) (p : ℕ) (id : List ℕ) (shape : Branch) → option_map (λ b. b.id) (slice_get (branches net) p) ≡ Some id → option_map (λ b. b.shape) (slice_get (branches net) p) ≡ Some shape
-    → (b : NamedBranch) × (slice_get (branches net) p ≡ Some b) × (branch_value id shape ≡ named_branch_value b)
+    → (b : NamedBranch) × (slice_get (branches net) p ≡ Some b) × (branch_value id shape ≡ named_branch_value b) × (b.id ≡ id) × (b.shape ≡ shape)
 branch_made net p id shape named shaped =
     let b = found_at (λ b. b.id) (slice_get (branches net) p) id named in
     let same : b.0.shape ≡ shape = shape_is b.0 (rw b.1 at shaped) in
-    (b.0, b.1, ap₂ branch_value (sym b.2) (sym same))
+    (b.0, b.1, ap₂ branch_value (sym b.2) (sym same), b.2, same)
   where
     shape_is : (b : NamedBranch) → option_map (λ z. z.shape) (Some b) ≡ Some shape → b.shape ≡ shape
     shape_is b e = cc

@@ -1,11 +1,13 @@
--- What is written has no float.
-use Rattle.std.proofs.Common.{◌≡◌, ℕ, ℤ, pos, negsuc, List, [], ◌∷◌, ◌++◌, Bool, true, false, ◌||◌, Option, Some, None, Ordering, Less, Equal, Greater, refl}
+-- What is written has no float, and nests no deeper than a reader goes.
+use Rattle.std.proofs.Common.{◌≡◌, ℕ, suc, ◌≤◌, ℤ, pos, negsuc, List, [], ◌∷◌, ◌++◌, Bool, true, false, Option, Some, None, Ordering, Less, Equal, Greater, refl, ap, map, arith}
+use Rattle.std.proofs.lemmas.Bool.{or_from, or_parts}
 use Rattle.std.specs.Prelude.{⊤}
 use Rattle.std.specs.List.{flat_map}
 use Rattle.std.specs.Ordering.{nat_cmp, match_ordering}
 use Rattle.std.specs.Cmp.Lexicographic.{slice_cmp}
-use Rattle.serde_json.specs.Data.{Data, string, Members, no_members, member, put}
+use Rattle.serde_json.specs.Data.{Data, string, array, Members, no_members, member, put, depth, members_depth}
 use Rattle.serde_json.specs.View.{items_of}
+use Rattle.serde_json.specs.Read.{max_depth}
 use Rattle.serde_json.specs.Written.{has_float, items_have_float, members_have_float}
 use Rattle.grid_kinds.specs.declared.Injection.{Injection}
 use Rattle.grid_kinds.specs.declared.Injection.TheVariants.{Load, Generator, Battery, ShuntCompensator, StaticVarCompensator}
@@ -30,204 +32,225 @@ use Rattle.grid_print.specs.Network as network
 use Rattle.grid_print.specs.Command as command
 use Rattle.grid_print.specs.Job as job
 
-abbrev IsWhole : Data → Type 0
-IsWhole d = has_float d ≡ false
+pub record IsPlain (n : ℕ) (d : Data) : Type 0 where
+  pub float : has_float d ≡ false
+  pub within : depth d ≤ n
 
-abbrev AreWhole : List Data → Type 0
-AreWhole [] = ⊤
-AreWhole (d ∷ ds) = IsWhole d × AreWhole ds
+pub record MembersArePlain (n : ℕ) (ms : Members) : Type 0 where
+  pub float : members_have_float ms ≡ false
+  pub within : members_depth ms ≤ n
+
+abbrev ArePlain : ℕ → List Data → Type 0
+ArePlain n [] = ⊤
+ArePlain n (d ∷ ds) = IsPlain n d × ArePlain n ds
 
 -- the values of members
-abbrev FieldsAreWhole : List (List ℕ × Data) → Type 0
-FieldsAreWhole [] = ⊤
-FieldsAreWhole (f ∷ fields) = IsWhole f.1 × FieldsAreWhole fields
+abbrev FieldsArePlain : ℕ → List (List ℕ × Data) → Type 0
+FieldsArePlain n [] = ⊤
+FieldsArePlain n (f ∷ fields) = IsPlain n f.1 × FieldsArePlain n fields
 
-neither : (a b : Bool) → a ≡ false → b ≡ false → (a || b) ≡ false
-neither a b left right = rw (left, right) refl
+leaf : {n : ℕ} {d : Data} → ◌≡◌ {A = Bool × ℕ} (has_float d, depth d) (false, 0) → IsPlain n d
+leaf {n} {d} e =
+    let flat : depth d ≡ 0 = ap (λ p. p.1) e in
+    record { float = ap (λ p. p.0) e; within = omega (arith, flat) }
 
-one_of : (o : Ordering) (a b c : Members) → members_have_float a ≡ false → members_have_float b ≡ false → members_have_float c ≡ false → members_have_float (match_ordering o a b c) ≡ false
-one_of Less a b c x y z = x
-one_of Equal a b c x y z = y
-one_of Greater a b c x y z = z
+deeper : (n m : ℕ) (d : Data) → n ≤ m → IsPlain n d → IsPlain m d
+deeper n m d more h = record { float = h.float; within = omega (arith, h.within) }
 
-first_false : (a b : Bool) → (a || b) ≡ false → a ≡ false
-first_false true b e = e
-first_false false b e = refl
+member_plain : (n : ℕ) (k : List ℕ) (d : Data) (ms : Members) → IsPlain n d → MembersArePlain n ms → MembersArePlain n (member k d ms)
+member_plain n k d ms new old = record { float = or_from (has_float d) (members_have_float ms) new.float old.float; within = omega (arith, new.within, old.within) }
 
-second_false : (a b : Bool) → (a || b) ≡ false → b ≡ false
-second_false true true e = e
-second_false true false e = refl
-second_false false b e = e
+first_plain : (n : ℕ) (k : List ℕ) (d : Data) (ms : Members) → MembersArePlain n (member k d ms) → IsPlain n d × MembersArePlain n ms
+first_plain n k d ms old =
+    let floats = or_parts (has_float d) (members_have_float ms) old.float in
+    (record { float = floats.0; within = omega (arith, old.within) }, record { float = floats.1; within = omega (arith, old.within) })
 
-put_whole : (k : List ℕ) (d : Data) (ms : Members) → IsWhole d → members_have_float ms ≡ false → members_have_float (put k d ms) ≡ false
-put_whole k d no_members new old = neither _ _ new refl
-put_whole k d (member l e ms) new old =
-    let here = first_false (has_float e) (members_have_float ms) old in
-    let later = second_false (has_float e) (members_have_float ms) old in
-    one_of (slice_cmp nat_cmp k l) (member k d (member l e ms)) (member l d ms) (member l e (put k d ms))
-    (neither _ _ new old) (neither _ _ new later) (neither _ _ here (put_whole k d ms new later))
+one_of : (n : ℕ) (o : Ordering) (a b c : Members) → MembersArePlain n a → MembersArePlain n b → MembersArePlain n c → MembersArePlain n (match_ordering o a b c)
+one_of n Less a b c x y z = x
+one_of n Equal a b c x y z = y
+one_of n Greater a b c x y z = z
 
-members_whole : (ms : Members) (fields : List (List ℕ × Data)) → members_have_float ms ≡ false → FieldsAreWhole fields → members_have_float (members_from ms fields) ≡ false
+put_plain : (n : ℕ) (k : List ℕ) (d : Data) (ms : Members) → IsPlain n d → MembersArePlain n ms → MembersArePlain n (put k d ms)
+put_plain n k d no_members new old = member_plain n k d no_members new old
+put_plain n k d (member l e ms) new old =
+    let parts = first_plain n l e ms old in
+    one_of n (slice_cmp nat_cmp k l) (member k d (member l e ms)) (member l d ms) (member l e (put k d ms))
+    (member_plain n k d (member l e ms) new old) (member_plain n l d ms new parts.1) (member_plain n l e (put k d ms) parts.0 (put_plain n k d ms new parts.1))
+
+members_plain : (n : ℕ) (ms : Members) (fields : List (List ℕ × Data)) → MembersArePlain n ms → FieldsArePlain n fields → MembersArePlain n (members_from ms fields)
 unfolding members_from
-members_whole ms [] old new = old
-members_whole ms (f ∷ fields) old new = members_whole (put f.0 f.1 ms) fields (put_whole f.0 f.1 ms new.0 old) new.1
+members_plain n ms [] old new = old
+members_plain n ms (f ∷ fields) old new = members_plain n (put f.0 f.1 ms) fields (put_plain n f.0 f.1 ms new.0 old) new.1
 
-object_whole : (fields : List (List ℕ × Data)) → FieldsAreWhole fields → IsWhole (object_of fields)
-object_whole fields = members_whole no_members fields refl
+object_plain : (n : ℕ) (fields : List (List ℕ × Data)) → FieldsArePlain n fields → IsPlain (suc n) (object_of fields)
+object_plain n fields new =
+    let h = members_plain n no_members fields (record { float = refl; within = omega arith }) new in
+    record { float = h.float; within = omega (arith, h.within) }
 
-fields_append : (xs ys : List (List ℕ × Data)) → FieldsAreWhole xs → FieldsAreWhole ys → FieldsAreWhole (xs ++ ys)
-fields_append [] ys left right = right
-fields_append (x ∷ xs) ys left right = (left.0, fields_append xs ys left.1 right)
+fields_append : (n : ℕ) (xs ys : List (List ℕ × Data)) → FieldsArePlain n xs → FieldsArePlain n ys → FieldsArePlain n (xs ++ ys)
+fields_append n [] ys left right = right
+fields_append n (x ∷ xs) ys left right = (left.0, fields_append n xs ys left.1 right)
 
-append_whole : (xs ys : List Data) → AreWhole xs → AreWhole ys → AreWhole (xs ++ ys)
-append_whole [] ys left right = right
-append_whole (x ∷ xs) ys left right = (left.0, append_whole xs ys left.1 right)
+append_plain : (n : ℕ) (xs ys : List Data) → ArePlain n xs → ArePlain n ys → ArePlain n (xs ++ ys)
+append_plain n [] ys left right = right
+append_plain n (x ∷ xs) ys left right = (left.0, append_plain n xs ys left.1 right)
 
-items_whole : (ds : List Data) → AreWhole ds → items_have_float (items_of ds) ≡ false
-items_whole [] h = refl
-items_whole (d ∷ ds) h = neither _ _ h.0 (items_whole ds h.1)
+items_plain : (n : ℕ) (ds : List Data) → ArePlain n ds → IsPlain (suc n) (array (items_of ds))
+items_plain n [] h = record { float = refl; within = omega arith }
+items_plain n (d ∷ ds) h =
+    let later = items_plain n ds h.1 in
+    record { float = or_from (has_float d) (items_have_float (items_of ds)) h.0.float later.float; within = omega (arith, h.0.within, later.within) }
 
-array_whole : {A : Type 0} (written : A → Data) → ((x : A) → IsWhole (written x)) → (xs : List A) → IsWhole (array_of written xs)
-array_whole written each [] = refl
-array_whole written each (x ∷ xs) = neither _ _ (each x) (array_whole written each xs)
+map_plain : {A : Type 0} (n : ℕ) (written : A → Data) → ((x : A) → IsPlain n (written x)) → (xs : List A) → ArePlain n (map written xs)
+map_plain n written each [] = tt
+map_plain n written each (x ∷ xs) = (each x, map_plain n written each xs)
 
-flat_whole : {A : Type 0} (written : A → List Data) → ((x : A) → AreWhole (written x)) → (xs : List A) → AreWhole (flat_map written xs)
-flat_whole written each [] = tt
-flat_whole written each (x ∷ xs) = append_whole (written x) _ (each x) (flat_whole written each xs)
+array_plain : {A : Type 0} (n : ℕ) (written : A → Data) → ((x : A) → IsPlain n (written x)) → (xs : List A) → IsPlain (suc n) (array_of written xs)
+array_plain n written each xs = items_plain n (map written xs) (map_plain n written each xs)
 
-whole_whole : (z : ℤ) → IsWhole (whole z)
-whole_whole (pos n) = refl
-whole_whole (negsuc n) = refl
+flat_plain : {A : Type 0} (n : ℕ) (written : A → List Data) → ((x : A) → ArePlain n (written x)) → (xs : List A) → ArePlain n (flat_map written xs)
+flat_plain n written each [] = tt
+flat_plain n written each (x ∷ xs) = append_plain n (written x) _ (each x) (flat_plain n written each xs)
 
-given_whole : {A : Type 0} (name : List ℕ) (written : A → Data) → ((x : A) → IsWhole (written x)) → (o : Option A) → FieldsAreWhole (given name written o)
-given_whole name written each None = tt
-given_whole name written each (Some x) = (each x, tt)
+whole_plain : (n : ℕ) (z : ℤ) → IsPlain n (whole z)
+whole_plain n (pos k) = leaf refl
+whole_plain n (negsuc k) = leaf refl
 
-word_whole : (b : Bool) (word : List ℕ) → AreWhole (word_if b word)
-word_whole true word = (refl, tt)
-word_whole false word = tt
+given_plain : {A : Type 0} (n : ℕ) (name : List ℕ) (written : A → Data) → ((x : A) → IsPlain n (written x)) → (o : Option A) → FieldsArePlain n (given name written o)
+given_plain n name written each None = tt
+given_plain n name written each (Some x) = (each x, tt)
+
+word_plain : (n : ℕ) (b : Bool) (word : List ℕ) → ArePlain n (word_if b word)
+word_plain n true word = (leaf refl, tt)
+word_plain n false word = tt
 
 -- ---- networks
 
-item_whole : (item : Injection) → FieldsAreWhole (network.injection_fields item)
-item_whole (Load p0 q0) = (whole_whole p0, (whole_whole q0, tt))
-item_whole (Generator target_p target_v min_p max_p) = (whole_whole target_p, (whole_whole target_v, (whole_whole min_p, (whole_whole max_p, tt))))
-item_whole (Battery target_p target_q min_p max_p) = (whole_whole target_p, (whole_whole target_q, (whole_whole min_p, (whole_whole max_p, tt))))
-item_whole (ShuntCompensator section_count max_sections) = (whole_whole section_count, (whole_whole max_sections, tt))
-item_whole (StaticVarCompensator target_q) = (whole_whole target_q, tt)
+item_plain : (n : ℕ) (item : Injection) → FieldsArePlain n (network.injection_fields item)
+item_plain n (Load p0 q0) = (whole_plain n p0, (whole_plain n q0, tt))
+item_plain n (Generator target_p target_v min_p max_p) = (whole_plain n target_p, (whole_plain n target_v, (whole_plain n min_p, (whole_plain n max_p, tt))))
+item_plain n (Battery target_p target_q min_p max_p) = (whole_plain n target_p, (whole_plain n target_q, (whole_plain n min_p, (whole_plain n max_p, tt))))
+item_plain n (ShuntCompensator section_count max_sections) = (whole_plain n section_count, (whole_plain n max_sections, tt))
+item_plain n (StaticVarCompensator target_q) = (whole_plain n target_q, tt)
 
-busbar_whole : (id : List ℕ) (node : ℕ) (stand : Stand) → AreWhole (network.busbar_of id node stand)
-busbar_whole id node Busbar = (object_whole _ (refl, (refl, tt)), tt)
-busbar_whole id node (Feeder item) = tt
-busbar_whole id node BranchEnd = tt
+busbar_plain : (id : List ℕ) (node : ℕ) (stand : Stand) → ArePlain 1 (network.busbar_of id node stand)
+busbar_plain id node Busbar = (object_plain 0 _ (leaf refl, (leaf refl, tt)), tt)
+busbar_plain id node (Feeder item) = tt
+busbar_plain id node BranchEnd = tt
 
-injection_whole : (id : List ℕ) (node : ℕ) (stand : Stand) → AreWhole (network.injection_of id node stand)
-injection_whole id node Busbar = tt
-injection_whole id node (Feeder item) = (object_whole _ (refl, (refl, (refl, item_whole item))), tt)
-injection_whole id node BranchEnd = tt
+injection_plain : (id : List ℕ) (node : ℕ) (stand : Stand) → ArePlain 1 (network.injection_of id node stand)
+injection_plain id node Busbar = tt
+injection_plain id node (Feeder item) = (object_plain 0 _ (leaf refl, (leaf refl, (leaf refl, item_plain 0 item))), tt)
+injection_plain id node BranchEnd = tt
 
-busbars_whole : (placed : List Placed) → IsWhole (network.busbars_value placed)
+busbars_plain : (placed : List Placed) → IsPlain 2 (network.busbars_value placed)
 unfolding network.busbars_value
-busbars_whole placed = items_whole _ (flat_whole _ (λ p. busbar_whole p.terminal.equipment p.node p.stand) placed)
+busbars_plain placed = items_plain 1 _ (flat_plain 1 _ (λ p. busbar_plain p.terminal.equipment p.node p.stand) placed)
 
-injections_whole : (placed : List Placed) → IsWhole (network.injections_value placed)
+injections_plain : (placed : List Placed) → IsPlain 2 (network.injections_value placed)
 unfolding network.injections_value
-injections_whole placed = items_whole _ (flat_whole _ (λ p. injection_whole p.terminal.equipment p.node p.stand) placed)
+injections_plain placed = items_plain 1 _ (flat_plain 1 _ (λ p. injection_plain p.terminal.equipment p.node p.stand) placed)
 
-switch_whole : (s : Switch) → IsWhole (network.switch_value s)
+switch_plain : (s : Switch) → IsPlain 1 (network.switch_value s)
 unfolding network.switch_value
-switch_whole s = object_whole _ (refl, (refl, (refl, (refl, (refl, (refl, (refl, tt)))))))
+switch_plain s = object_plain 0 _ (leaf refl, (leaf refl, (leaf refl, (leaf refl, (leaf refl, (leaf refl, (leaf refl, tt)))))))
 
-internal_whole : (i : Internal) → IsWhole (network.internal_value i)
+internal_plain : (i : Internal) → IsPlain 1 (network.internal_value i)
 unfolding network.internal_value
-internal_whole i = object_whole _ (refl, (refl, tt))
+internal_plain i = object_plain 0 _ (leaf refl, (leaf refl, tt))
 
-level_whole : (l : VoltageLevel) → IsWhole (network.level_value l)
+level_plain : (l : VoltageLevel) → IsPlain 3 (network.level_value l)
 unfolding network.level_value
-level_whole l = object_whole _ (
-  refl,
+level_plain l = object_plain 2 _ (
+  leaf refl,
   (
-    whole_whole l.nominal_v,
-    fields_append _ _ (given_whole _ whole whole_whole l.low_v) (fields_append _ _ (given_whole _ whole whole_whole l.high_v)
-        (busbars_whole l.placed, (array_whole network.switch_value switch_whole l.switches, (array_whole network.internal_value internal_whole l.internals, (injections_whole l.placed, tt))))),
+    whole_plain 2 l.nominal_v,
+    fields_append 2 _ _ (given_plain 2 _ whole (whole_plain 2) l.low_v) (fields_append 2 _ _ (given_plain 2 _ whole (whole_plain 2) l.high_v)
+        (busbars_plain l.placed, (array_plain 1 network.switch_value switch_plain l.switches, (array_plain 1 network.internal_value internal_plain l.internals, (injections_plain l.placed, tt))))),
   ),
 )
 
-end_whole : (e : End) → IsWhole (network.end_value e)
+end_plain : (e : End) → IsPlain 1 (network.end_value e)
 unfolding network.end_value
-end_whole e = object_whole _ (refl, (whole_whole e.node, tt))
+end_plain e = object_plain 0 _ (leaf refl, (whole_plain 0 e.node, tt))
 
-branch_whole : (id : List ℕ) (shape : Branch) → IsWhole (network.branch_value id shape)
+branch_plain : (id : List ℕ) (shape : Branch) → IsPlain 3 (network.branch_value id shape)
 unfolding network.branch_value
-branch_whole id (Line end1 end2) = object_whole _ (refl, (array_whole network.end_value end_whole (end1 ∷ end2 ∷ []), tt))
-branch_whole id (TwoWindings substation end1 end2 rated_u1 rated_u2) =
-    object_whole _ (refl, (refl, (array_whole network.end_value end_whole (end1 ∷ end2 ∷ []), (array_whole whole whole_whole (rated_u1 ∷ rated_u2 ∷ []), tt))))
-branch_whole id (ThreeWindings substation end1 end2 end3 rated_u1 rated_u2 rated_u3) =
-    object_whole _ (refl, (refl, (array_whole network.end_value end_whole (end1 ∷ end2 ∷ end3 ∷ []), (array_whole whole whole_whole (rated_u1 ∷ rated_u2 ∷ rated_u3 ∷ []), tt))))
+branch_plain id (Line end1 end2) = object_plain 2 _ (leaf refl, (array_plain 1 network.end_value end_plain (end1 ∷ end2 ∷ []), tt))
+branch_plain id (TwoWindings substation end1 end2 rated_u1 rated_u2) =
+    object_plain 2 _ (leaf refl, (leaf refl, (array_plain 1 network.end_value end_plain (end1 ∷ end2 ∷ []), (array_plain 1 whole (whole_plain 1) (rated_u1 ∷ rated_u2 ∷ []), tt))))
+branch_plain id (ThreeWindings substation end1 end2 end3 rated_u1 rated_u2 rated_u3) =
+    object_plain 2 _ (leaf refl, (leaf refl, (array_plain 1 network.end_value end_plain (end1 ∷ end2 ∷ end3 ∷ []), (array_plain 1 whole (whole_plain 1) (rated_u1 ∷ rated_u2 ∷ rated_u3 ∷ []), tt))))
 
-named_whole : (b : NamedBranch) → IsWhole (network.named_branch_value b)
-named_whole b = branch_whole b.id b.shape
+named_plain : (b : NamedBranch) → IsPlain 3 (network.named_branch_value b)
+named_plain b = branch_plain b.id b.shape
 
-substation_whole : (s : Substation) → IsWhole (network.substation_value s)
+substation_plain : (s : Substation) → IsPlain 5 (network.substation_value s)
 unfolding network.substation_value
-substation_whole s = object_whole _ (refl, (array_whole network.level_value level_whole s.levels, (array_whole network.named_branch_value named_whole s.transformers, tt)))
+substation_plain s = object_plain 4 _ (leaf refl, (array_plain 3 network.level_value level_plain s.levels, (array_plain 3 network.named_branch_value named_plain s.transformers, tt)))
 
-network_whole : (net : Network) → IsWhole (network.network_value net)
+network_plain : (net : Network) → IsPlain 7 (network.network_value net)
 unfolding network.network_value
-network_whole net = object_whole _ (refl, (array_whole network.substation_value substation_whole net.substations, (array_whole network.named_branch_value named_whole net.lines, tt)))
+network_plain net = object_plain 6 _ (leaf refl, (array_plain 5 network.substation_value substation_plain net.substations, (array_plain 5 network.named_branch_value (λ b. deeper 3 5 _ (omega arith) (named_plain b)) net.lines, tt)))
 
 -- ---- commands
 
-add_branch_whole : (id : List ℕ) (shape : Branch) → IsWhole (command.add_branch_value id shape)
+add_branch_plain : (id : List ℕ) (shape : Branch) → IsPlain 3 (command.add_branch_value id shape)
 unfolding command.add_branch_value
-add_branch_whole id (Line end1 end2) = object_whole _ (refl, (refl, (refl, (array_whole network.end_value end_whole (end1 ∷ end2 ∷ []), tt))))
-add_branch_whole id (TwoWindings substation end1 end2 rated_u1 rated_u2) =
-    object_whole _ (refl, (refl, (refl, (array_whole network.end_value end_whole (end1 ∷ end2 ∷ []), (refl, (array_whole whole whole_whole (rated_u1 ∷ rated_u2 ∷ []), tt))))))
-add_branch_whole id (ThreeWindings substation end1 end2 end3 rated_u1 rated_u2 rated_u3) =
-    object_whole _ (refl, (refl, (refl, (array_whole network.end_value end_whole (end1 ∷ end2 ∷ end3 ∷ []), (refl, (array_whole whole whole_whole (rated_u1 ∷ rated_u2 ∷ rated_u3 ∷ []), tt))))))
+add_branch_plain id (Line end1 end2) = object_plain 2 _ (leaf refl, (leaf refl, (leaf refl, (array_plain 1 network.end_value end_plain (end1 ∷ end2 ∷ []), tt))))
+add_branch_plain id (TwoWindings substation end1 end2 rated_u1 rated_u2) =
+    object_plain 2 _ (leaf refl, (leaf refl, (leaf refl, (array_plain 1 network.end_value end_plain (end1 ∷ end2 ∷ []), (leaf refl, (array_plain 1 whole (whole_plain 1) (rated_u1 ∷ rated_u2 ∷ []), tt))))))
+add_branch_plain id (ThreeWindings substation end1 end2 end3 rated_u1 rated_u2 rated_u3) =
+    object_plain 2 _ (leaf refl, (leaf refl, (leaf refl, (array_plain 1 network.end_value end_plain (end1 ∷ end2 ∷ end3 ∷ []), (leaf refl, (array_plain 1 whole (whole_plain 1) (rated_u1 ∷ rated_u2 ∷ rated_u3 ∷ []), tt))))))
 
-edit_whole : (edit : Edit) → IsWhole (command.edit_value edit)
+edit_plain : (edit : Edit) → IsPlain 3 (command.edit_value edit)
 unfolding command.edit_value
-edit_whole (edits.AddSubstation id) = object_whole _ (refl, (refl, tt))
-edit_whole (edits.AddLevel id substation nominal_v low_v high_v) = object_whole _
-    (refl, (refl, (refl, (whole_whole nominal_v, fields_append _ _ (given_whole _ whole whole_whole low_v) (given_whole _ whole whole_whole high_v)))))
-edit_whole (edits.AddBusbar id level node) = object_whole _ (refl, (refl, (refl, (whole_whole node, tt))))
-edit_whole (edits.AddSwitch id level kind node1 node2 opened retained fictitious) = object_whole _
-    (refl, (refl, (refl, (refl, (whole_whole node1, (whole_whole node2, (refl, (refl, (refl, tt)))))))))
-edit_whole (edits.RemoveSwitch id) = object_whole _ (refl, (refl, tt))
-edit_whole (edits.AddInternal level node1 node2) = object_whole _ (refl, (refl, (whole_whole node1, (whole_whole node2, tt))))
-edit_whole (edits.RemoveInternal level node1 node2) = object_whole _ (refl, (refl, (whole_whole node1, (whole_whole node2, tt))))
-edit_whole (edits.AddInjection id level node item) = object_whole _ (refl, (refl, (refl, (refl, (whole_whole node, item_whole item)))))
-edit_whole (edits.AddBranch id shape) = add_branch_whole id shape
-edit_whole (edits.RemoveEquipment id) = object_whole _ (refl, (refl, tt))
+edit_plain (edits.AddSubstation id) = object_plain 2 _ (leaf refl, (leaf refl, tt))
+edit_plain (edits.AddLevel id substation nominal_v low_v high_v) = object_plain 2 _
+    (leaf refl, (leaf refl, (leaf refl, (whole_plain 2 nominal_v, fields_append 2 _ _ (given_plain 2 _ whole (whole_plain 2) low_v) (given_plain 2 _ whole (whole_plain 2) high_v)))))
+edit_plain (edits.AddBusbar id level node) = object_plain 2 _ (leaf refl, (leaf refl, (leaf refl, (whole_plain 2 node, tt))))
+edit_plain (edits.AddSwitch id level kind node1 node2 opened retained fictitious) = object_plain 2 _
+    (leaf refl, (leaf refl, (leaf refl, (leaf refl, (whole_plain 2 node1, (whole_plain 2 node2, (leaf refl, (leaf refl, (leaf refl, tt)))))))))
+edit_plain (edits.RemoveSwitch id) = object_plain 2 _ (leaf refl, (leaf refl, tt))
+edit_plain (edits.AddInternal level node1 node2) = object_plain 2 _ (leaf refl, (leaf refl, (whole_plain 2 node1, (whole_plain 2 node2, tt))))
+edit_plain (edits.RemoveInternal level node1 node2) = object_plain 2 _ (leaf refl, (leaf refl, (whole_plain 2 node1, (whole_plain 2 node2, tt))))
+edit_plain (edits.AddInjection id level node item) = object_plain 2 _ (leaf refl, (leaf refl, (leaf refl, (leaf refl, (whole_plain 2 node, item_plain 2 item)))))
+edit_plain (edits.AddBranch id shape) = add_branch_plain id shape
+edit_plain (edits.RemoveEquipment id) = object_plain 2 _ (leaf refl, (leaf refl, tt))
 
-request_whole : (request : Request) → IsWhole (command.request_value request)
+request_plain : (request : Request) → IsPlain 3 (command.request_value request)
 unfolding command.request_value
-request_whole (requests.UseVariant name) = object_whole _ (refl, (refl, tt))
-request_whole (requests.OpenSwitch id) = object_whole _ (refl, (refl, tt))
-request_whole (requests.CloseSwitch id) = object_whole _ (refl, (refl, tt))
-request_whole (requests.RetainSwitch id retained) = object_whole _ (refl, (refl, (refl, tt)))
-request_whole (requests.Connect id side) = object_whole _ (refl, (refl, (whole_whole side, tt)))
-request_whole (requests.Disconnect id side) = object_whole _ (refl, (refl, (whole_whole side, tt)))
-request_whole (requests.BusBreakerView level) = object_whole _ (refl, (refl, tt))
-request_whole (requests.BusView level) = object_whole _ (refl, (refl, tt))
-request_whole (requests.Components level) = object_whole _ (refl, (refl, tt))
-request_whole (requests.CloneVariant from to overwrite) = object_whole _ (refl, (refl, (refl, (refl, tt))))
-request_whole (requests.RemoveVariant name) = object_whole _ (refl, (refl, tt))
-request_whole (requests.Change edit) = edit_whole edit
+request_plain (requests.UseVariant name) = object_plain 2 _ (leaf refl, (leaf refl, tt))
+request_plain (requests.OpenSwitch id) = object_plain 2 _ (leaf refl, (leaf refl, tt))
+request_plain (requests.CloseSwitch id) = object_plain 2 _ (leaf refl, (leaf refl, tt))
+request_plain (requests.RetainSwitch id retained) = object_plain 2 _ (leaf refl, (leaf refl, (leaf refl, tt)))
+request_plain (requests.Connect id side) = object_plain 2 _ (leaf refl, (leaf refl, (whole_plain 2 side, tt)))
+request_plain (requests.Disconnect id side) = object_plain 2 _ (leaf refl, (leaf refl, (whole_plain 2 side, tt)))
+request_plain (requests.BusBreakerView level) = object_plain 2 _ (leaf refl, (leaf refl, tt))
+request_plain (requests.BusView level) = object_plain 2 _ (leaf refl, (leaf refl, tt))
+request_plain (requests.Components level) = object_plain 2 _ (leaf refl, (leaf refl, tt))
+request_plain (requests.CloneVariant from to overwrite) = object_plain 2 _ (leaf refl, (leaf refl, (leaf refl, (leaf refl, tt))))
+request_plain (requests.RemoveVariant name) = object_plain 2 _ (leaf refl, (leaf refl, tt))
+request_plain (requests.Change edit) = edit_plain edit
 
 -- ---- jobs
 
-kinds_whole : (f : Filter) → IsWhole (job.kinds_value f)
+kinds_plain : (f : Filter) → IsPlain 1 (job.kinds_value f)
 unfolding job.kinds_value
-kinds_whole f = items_whole _
-    (append_whole _ _ (word_whole f.created _) (append_whole _ _ (word_whole f.removed _) (append_whole _ _ (word_whole f.updated _)
-    (append_whole _ _ (word_whole f.variant_created _) (append_whole _ _ (word_whole f.variant_overwritten _) (word_whole f.variant_removed _))))))
+kinds_plain f = items_plain 0 _
+    (append_plain 0 _ _ (word_plain 0 f.created _) (append_plain 0 _ _ (word_plain 0 f.removed _) (append_plain 0 _ _ (word_plain 0 f.updated _)
+    (append_plain 0 _ _ (word_plain 0 f.variant_created _) (append_plain 0 _ _ (word_plain 0 f.variant_overwritten _) (word_plain 0 f.variant_removed _))))))
 
-listener_whole : (f : Filter) → IsWhole (job.listener_value f)
+listener_plain : (f : Filter) → IsPlain 2 (job.listener_value f)
 unfolding job.listener_value
-listener_whole f = object_whole _ (kinds_whole f, given_whole _ string (λ s. refl) f.variant)
+listener_plain f = object_plain 1 _ (kinds_plain f, given_plain 1 _ string (λ s. leaf refl) f.variant)
+
+job_is_plain : (net : Network) (filters : List Filter) (scripts : List (List Request)) (order : Option (List ℕ)) → IsPlain 8 (job.job_value net filters scripts order)
+unfolding job.job_value
+job_is_plain net filters scripts order = object_plain 7 _ (leaf refl, (network_plain net, (array_plain 6 job.listener_value (λ f. deeper 2 6 _ (omega arith) (listener_plain f)) filters, (array_plain 6 job.script_value (λ script. deeper 4 6 _ (omega arith) (array_plain 3 command.request_value request_plain script)) scripts, given_plain 7 _ (array_of natural) (array_plain 6 natural (λ n. leaf refl)) order))))
 
 pub job_has_no_float : (net : Network) (filters : List Filter) (scripts : List (List Request)) (order : Option (List ℕ)) → has_float (job.job_value net filters scripts order) ≡ false
-unfolding job.job_value
-job_has_no_float net filters scripts order = object_whole _ (refl, (network_whole net, (array_whole job.listener_value listener_whole filters, (array_whole job.script_value (array_whole command.request_value request_whole) scripts, given_whole _ (array_of natural) (array_whole natural (λ n. refl)) order))))
+job_has_no_float net filters scripts order = (job_is_plain net filters scripts order).float
+
+pub job_is_shallow : (net : Network) (filters : List Filter) (scripts : List (List Request)) (order : Option (List ℕ)) → depth (job.job_value net filters scripts order) ≤ max_depth
+job_is_shallow net filters scripts order = omega (arith, (job_is_plain net filters scripts order).within)

@@ -2,7 +2,6 @@
 use Rattle.std.specs.Prelude.{ℕ, ℤ, List, [], ◌∷◌, ◌++◌, codes, Bool, Option}
 use Rattle.serde_json.specs.Data.{Data, boolean, string}
 use Rattle.grid_kinds.specs.declared.Injection.{Injection}
-use Rattle.grid_kinds.specs.declared.SwitchKind.{SwitchKind}
 use Rattle.grid_structure.specs.declared.Branch.{Branch}
 use Rattle.grid_structure.specs.declared.Branch.TheVariants.{Line, TwoWindings, ThreeWindings}
 use Rattle.grid_structure.specs.declared.Edit.{Edit}
@@ -51,16 +50,21 @@ internal_edit verb level node1 node2 = command_of verb ((codes "level", string l
 abbrev pub add_busbar_value : List ℕ → List ℕ → ℤ → Data
 add_busbar_value id level node = command_of (codes "add_busbar") ((codes "id", string id) ∷ (codes "level", string level) ∷ (codes "node", whole node) ∷ [])
 
-abbrev pub add_switch_value : List ℕ → List ℕ → SwitchKind → ℤ → ℤ → Bool → Bool → Bool → Data
-add_switch_value id level kind node1 node2 opened retained fictitious = command_of (codes "add_switch")
-    ((codes "id", string id) ∷ (codes "level", string level) ∷ (codes "kind", string (switch_word kind)) ∷ (codes "node1", whole node1) ∷ (codes "node2", whole node2)
-    ∷ (codes "open", boolean opened) ∷ (codes "retained", boolean retained) ∷ (codes "fictitious", boolean fictitious) ∷ [])
+-- what an edit says of a new switch beside its ids
+abbrev pub switch_fields : Edit → List (List ℕ × Data)
+switch_fields (AddSwitch id level kind node1 node2 opened retained fictitious) =
+    (codes "kind", string (switch_word kind)) ∷ (codes "node1", whole node1) ∷ (codes "node2", whole node2)
+    ∷ (codes "open", boolean opened) ∷ (codes "retained", boolean retained) ∷ (codes "fictitious", boolean fictitious) ∷ []
+switch_fields edit = []
+
+abbrev pub add_switch_value : List ℕ → List ℕ → List (List ℕ × Data) → Data
+add_switch_value id level fields = command_of (codes "add_switch") ((codes "id", string id) ∷ (codes "level", string level) ∷ fields)
 
 unfoldable pub edit_value : Edit → Data
 edit_value (AddSubstation id) = one_id (codes "add_substation") (codes "id") id
 edit_value (AddLevel id substation nominal_v low_v high_v) = add_level_value id substation nominal_v low_v high_v
 edit_value (AddBusbar id level node) = add_busbar_value id level node
-edit_value (AddSwitch id level kind node1 node2 opened retained fictitious) = add_switch_value id level kind node1 node2 opened retained fictitious
+edit_value (AddSwitch id level kind node1 node2 opened retained fictitious) = add_switch_value id level (switch_fields (AddSwitch id level kind node1 node2 opened retained fictitious))
 edit_value (RemoveSwitch id) = one_id (codes "remove_switch") (codes "id") id
 edit_value (AddInternal level node1 node2) = internal_edit (codes "add_internal") level node1 node2
 edit_value (RemoveInternal level node1 node2) = internal_edit (codes "remove_internal") level node1 node2

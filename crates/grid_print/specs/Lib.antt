@@ -3,5 +3,6 @@ pub mod Network
 pub mod Cutting
 pub mod Command
 pub mod Job
+pub mod Readable
 pub mod Laws
 pub mod Loads

@@ -1,5 +1,5 @@
 -- Loading a draft gives what it was made of.
-use Rattle.std.specs.Prelude.{ℕ, ◌≤◌, ◌≡◌, not, List, [], ◌∷◌, ◌++◌, length, filter, Ok, IsTrue}
+use Rattle.std.specs.Prelude.{ℕ, ◌≤◌, ◌≡◌, not, List, [], ◌∷◌, ◌++◌, length, filter, None, Ok, IsTrue}
 use Rattle.grid_ids.specs.Name.{ids_differ}
 use Rattle.grid_level.specs.VoltageLevel.{VoltageLevel}
 use Rattle.grid_level.specs.Passing.{is_branch_end}
@@ -8,6 +8,7 @@ use Rattle.grid_structure.specs.Network.{Network, Substation}
 use Rattle.grid_structure.specs.Sites.{levels, switches, all_ids}
 use Rattle.grid_structure.specs.Editing.{max_levels, max_switches}
 use Rattle.grid_structure.specs.Soundness.{IsSound}
+use Rattle.grid_json.specs.declared.whole.Job.{Job}
 use Rattle.grid_json.specs.Loading.{level_load, network_load}
 use Rattle.grid_print.specs.Laws.{level_draft, network_draft}
 
@@ -35,3 +36,7 @@ LevelsAreLoaded = (id : List ℕ) (front : List Substation) (s : Substation) (l 
 -- loading the draft of a sound network gives the network
 abbrev pub NetworksAreLoaded : Type 0
 NetworksAreLoaded = (net : Network) → IsSound net → network_load (network_draft net) ≡ Ok net
+
+-- the job of a network alone
+abbrev pub job_alone : Network → Job
+job_alone net = record { network = net; filters = []; scripts = []; order = None }

@@ -1,13 +1,14 @@
 // Commands as JSON.
-ghost use Rattle.std.specs.Prelude.{◌≡◌, IfOk};
-ghost use Rattle.serde_json.specs.View.{view};
-ghost use Rattle.grid_print.specs.Command.{one_id, sided, internal_edit, add_level_value, add_injection_value, add_branch_value, add_busbar_value, add_switch_value, line_edit, transformer_edit, retain_value, clone_value};
+ghost use Rattle.std.specs.Prelude.{◌≡◌, IfOk, OnOk};
+ghost use Rattle.serde_json.specs.View.{view, members_view};
+ghost use Rattle.grid_print.specs.Objects.{members_from};
+ghost use Rattle.grid_print.specs.Command.{one_id, sided, internal_edit, add_level_value, add_injection_value, add_branch_value, add_busbar_value, switch_fields, add_switch_value, line_edit, transformer_edit, retain_value, clone_value};
 
 use crate::level::{injection_word_of, put_item, word_of};
-use crate::object::{ToJson, put, put_given, put_value, three, two};
+use crate::object::{Members, ToJson, put, put_given, put_value, three, two};
 use grid_core::Request;
 use grid_ids::{Id, Memory};
-use grid_kinds::{Injection, SwitchKind};
+use grid_kinds::Injection;
 use grid_structure::{Branch, Edit, End};
 use serde_json::{Map, Value, json};
 use std::alloc::Global;
@@ -88,8 +89,11 @@ fn add_injection(
 
 impl ToJson for End {
     ghost use Rattle.grid_print.specs.Network.{end_value};
+    ghost use Rattle.grid_print.specs.Readable.{IsReadableEnd};
 
     ghost written = { end_value };
+
+    ghost readable = { IsReadableEnd };
 
     #[tactic(auto, unfolding(crate::specs::Objects::members_from, crate::specs::Network::end_value))]
     fn to_json(&self, alloc: Global) -> Result<Value, Memory> {
@@ -168,26 +172,44 @@ fn add_busbar(alloc: Global, id: &Id, level: &Id, node: i64) -> Result<Value, Me
     Ok(json!(in alloc; {"do": "add_busbar", "id": id.text(), "level": level.text(), "node": node})?)
 }
 
-/// What an edit says of a new switch beside its ids.
-#[derive(Clone, Copy)]
-struct SwitchRecord {
-    kind: SwitchKind,
-    node1: i64,
-    node2: i64,
-    opened: bool,
-    retained: bool,
-    fictitious: bool,
+/// Puts what an edit says of a new switch beside its ids, where it adds one.
+#[tactic(auto, unfolding(crate::specs::Objects::members_from))]
+fn put_switch(members: &mut Members, alloc: Global, edit: &Edit) -> Result<(), Memory>
+    ensures { OnOk result (members_view members.new.entries
+        ≡ members_from (members_view members.old.entries) (switch_fields edit.now)) }
+{
+    if let Edit::AddSwitch {
+        kind,
+        node1,
+        node2,
+        opened,
+        retained,
+        fictitious,
+        ..
+    } = edit
+    {
+        let word = Value::try_from_str(alloc, word_of(*kind))?;
+        put_value(members, alloc, "kind", word)?;
+        put(members, alloc, "node1", node1)?;
+        put(members, alloc, "node2", node2)?;
+        put(members, alloc, "open", opened)?;
+        put(members, alloc, "retained", retained)?;
+        put(members, alloc, "fictitious", fictitious)?;
+    }
+    Ok(())
 }
 
 #[tactic(auto, unfolding(crate::specs::Objects::members_from))]
-fn add_switch(alloc: Global, id: &Id, level: &Id, switch: &SwitchRecord) -> Result<Value, Memory>
-    ensures { IfOk result (λ v. view v ≡ add_switch_value id.now level.now switch.now.kind switch.now.node1 switch.now.node2 switch.now.opened switch.now.retained switch.now.fictitious) }
+fn add_switch(alloc: Global, id: &Id, level: &Id, edit: &Edit) -> Result<Value, Memory>
+    ensures { IfOk result (λ v. view v ≡ add_switch_value id.now level.now (switch_fields edit.now)) }
 {
-    Ok(json!(in alloc; {
-        "do": "add_switch", "id": id.text(), "level": level.text(), "kind": word_of(switch.kind),
-        "node1": switch.node1, "node2": switch.node2,
-        "open": switch.opened, "retained": switch.retained, "fictitious": switch.fictitious
-    })?)
+    let verb = Value::try_from_str(alloc, "add_switch")?;
+    let mut members = Map::new(alloc);
+    put_value(&mut members, alloc, "do", verb)?;
+    put(&mut members, alloc, "id", id)?;
+    put(&mut members, alloc, "level", level)?;
+    put_switch(&mut members, alloc, edit)?;
+    Ok(Value::from(members))
 }
 
 impl ToJson for Edit {
@@ -207,26 +229,7 @@ impl ToJson for Edit {
                 high_v,
             } => add_level(alloc, id, substation, *nominal_v, low_v, high_v),
             Edit::AddBusbar { id, level, node } => add_busbar(alloc, id, level, *node),
-            Edit::AddSwitch {
-                id,
-                level,
-                kind,
-                node1,
-                node2,
-                opened,
-                retained,
-                fictitious,
-            } => {
-                let switch = SwitchRecord {
-                    kind: *kind,
-                    node1: *node1,
-                    node2: *node2,
-                    opened: *opened,
-                    retained: *retained,
-                    fictitious: *fictitious,
-                };
-                add_switch(alloc, id, level, &switch)
-            }
+            Edit::AddSwitch { id, level, .. } => add_switch(alloc, id, level, self),
             Edit::RemoveSwitch { id } => one(alloc, "remove_switch", "id", id),
             Edit::AddInternal {
                 level,

@@ -1,8 +1,14 @@
 // Jobs as JSON text.
-ghost use Rattle.std.specs.Prelude.{◌≡◌, ◌++◌, false, IfOk, OnOk, map};
+ghost use Rattle.std.specs.Prelude.{◌≡◌, ◌≤◌, [], ◌++◌, false, Some, None, Ok, IfOk, OnOk, map};
 ghost use Rattle.std.specs.List.{list_any};
+ghost use Rattle.serde_json.specs.Data.{depth};
+ghost use Rattle.serde_json.specs.Read.{max_depth};
 ghost use Rattle.serde_json.specs.Written.{has_float};
 ghost use Rattle.serde_json.specs.View.{view};
+ghost use Rattle.grid_json.specs.Bytes.{reading};
+ghost use Rattle.grid_json.specs.Whole.{job_of};
+ghost use Rattle.grid_print.specs.Readable.{IsReadable};
+ghost use Rattle.grid_print.specs.Loads.{job_alone};
 ghost use Rattle.grid_print.specs.Objects.{word_if, array_of as array};
 ghost use Rattle.grid_print.specs.Job.{is_retain, retains, least_format, kinds_value, job_value, line_of, job_text, network_text};
 
@@ -103,7 +109,8 @@ fn value_of(
     scripts: &[Script],
     order: &Option<Order>,
 ) -> Result<Value, Memory>
-    ensures { IfOk result (λ v. view v ≡ job_value network.now filters.now scripts.now order.now) }
+    ensures value { IfOk result (λ v. view v ≡ job_value network.now filters.now scripts.now order.now) }
+    ensures readable { OnOk result (IsReadable network.now) }
 {
     let mut members = Map::new(alloc);
     put(&mut members, alloc, "format", &format_of(scripts))?;
@@ -115,9 +122,12 @@ fn value_of(
 }
 
 /// The text of a value, with a newline after it.
+#[tactic(auto, using(crate::proofs::Returning::line_returns))]
 fn line(alloc: Global, value: &Value) -> Result<Vec<u8>, Memory>
-    requires { has_float (view value.now) ≡ false }
-    ensures { IfOk result (λ bytes. bytes.items ≡ line_of (view value.now)) }
+    requires whole { has_float (view value.now) ≡ false }
+    requires shallow { depth (view value.now) ≤ max_depth }
+    ensures text { IfOk result (λ bytes. bytes.items ≡ line_of (view value.now)) }
+    ensures read { IfOk result (λ bytes. reading bytes.items ≡ Some (view value.now)) }
 {
     let mut bytes = value.to_vec(alloc)?;
     bytes.push(b'\n')?;
@@ -125,10 +135,12 @@ fn line(alloc: Global, value: &Value) -> Result<Vec<u8>, Memory>
 }
 
 /// The text of a job: one line of JSON, with no space, members by byte order of their names, and a newline. It is of
-/// the least format that has the words of the job. Memory comes only for want of memory.
-#[tactic(auto, unfolding(crate::specs::Job::job_text), using(crate::proofs::Wholes::job_has_no_float))]
+/// the least format that has the words of the job. It is read back as the same value. Memory comes only for want of
+/// memory.
+#[tactic(auto, unfolding(crate::specs::Job::job_text), using(crate::proofs::Wholes::job_has_no_float, crate::proofs::Wholes::job_is_shallow))]
 pub fn print_job(alloc: Global, job: &Job) -> Result<Vec<u8>, Memory>
-    ensures { IfOk result (λ bytes. bytes.items ≡ job_text job.now) }
+    ensures text { IfOk result (λ bytes. bytes.items ≡ job_text job.now) }
+    ensures read { IfOk result (λ bytes. reading bytes.items ≡ Some (job_value job.now.network job.now.filters job.now.scripts job.now.order)) }
 {
     let value = value_of(
         alloc,
@@ -140,11 +152,15 @@ pub fn print_job(alloc: Global, job: &Job) -> Result<Vec<u8>, Memory>
     line(alloc, &value)
 }
 
-/// The text of a job of this network alone, with no listeners, no workers and no order.
-#[tactic(auto, unfolding(crate::specs::Job::network_text), using(crate::proofs::Wholes::job_has_no_float))]
+/// The text of a job of this network alone, with no listeners, no workers and no order. Reading it gives that job: its
+/// network is equal to this one. Memory comes only for want of memory.
+#[tactic(auto, unfolding(crate::specs::Job::network_text), using(crate::proofs::Wholes::job_has_no_float, crate::proofs::Wholes::job_is_shallow, crate::proofs::Drafted::printed_is_back))]
 pub fn print_network(alloc: Global, network: &Structure) -> Result<Vec<u8>, Memory>
-    ensures { IfOk result (λ bytes. bytes.items ≡ network_text network.now) }
+    ensures text { IfOk result (λ bytes. bytes.items ≡ network_text network.now) }
+    ensures read { IfOk result (λ bytes. reading bytes.items ≡ Some (job_value network.now [] [] None)) }
+    ensures back { IfOk result (λ bytes. job_of bytes.items ≡ Ok (job_alone network.now)) }
 {
+    network.keeps();
     let filters = Seq::empty(alloc);
     let scripts = Seq::empty(alloc);
     let value = value_of(alloc, network, filters.slice(), scripts.slice(), &None)?;

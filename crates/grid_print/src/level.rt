@@ -1,7 +1,8 @@
 // Levels and their parts as JSON.
-ghost use Rattle.std.specs.Prelude.{◌≡◌, [], ◌∷◌, IfOk, OnOk};
+ghost use Rattle.std.specs.Prelude.{◌≡◌, ◌<◌, ◌^◌, [], ◌∷◌, IfOk, OnOk};
 ghost use Rattle.serde_json.specs.View.{view, members_view};
 ghost use Rattle.grid_print.specs.Objects.{members_from, whole};
+ghost use Rattle.grid_print.specs.Readable.{IsId, IsWhole, AreWhole, AreReadableBusbars, AreReadableInjections};
 ghost use Rattle.grid_print.specs.Network.{switch_word, injection_word, injection_fields, busbar_value, injection_value, busbars_value, injections_value};
 
 use crate::object::{Members, ToJson, array_of, put, put_given, put_value};
@@ -24,7 +25,8 @@ pub(crate) fn word_of(kind: SwitchKind) -> &'static str
 
 #[tactic(auto, unfolding(crate::specs::Objects::members_from))]
 fn busbar(alloc: Global, id: &Id, node: u16) -> Result<Value, Memory>
-    ensures { IfOk result (λ v. view v ≡ busbar_value id.now node) }
+    ensures value { IfOk result (λ v. view v ≡ busbar_value id.now node) }
+    ensures readable { OnOk result (IsId id.now × (node < 2 ^ 63)) }
 {
     Ok(json!(in alloc; {"id": id.text(), "node": node})?)
 }
@@ -52,8 +54,9 @@ fn put_two(
     name2: &str,
     value2: &i64,
 ) -> Result<(), Memory>
-    ensures { OnOk result (members_view members.new.entries
+    ensures value { OnOk result (members_view members.new.entries
         ≡ members_from (members_view members.old.entries) ((name1.now, whole value1.now) ∷ (name2.now, whole value2.now) ∷ [])) }
+    ensures readable { OnOk result (IsWhole value1.now × IsWhole value2.now) }
 {
     put(members, alloc, name1, value1)?;
     put(members, alloc, name2, value2)
@@ -62,8 +65,9 @@ fn put_two(
 /// Puts the members of an injection's kind.
 #[tactic(auto, unfolding(crate::specs::Objects::members_from))]
 pub(crate) fn put_item(members: &mut Members, alloc: Global, item: &Injection) -> Result<(), Memory>
-    ensures { OnOk result (members_view members.new.entries
+    ensures value { OnOk result (members_view members.new.entries
         ≡ members_from (members_view members.old.entries) (injection_fields item.now)) }
+    ensures readable { OnOk result (AreWhole item.now) }
 {
     match item {
         Injection::Load { p0, q0 } => put_two(members, alloc, "p0", p0, "q0", q0),
@@ -102,7 +106,8 @@ pub(crate) fn put_item(members: &mut Members, alloc: Global, item: &Injection) -
 
 #[tactic(auto, unfolding(crate::specs::Objects::members_from))]
 fn injection(alloc: Global, id: &Id, node: u16, item: &Injection) -> Result<Value, Memory>
-    ensures { IfOk result (λ v. view v ≡ injection_value id.now node item.now) }
+    ensures value { IfOk result (λ v. view v ≡ injection_value id.now node item.now) }
+    ensures readable { OnOk result (IsId id.now × (node < 2 ^ 63) × AreWhole item.now) }
 {
     let kind = Value::try_from_str(alloc, injection_word_of(item))?;
     let mut members = Map::new(alloc);
@@ -116,7 +121,8 @@ fn injection(alloc: Global, id: &Id, node: u16, item: &Injection) -> Result<Valu
 /// The busbar sections among what is placed.
 #[tactic(auto, unfolding(crate::specs::Network::busbars_value))]
 fn busbars(alloc: Global, placed: &[Placed]) -> Result<Value, Memory>
-    ensures { IfOk result (λ v. view v ≡ busbars_value placed.now) }
+    ensures value { IfOk result (λ v. view v ≡ busbars_value placed.now) }
+    ensures readable { OnOk result (AreReadableBusbars placed.now) }
 {
     let mut values = Vec::new(alloc);
     for at in placed {
@@ -130,7 +136,8 @@ fn busbars(alloc: Global, placed: &[Placed]) -> Result<Value, Memory>
 /// The injections among what is placed.
 #[tactic(auto, unfolding(crate::specs::Network::injections_value))]
 fn injections(alloc: Global, placed: &[Placed]) -> Result<Value, Memory>
-    ensures { IfOk result (λ v. view v ≡ injections_value placed.now) }
+    ensures value { IfOk result (λ v. view v ≡ injections_value placed.now) }
+    ensures readable { OnOk result (AreReadableInjections placed.now) }
 {
     let mut values = Vec::new(alloc);
     for at in placed {
@@ -143,8 +150,11 @@ fn injections(alloc: Global, placed: &[Placed]) -> Result<Value, Memory>
 
 impl ToJson for Switch {
     ghost use Rattle.grid_print.specs.Network.{switch_value};
+    ghost use Rattle.grid_print.specs.Readable.{IsReadableSwitch};
 
     ghost written = { switch_value };
+
+    ghost readable = { IsReadableSwitch };
 
     #[tactic(auto, unfolding(crate::specs::Objects::members_from, crate::specs::Network::switch_value))]
     fn to_json(&self, alloc: Global) -> Result<Value, Memory> {
@@ -157,8 +167,11 @@ impl ToJson for Switch {
 
 impl ToJson for Internal {
     ghost use Rattle.grid_print.specs.Network.{internal_value};
+    ghost use Rattle.grid_print.specs.Readable.{IsReadableInternal};
 
     ghost written = { internal_value };
+
+    ghost readable = { IsReadableInternal };
 
     #[tactic(auto, unfolding(crate::specs::Objects::members_from, crate::specs::Network::internal_value))]
     fn to_json(&self, alloc: Global) -> Result<Value, Memory> {
@@ -168,8 +181,11 @@ impl ToJson for Internal {
 
 impl ToJson for Level {
     ghost use Rattle.grid_print.specs.Network.{level_value};
+    ghost use Rattle.grid_print.specs.Readable.{IsReadableLevel};
 
     ghost written = { level_value };
+
+    ghost readable = { IsReadableLevel };
 
     #[tactic(auto, unfolding(crate::specs::Objects::members_from, crate::specs::Network::level_value), using(crate::proofs::Fields::members_from_append))]
     fn to_json(&self, alloc: Global) -> Result<Value, Memory> {

@@ -1,8 +1,10 @@
 // Networks as JSON. A structure has its levels one substation after the other, and its transformers too, before the lines.
-ghost use Rattle.std.specs.Prelude.{◌≡◌, ◌≤◌, ◌<◌, ◌+◌, IfOk, length, map, take, drop};
+ghost use Rattle.std.specs.Prelude.{◌≡◌, ◌≤◌, ◌<◌, ◌+◌, IfOk, OnOk, All, length, map, take, drop};
+ghost use Rattle.std.specs.List.{AllWithin};
 ghost use Rattle.serde_json.specs.View.{view};
 ghost use Rattle.grid_structure.specs.Sites as sites;
 ghost use Rattle.grid_print.specs.Objects.{array_of};
+ghost use Rattle.grid_print.specs.Readable.{IsId, IsReadableLevel, IsReadableShape, IsReadableBranch};
 ghost use Rattle.grid_print.specs.Network.{level_value, named_branch_value, branch_value, transformer_value, line_value, substation_of, substation_value, network_of, network_value};
 ghost use Rattle.grid_print.specs.Cutting.{between, levels_before, transformers_before};
 
@@ -21,7 +23,8 @@ fn transformer(
     ends: Value,
     rated_u: Value,
 ) -> Result<Value, Memory>
-    ensures { IfOk result (λ v. view v ≡ transformer_value kind.now id.now (view ends) (view rated_u)) }
+    ensures value { IfOk result (λ v. view v ≡ transformer_value kind.now id.now (view ends) (view rated_u)) }
+    ensures readable { OnOk result (IsId id.now) }
 {
     let kind = Value::try_from_str(alloc, kind)?;
     let mut members = Map::new(alloc);
@@ -34,14 +37,16 @@ fn transformer(
 
 #[tactic(auto, unfolding(crate::specs::Objects::members_from))]
 fn line(alloc: Global, id: &Id, ends: Value) -> Result<Value, Memory>
-    ensures { IfOk result (λ v. view v ≡ line_value id.now (view ends)) }
+    ensures value { IfOk result (λ v. view v ≡ line_value id.now (view ends)) }
+    ensures readable { OnOk result (IsId id.now) }
 {
     Ok(json!(in alloc; {"id": id.text(), "ends": ends})?)
 }
 
 #[tactic(auto, unfolding(crate::specs::Network::branch_value))]
 fn branch(alloc: Global, id: &Id, shape: &Branch) -> Result<Value, Memory>
-    ensures { IfOk result (λ v. view v ≡ branch_value id.now shape.now) }
+    ensures value { IfOk result (λ v. view v ≡ branch_value id.now shape.now) }
+    ensures readable { OnOk result (IsId id.now × IsReadableShape shape.now) }
 {
     match shape {
         Branch::Line { end1, end2 } => line(alloc, id, two(alloc, end1, end2)?),
@@ -76,7 +81,8 @@ fn branch(alloc: Global, id: &Id, shape: &Branch) -> Result<Value, Memory>
 fn levels(alloc: Global, network: &Structure, from: u32, to: u32) -> Result<Value, Memory>
     requires order { from ≤ to }
     requires within { to ≤ length (sites.levels network.now) }
-    ensures { IfOk result (λ v. view v ≡ array_of level_value (between from to (sites.levels network.now))) }
+    ensures value { IfOk result (λ v. view v ≡ array_of level_value (between from to (sites.levels network.now))) }
+    ensures readable { OnOk result (AllWithin IsReadableLevel (sites.levels network.now) from to) }
 {
     let mut values = Vec::new(alloc);
     for place in from..to {
@@ -89,7 +95,8 @@ fn levels(alloc: Global, network: &Structure, from: u32, to: u32) -> Result<Valu
 fn branches(alloc: Global, network: &Structure, from: u32, to: u32) -> Result<Value, Memory>
     requires order { from ≤ to }
     requires within { to ≤ length (sites.branches network.now) }
-    ensures { IfOk result (λ v. view v ≡ array_of named_branch_value (between from to (sites.branches network.now))) }
+    ensures value { IfOk result (λ v. view v ≡ array_of named_branch_value (between from to (sites.branches network.now))) }
+    ensures readable { OnOk result (AllWithin IsReadableBranch (sites.branches network.now) from to) }
 {
     let mut values = Vec::new(alloc);
     for place in from..to {
@@ -122,7 +129,8 @@ fn transformers_end(network: &Structure, substation: u32, from: u32) -> u32
 
 #[tactic(auto, unfolding(crate::specs::Objects::members_from))]
 fn substation(alloc: Global, id: &Id, levels: Value, transformers: Value) -> Result<Value, Memory>
-    ensures { IfOk result (λ v. view v ≡ substation_of id.now (view levels) (view transformers)) }
+    ensures value { IfOk result (λ v. view v ≡ substation_of id.now (view levels) (view transformers)) }
+    ensures readable { OnOk result (IsId id.now) }
 {
     Ok(json!(in alloc; {"id": id.text(), "levels": levels, "transformers": transformers})?)
 }
@@ -131,6 +139,9 @@ fn substation(alloc: Global, id: &Id, levels: Value, transformers: Value) -> Res
 fn substations(alloc: Global, network: &Structure) -> Result<(Value, u32), Memory>
     ensures values { IfOk result (λ made. view made.0 ≡ array_of substation_value network.now.substations) }
     ensures lines { IfOk result (λ made. made.1 ≡ transformers_before (length network.now.substations) network.now.substations) }
+    ensures ids { OnOk result (All (λ s. IsId s.id) network.now.substations) }
+    ensures levels { OnOk result (All IsReadableLevel (sites.levels network.now)) }
+    ensures transformers { IfOk result (λ made. AllWithin IsReadableBranch (sites.branches network.now) 0 made.1) }
 {
     let mut values = Vec::new(alloc);
     let mut level = 0;
@@ -149,16 +160,22 @@ fn substations(alloc: Global, network: &Structure) -> Result<(Value, u32), Memor
 
 #[tactic(auto, unfolding(crate::specs::Objects::members_from, crate::specs::Network::network_value))]
 fn whole(alloc: Global, id: &Id, substations: Value, lines: Value) -> Result<Value, Memory>
-    ensures { IfOk result (λ v. view v ≡ network_of id.now (view substations) (view lines)) }
+    ensures value { IfOk result (λ v. view v ≡ network_of id.now (view substations) (view lines)) }
+    ensures readable { OnOk result (IsId id.now) }
 {
     Ok(json!(in alloc; {"id": id.text(), "substations": substations, "lines": lines})?)
 }
 
 impl ToJson for Structure {
+    ghost use Rattle.grid_print.specs.Readable.{IsReadable};
+
     ghost written = { network_value };
+
+    ghost readable = { IsReadable };
 
     #[tactic(auto, unfolding(crate::specs::Network::network_value))]
     fn to_json(&self, alloc: Global) -> Result<Value, Memory> {
+        self.keeps();
         let (substations, first_line) = substations(alloc, self)?;
         let lines = branches(alloc, self, first_line, self.branch_count())?;
         whole(alloc, self.id(), substations, lines)

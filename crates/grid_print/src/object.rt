@@ -1,5 +1,5 @@
 // Objects and arrays of JSON.
-ghost use Rattle.std.specs.Prelude.{◌≡◌, [], ◌∷◌, IfOk, OnOk};
+ghost use Rattle.std.specs.Prelude.{◌≡◌, [], ◌∷◌, IfOk, IfSome, OnOk, All, ⊤};
 ghost use Rattle.serde_json.specs.Data.{Data, put as with_member};
 ghost use Rattle.serde_json.specs.View.{view, members_view};
 ghost use Rattle.grid_print.specs.Objects.{array_of, whole, given, members_from};
@@ -13,13 +13,18 @@ pub(crate) trait ToJson {
     // The value that is written.
     ghost written: { Self → Data };
 
+    // What is known of it then, so that it is read back as it is.
+    ghost readable: { Self → Type 0 } = { λ _. ⊤ };
+
     fn to_json(&self, alloc: Global) -> Result<Value, Memory>
-        ensures { IfOk result (λ v. view v ≡ written self.now) };
+        ensures value { IfOk result (λ v. view v ≡ written self.now) }
+        ensures readable { OnOk result (readable self.now) };
 }
 
 /// An array of what stands in a list, in its order.
 pub(crate) fn array_of<T: ToJson>(alloc: Global, items: &[T]) -> Result<Value, Memory>
-    ensures { IfOk result (λ v. view v ≡ array_of T.written items.now) }
+    ensures value { IfOk result (λ v. view v ≡ array_of T.written items.now) }
+    ensures readable { OnOk result (All T.readable items.now) }
 {
     let mut values = Vec::new(alloc);
     for item in items {
@@ -30,7 +35,8 @@ pub(crate) fn array_of<T: ToJson>(alloc: Global, items: &[T]) -> Result<Value, M
 
 /// An array of two.
 pub(crate) fn two<T: ToJson>(alloc: Global, first: &T, second: &T) -> Result<Value, Memory>
-    ensures { IfOk result (λ v. view v ≡ array_of T.written (first.now ∷ second.now ∷ [])) }
+    ensures value { IfOk result (λ v. view v ≡ array_of T.written (first.now ∷ second.now ∷ [])) }
+    ensures readable { OnOk result (T.readable first.now × T.readable second.now) }
 {
     let first = first.to_json(alloc)?;
     let second = second.to_json(alloc)?;
@@ -44,7 +50,8 @@ pub(crate) fn three<T: ToJson>(
     second: &T,
     third: &T,
 ) -> Result<Value, Memory>
-    ensures { IfOk result (λ v. view v ≡ array_of T.written (first.now ∷ second.now ∷ third.now ∷ [])) }
+    ensures value { IfOk result (λ v. view v ≡ array_of T.written (first.now ∷ second.now ∷ third.now ∷ [])) }
+    ensures readable { OnOk result (T.readable first.now × T.readable second.now × T.readable third.now) }
 {
     let first = first.to_json(alloc)?;
     let second = second.to_json(alloc)?;
@@ -53,7 +60,21 @@ pub(crate) fn three<T: ToJson>(
 }
 
 impl ToJson for i64 {
+    ghost use Rattle.grid_print.specs.Readable.{IsWhole};
+
     ghost written = { whole };
+
+    ghost readable = { IsWhole };
+
+    fn to_json(&self, _alloc: Global) -> Result<Value, Memory> {
+        Ok(Value::from(*self))
+    }
+}
+
+impl ToJson for bool {
+    ghost use Rattle.serde_json.specs.Data.{boolean};
+
+    ghost written = { boolean };
 
     fn to_json(&self, _alloc: Global) -> Result<Value, Memory> {
         Ok(Value::from(*self))
@@ -72,8 +93,11 @@ impl ToJson for u32 {
 
 impl ToJson for Id {
     ghost use Rattle.serde_json.specs.Data.{string};
+    ghost use Rattle.grid_print.specs.Readable.{IsId};
 
     ghost written = { string };
+
+    ghost readable = { IsId };
 
     fn to_json(&self, alloc: Global) -> Result<Value, Memory> {
         Ok(Value::try_from_str(alloc, self.text())?)
@@ -90,8 +114,9 @@ pub(crate) fn put<T: ToJson>(
     name: &str,
     value: &T,
 ) -> Result<(), Memory>
-    ensures { OnOk result (members_view members.new.entries
+    ensures value { OnOk result (members_view members.new.entries
         ≡ with_member name.now (T.written value.now) (members_view members.old.entries)) }
+    ensures readable { OnOk result (T.readable value.now) }
 {
     let written = value.to_json(alloc)?;
     put_value(members, alloc, name, written)
@@ -105,8 +130,9 @@ pub(crate) fn put_given<T: ToJson>(
     name: &str,
     value: &Option<T>,
 ) -> Result<(), Memory>
-    ensures { OnOk result (members_view members.new.entries
+    ensures value { OnOk result (members_view members.new.entries
         ≡ members_from (members_view members.old.entries) (given name.now T.written value.now)) }
+    ensures readable { OnOk result (IfSome value.now T.readable) }
 {
     match value {
         None => Ok(()),

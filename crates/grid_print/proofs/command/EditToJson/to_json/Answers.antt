@@ -1,25 +1,18 @@
-use Rattle.std.proofs.Common.{rules}
-use Rattle.std.proofs.lemmas.Int.{to_z-of_z}
-use mir.Syntax.{w64}
-use mir.Val.{SFits}
 use Rattle.grid_print.specs.Command.{edit_value}
 use Rattle.grid_print.proofs.command.EditToJson.to_json.Goals as goal
 
-pub returns-in-AddSwitch : goal.returns-in-AddSwitch
+pub returns-in-AddSwitch-clause-value : goal.returns-in-AddSwitch-clause-value
 unfolding edit_value
-returns-in-AddSwitch c =
-    let fits1 : SFits w64 c.in-AddSwitch.node1 = search rules in
-    let fits2 : SFits w64 c.in-AddSwitch.node2 = search rules in
-    rw c.in-AddSwitch.is (rw (to_z-of_z w64 c.in-AddSwitch.node1 fits1, to_z-of_z w64 c.in-AddSwitch.node2 fits2) at c.add_switch.ensures)
+returns-in-AddSwitch-clause-value c = rw c.in-AddSwitch.is (rw c.in-AddSwitch.is at c.add_switch.ensures)
 
-pub returns-in-RemoveSwitch : goal.returns-in-RemoveSwitch
+pub returns-in-RemoveSwitch-clause-value : goal.returns-in-RemoveSwitch-clause-value
 unfolding edit_value
-returns-in-RemoveSwitch c = rw c.in-RemoveSwitch.is c.one-in-RemoveSwitch.ensures
+returns-in-RemoveSwitch-clause-value c = rw c.in-RemoveSwitch.is c.one-in-RemoveSwitch.ensures
 
-pub returns-in-AddInternal : goal.returns-in-AddInternal
+pub returns-in-AddInternal-clause-value : goal.returns-in-AddInternal-clause-value
 unfolding edit_value
-returns-in-AddInternal c = rw c.in-AddInternal.is c.internal.ensures
+returns-in-AddInternal-clause-value c = rw c.in-AddInternal.is c.internal.ensures
 
-pub returns-in-RemoveInternal : goal.returns-in-RemoveInternal
+pub returns-in-RemoveInternal-clause-value : goal.returns-in-RemoveInternal-clause-value
 unfolding edit_value
-returns-in-RemoveInternal c = rw c.in-RemoveInternal.is c.internal-in-RemoveInternal.ensures
+returns-in-RemoveInternal-clause-value c = rw c.in-RemoveInternal.is c.internal-in-RemoveInternal.ensures
