@@ -3,11 +3,10 @@ use Rattle.std.proofs.Common.{◌≡◌, ℕ, List, [], Some, None, Ok, refl}
 use Rattle.grid_structure.specs.Network.{Network}
 use Rattle.grid_structure.specs.Soundness.{IsSound}
 use Rattle.grid_json.specs.Bytes.{reading}
-use Rattle.grid_json.specs.Loading.{network_load}
 use Rattle.grid_json.specs.Whole.{loaded, draft_of, job_of}
 use Rattle.grid_print.specs.Job.{job_value}
 use Rattle.grid_print.specs.Readable.{IsReadable}
-use Rattle.grid_print.specs.Laws.{network_draft, draft_alone}
+use Rattle.grid_print.specs.Laws.{draft_alone}
 use Rattle.grid_print.specs.Loads.{job_alone}
 use Rattle.grid_print.proofs.Rereading.{network_jobs_are_read}
 use Rattle.grid_print.proofs.NetworkLoad.{networks_are_loaded}

@@ -1,22 +1,17 @@
 -- Where the substations' levels and transformers stand in the lists of a structure.
-use Rattle.std.proofs.Common.{◌≡◌, refl, sym, ap, ap₂, subst, ◌∙◌, ℕ, zero, suc, ◌+◌, ◌-◌, ◌<◌, ◌≤◌, Bool, true, false, cond, ◌||◌, not, List, [], ◌∷◌, ◌++◌, length, arith, Option, Some, None, take, drop, map, length-append, append_assoc, append-nil}
-use Rattle.std.specs.Prelude.{nat_lt, is_none}
-use Rattle.std.specs.List.{flat_map, slice_get, list_any, list_all}
-use Rattle.std.proofs.lemmas.Bool.{ltb-false, ltb-true, true≢false, and_parts}
+use Rattle.std.proofs.Common.{◌≡◌, refl, sym, ap, ap₂, subst, ◌∙◌, ℕ, zero, suc, ◌+◌, ◌-◌, ◌<◌, ◌≤◌, List, [], ◌∷◌, ◌++◌, length, arith, Option, Some, None, take, drop, map, length-append, append_assoc, append-nil}
+use Rattle.std.specs.List.{flat_map, slice_get}
 use Rattle.std.proofs.lemmas.List.{map-append}
 use Rattle.std.proofs.lemmas.Grind.{flat_map-append}
-use Rattle.std.proofs.lemmas.Slice.Eq.{bytes_eq-Decides}
-use Rattle.grid_ids.specs.Name.{same_id, has_id, ids_differ}
 use Rattle.grid_structure.specs.declared.NamedBranch.{NamedBranch}
 use Rattle.grid_structure.specs.declared.Branch.{Branch}
 use Rattle.grid_structure.specs.Network.{Network, Substation}
 use Rattle.std.specs.Option.{option_map}
 use Rattle.serde_json.specs.Data.{Data}
-use Rattle.grid_structure.specs.Sites.{home_place, home_of, levels, branches, all_ids, level_ids, switch_ids, equipment_ids}
-use Rattle.grid_structure.specs.Soundness.{IsSound, stands_in, transformer_passes, line_passes}
+use Rattle.grid_structure.specs.Sites.{levels, branches}
 use Rattle.grid_print.specs.Objects.{array_of}
 use Rattle.grid_print.specs.Network.{level_value, branch_value, named_branch_value, substation_of, substation_value}
-use Rattle.grid_print.specs.Cutting.{between, levels_before, transformers_before, is_home, is_of}
+use Rattle.grid_print.specs.Cutting.{between, levels_before, transformers_before}
 
 -- ---- parts of lists
 
