@@ -1,4 +1,3 @@
-pub mod Begun
 pub mod Stepping
 pub mod Scheduled
 pub mod Showing

@@ -150,7 +150,7 @@ fn write_answer<K: Sink>(alloc: Global, wanted: Answer, job: Job, sink: &mut K) 
 }
 
 // Writes the text of a network.
-#[tactic(auto, using(crate::proofs::Begun::begun_at_start))]
+#[tactic(auto, using(grid_report::proofs::Begun::at_start))]
 fn print<K: Sink>(alloc: Global, network: &Structure, sink: &mut K) -> Status
     ensures written { Writes (network_text network.now) (K.written sink.old) (K.written sink.new) result }
     ensures fault { result ≡ Status.WriteFault → Rose (K.faults sink.old) (K.faults sink.new) }
@@ -174,7 +174,7 @@ fn made_bytes(alloc: Global, seed: u32, size: u32) -> Result<Vec<u8>, Memory>
 }
 
 // Makes a job, and writes its text.
-#[tactic(auto, using(crate::proofs::Begun::begun_at_start))]
+#[tactic(auto, using(grid_report::proofs::Begun::at_start))]
 fn make<K: Sink>(alloc: Global, seed: u32, size: u32, sink: &mut K) -> Status
     requires seed { seed ≤ MOST_SEED }
     requires some { 1 ≤ size }
@@ -201,7 +201,7 @@ fn hand_over<K: Sink>(bytes: &[u8], sink: &mut K) -> Status
 }
 
 // Runs a job, and writes its report.
-#[tactic(auto, using(crate::proofs::Begun::begun_at_start))]
+#[tactic(auto, using(grid_report::proofs::Begun::at_start))]
 fn replay<K: Sink>(alloc: Global, job: Job, sink: &mut K) -> Status
     requires { IsScheduled job }
     ensures written { Writes (replay_text job) (K.written sink.old) (K.written sink.new) result }

@@ -131,7 +131,7 @@ fn run_trial(alloc: Global, seed: u32, size: u32) -> Result<Trial, Memory>
 }
 
 /// Writes the line of a trial.
-#[tactic(auto, unfolding(crate::specs::Trials::trial_text), using(crate::proofs::Begun::begun_at_start))]
+#[tactic(auto, unfolding(crate::specs::Trials::trial_text), using(grid_report::proofs::Begun::at_start))]
 pub fn write_trial<K: Sink>(
     alloc: Global,
     seed: u32,
