@@ -1,3 +1,4 @@
 pub mod Turns
 pub mod Commands
 pub mod Numbered
+pub mod Filled
