@@ -109,6 +109,16 @@ pub ids_full : (q : List ℕ) (i : ℕ) (l : VoltageLevel) (xs : List Part) → 
 ids_full q i l [] = omega arith
 ids_full q i l (x ∷ xs) = omega (arith, ids_full q i (grown i l x) xs, ids_grown q i l x, ids_next q i x xs)
 
+id_grown : (i : ℕ) (l : VoltageLevel) (x : Part) → (grown i l x).id ≡ l.id
+id_grown i l (busbar tail node) = refl
+id_grown i l (switch tail kind node1 node2 opened retained) = refl
+id_grown i l (internal node1 node2) = refl
+id_grown i l (injection tail node item) = refl
+
+pub id_full : (i : ℕ) (l : VoltageLevel) (xs : List Part) → (full i l xs).id ≡ l.id
+id_full i l [] = refl
+id_full i l (x ∷ xs) = id_full i (grown i l x) xs ∙ id_grown i l x
+
 switches_grown : (i : ℕ) (l : VoltageLevel) (x : Part) → length (grown i l x).switches ≤ suc (length l.switches)
 switches_grown i l (busbar tail node) = omega arith
 switches_grown i l (switch tail kind node1 node2 opened retained) = omega (arith, length-append l.switches (record { id = part_name i tail; kind = kind; node1 = node1; node2 = node2; opened = opened; retained = retained; fictitious = false } ∷ []))
@@ -161,15 +171,9 @@ module _ (id : List ℕ) (front : List Substation) (s : Substation) (i : ℕ) wh
       injection_is (ending id front s l) (part_name i tail) (level_name i) (pos node) item
       ∙ single_put l p r.named r.alone (free l (injection tail node item) xs (part_name i tail) refl r) refl fine k
 
-  same_id_grown : (l : VoltageLevel) (x : Part) → (grown i l x).id ≡ l.id
-  same_id_grown l (busbar tail node) = refl
-  same_id_grown l (switch tail kind node1 node2 opened retained) = refl
-  same_id_grown l (internal node1 node2) = refl
-  same_id_grown l (injection tail node item) = refl
-
   room_left : (l : VoltageLevel) (x : Part) (xs : List Part) → Room l (x ∷ xs) → Room (grown i l x) xs
   room_left l x xs r =
-      let same = same_id_grown l x in
+      let same = id_grown i l x in
       record {
         named = same ∙ r.named;
         alone = rw same r.alone;

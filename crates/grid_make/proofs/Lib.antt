@@ -2,3 +2,5 @@ pub mod Turns
 pub mod Commands
 pub mod Numbered
 pub mod Filled
+pub mod MadeLevel
+pub mod LevelsMade
