@@ -73,7 +73,7 @@ own_names : (i : ℕ) (ts : List (List ℕ)) → level_name i ∷ ids_with i ts 
 own_names i ts = ap (λ z. (76 ∷ z) ∷ ids_with i ts) (sym (append-nil (decimal i)))
 
 -- ids that differ join others of which none is theirs
-join_once : (xs ys : List (List ℕ)) → ((q : List ℕ) → times q xs ≤ 1) → ids_differ ys ≡ true → ((q : List ℕ) → has_id ys q ≡ true → times q xs ≡ 0) → (q : List ℕ) → times q xs + times q ys ≤ 1
+pub join_once : (xs ys : List (List ℕ)) → ((q : List ℕ) → times q xs ≤ 1) → ids_differ ys ≡ true → ((q : List ℕ) → has_id ys q ≡ true → times q xs ≡ 0) → (q : List ℕ) → times q xs + times q ys ≤ 1
 join_once xs ys once differ none q = by (has_id ys q) refl
   where
     by : (t : Bool) → has_id ys q ≡ t → times q xs + times q ys ≤ 1
@@ -180,10 +180,10 @@ module _ (i : ℕ) (w : Flags) (front : List Substation) (small : i < 1000) (b :
       record {
         once = λ q. omega (arith, ids q, whole_once q);
         none = λ q apart.
-        (let old = b.none q (λ c j t letter less tail. apart c j t letter (omega (arith, less)) tail) in
-        let own : times q (level_name i ∷ ids_with i tails) ≡ 0 = ap (times q) (own_names i tails) ∙ none_with i ([] ∷ tails) q (tails_pass w) apart in
-        let sub : times q (substation_name i ∷ []) ≡ 0 = rw (append-nil (decimal i)) at (ap (λ t. cond t 1 0 + 0) (apart 83 i [] (omega arith) (omega arith) refl)) in
-        omega (arith, ids q, base_ids q, old, own, sub));
+            (let old = b.none q (λ c j t letter less tail. apart c j t letter (omega (arith, less)) tail) in
+            let own : times q (level_name i ∷ ids_with i tails) ≡ 0 = ap (times q) (own_names i tails) ∙ none_with i ([] ∷ tails) q (tails_pass w) apart in
+            let sub : times q (substation_name i ∷ []) ≡ 0 = rw (append-nil (decimal i)) at (ap (λ t. cond t 1 0 + 0) (apart 83 i [] (omega arith) (omega arith) refl)) in
+            omega (arith, ids q, base_ids q, old, own, sub));
         level_count = omega (arith, ap length are, length-append (levels_in front) (l ∷ []), b.level_count);
         switches = (let all : switch_total (levels_in (front ++ sub_with i l ∷ [])) ≡ switch_total (levels_in front) + switch_total (l ∷ []) = ap switch_total are ∙ switch_total-append (levels_in front) (l ∷ []) in
             omega (arith, all, switch_count i w, b.switches));

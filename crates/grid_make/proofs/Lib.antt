@@ -4,3 +4,4 @@ pub mod Numbered
 pub mod Filled
 pub mod MadeLevel
 pub mod LevelsMade
+pub mod LinesMade

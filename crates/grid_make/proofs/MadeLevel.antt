@@ -1,8 +1,10 @@
 -- One level of a made network, as its edits make it, whatever the draws: its parts, and what is checked of them.
-use Rattle.std.proofs.Common.{◌≡◌, refl, ℕ, ◌+◌, ◌*◌, ◌≤◌, arith, Bool, true, false, not, List, [], ◌∷◌, ◌++◌, length, None}
+use Rattle.std.proofs.Common.{◌≡◌, refl, ℕ, pos, ◌+◌, ◌*◌, ◌≤◌, arith, Bool, true, false, not, List, [], ◌∷◌, ◌++◌, length, None}
 use Rattle.std.specs.Prelude.{◌==◌, decimal, codes, map}
 use Rattle.std.specs.List.{list_all}
 use Rattle.std.specs.Fmt.{digits}
+use Rattle.std.proofs.lemmas.Bool.{or_left, or_right, false≢true}
+use Rattle.grid_structure.proofs.Sides.{has, sides_of, is_same_side}
 use Rattle.grid_ids.specs.Name.{has_id, ids_differ}
 use Rattle.grid_kinds.specs.Records.{level_fault, limits_fault, injection_fault, power_fault}
 use Rattle.grid_kinds.specs.declared.SwitchKind.TheVariants.{Breaker, Disconnector}
@@ -159,3 +161,23 @@ joined_kept i w line earlier = by w.forth w.back
     by true false = refl
     by false true = refl
     by false false = refl
+
+-- the end of the line to the next level stands there
+pub forth_side : (i : ℕ) (w : Flags) (line earlier : List ℕ) → w.forth ≡ true → has (sides_of (joined_level i w line earlier)) (line, 1, level_name i, pos 100) ≡ true
+unfolding is_branch_end
+forth_side i w line earlier = by w.forth w.back
+  where
+    by : (t u : Bool) → t ≡ true → has (sides_of (joined_level i (record w { forth = t; back = u }) line earlier)) (line, 1, level_name i, pos 100) ≡ true
+    by true true e = or_left _ _ (is_same_side line 1 (level_name i) 100)
+    by true false e = or_left _ _ (is_same_side line 1 (level_name i) 100)
+    by false u e = absurd (false≢true e)
+
+-- and that of the line from the level before
+pub back_side : (i : ℕ) (w : Flags) (line earlier : List ℕ) → w.back ≡ true → has (sides_of (joined_level i w line earlier)) (earlier, 2, level_name i, pos 101) ≡ true
+unfolding is_branch_end
+back_side i w line earlier = by w.forth w.back
+  where
+    by : (t u : Bool) → u ≡ true → has (sides_of (joined_level i (record w { forth = t; back = u }) line earlier)) (earlier, 2, level_name i, pos 101) ≡ true
+    by true true e = or_right _ _ (or_left _ _ (is_same_side earlier 2 (level_name i) 101))
+    by false true e = or_left _ _ (is_same_side earlier 2 (level_name i) 101)
+    by t false e = absurd (false≢true e)
