@@ -5,3 +5,4 @@ pub mod Filled
 pub mod MadeLevel
 pub mod LevelsMade
 pub mod LinesMade
+pub mod Texts

@@ -16,14 +16,15 @@ is_tail (c ∷ cs) = nat_lt 57 c
 abbrev is_low : ℕ → Bool
 is_low c = nat_le c 57
 
-decimal_low : (n : ℕ) → n < 2 ^ 64 → list_all is_low (decimal n) ≡ true
-decimal_low n small = decimal_by_steps (λ n ds. list_all is_low ds ≡ true) one more n small
+-- what each digit passes, a number's digits pass
+pub decimal_all : (test : ℕ → Bool) → ((d : ℕ) → d < 10 → test (48 + d) ≡ true) → (n : ℕ) → n < 2 ^ 64 → list_all test (decimal n) ≡ true
+decimal_all test digit n small = decimal_by_steps (λ n ds. list_all test ds ≡ true) (λ n l. and_from (test (48 + n)) true (digit n l) refl) more n small
   where
-    one : (n : ℕ) → n < 10 → list_all is_low ((48 + n) ∷ []) ≡ true
-    one n l = and_from (nat_le (48 + n) 57) true (le-leb (48 + n) 57 (omega (arith, l))) refl
+    more : (n : ℕ) (ds : List ℕ) → 10 ≤ n → list_all test ds ≡ true → list_all test (ds ++ (48 + n % 10) ∷ []) ≡ true
+    more n ds l h = list_all-append test ds ((48 + n % 10) ∷ []) ∙ and_from _ _ h (and_from (test (48 + n % 10)) true (digit (n % 10) (omega arith)) refl)
 
-    more : (n : ℕ) (ds : List ℕ) → 10 ≤ n → list_all is_low ds ≡ true → list_all is_low (ds ++ (48 + n % 10) ∷ []) ≡ true
-    more n ds l h = list_all-append is_low ds ((48 + n % 10) ∷ []) ∙ and_from _ _ h (and_from (nat_le (48 + n % 10) 57) true (le-leb (48 + n % 10) 57 (omega arith)) refl)
+decimal_low : (n : ℕ) → n < 2 ^ 64 → list_all is_low (decimal n) ≡ true
+decimal_low n small = decimal_all is_low (λ d l. le-leb (48 + d) 57 (omega (arith, l))) n small
 
 -- what stands before the tail is told by it
 fronts_same : (ds es t u : List ℕ) → list_all is_low ds ≡ true → list_all is_low es ≡ true → is_tail t ≡ true → is_tail u ≡ true → ds ++ t ≡ es ++ u → ds ≡ es

@@ -1,9 +1,10 @@
 // The network of the made job, by edits.
-ghost use Rattle.std.specs.Prelude.{◌≡◌, ◌<◌, ◌≤◌, ◌+◌, ◌*◌, ◌-◌, pos, Ok, IsOk, IfOk, OnOk};
+ghost use Rattle.std.specs.Prelude.{◌≡◌, ◌<◌, ◌≤◌, ◌+◌, ◌*◌, ◌-◌, pos, Ok, IsOk, IsTrue, IfOk, OnOk};
 ghost use Rattle.grid_structure.specs.Editing.{apply};
 ghost use Rattle.grid_make.specs.Draws.{next, later, same, in_turn};
 ghost use Rattle.grid_make.specs.MadeNetwork.{line_end, coupler_edit, switch_edit, busbar_edits, feeder_edits, outlet_edits, level_edits, line_edits, unrefused, IsUnrefused};
 ghost use Rattle.grid_make.specs.MadeNetwork as made;
+ghost use Rattle.grid_make.specs.Pieces.{is_piece};
 
 use crate::draws::Draws;
 use crate::names::{feeder_injection, feeder_switch, id_of, numbered, part};
@@ -138,6 +139,7 @@ impl Feeder {
         node2: u32,
         opened: bool,
     ) -> Result<Edit, Memory>
+        requires { IsTrue (is_piece 16 letter.now) }
         ensures { IfOk result (λ edit. edit ≡ switch_edit self.level self.number letter.now kind node1 node2 opened) }
     {
         Ok(Edit::AddSwitch {
