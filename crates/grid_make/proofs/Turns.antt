@@ -1,5 +1,5 @@
 -- Edits and lists that are made in turn, as loops make them.
-use Rattle.std.proofs.Common.{◌≡◌, ℕ, zero, suc, ◌+◌, ◌-◌, ◌*◌, ◌<◌, ◌≤◌, List, [], ◌∷◌, ◌++◌, Result, Ok, Err, refl, sym, ap, ◌∙◌, arith}
+use Rattle.std.proofs.Common.{◌≡◌, ℕ, zero, suc, ◌+◌, ◌-◌, ◌*◌, ◌<◌, ◌≤◌, List, [], ◌∷◌, ◌++◌, Result, Ok, Err, IsOk, refl, sym, ap, ◌∙◌, arith}
 use Rattle.std.proofs.Math.Nat.{mul-suc}
 use Rattle.std.proofs.lemmas.List.{append_assoc, append-nil}
 use Rattle.grid_structure.specs.declared.Edit.{Edit}
@@ -25,6 +25,26 @@ unrefused_append (edit ∷ edits) rest net = bind_all (apply net edit) edits res
 pub and_then : (edits rest : List Edit) (net middle after : Network) → unrefused edits net ≡ Ok middle → unrefused rest middle ≡ Ok after → unrefused (edits ++ rest) net ≡ Ok after
 and_then edits rest net middle after first second = unrefused_append edits rest net ∙ ap (λ answer. answer >>= unrefused rest) first ∙ second
 
+-- ---- edits of which none is refused
+
+first_ok : {A B : Type 0} (answer : Result A EditFault) (go : A → Result B EditFault) → IsOk (answer >>= go) → IsOk answer
+first_ok (Ok x) go h = refl
+first_ok (Err fault) go h = h
+
+pub head_accepted : (edit : Edit) (rest : List Edit) (net : Network) → IsOk (unrefused (edit ∷ rest) net) → IsOk (apply net edit)
+unfolding unrefused
+head_accepted edit rest net h = first_ok (apply net edit) (unrefused rest) h
+
+pub tail_accepted : (edit : Edit) (rest : List Edit) (net middle : Network) → apply net edit ≡ Ok middle → IsOk (unrefused (edit ∷ rest) net) → IsOk (unrefused rest middle)
+unfolding unrefused
+tail_accepted edit rest net middle first h = rw first at h
+
+pub front_accepted : (edits rest : List Edit) (net : Network) → IsOk (unrefused (edits ++ rest) net) → IsOk (unrefused edits net)
+front_accepted edits rest net h = first_ok (unrefused edits net) (unrefused rest) (rw (unrefused_append edits rest net) at h)
+
+pub rest_accepted : (edits rest : List Edit) (net middle : Network) → unrefused edits net ≡ Ok middle → IsOk (unrefused (edits ++ rest) net) → IsOk (unrefused rest middle)
+rest_accepted edits rest net middle first h = rw (unrefused_append edits rest net, first) at h
+
 -- what is left of a count begins with the item at its front
 turn : {A : Type 0} (made : ℕ → ℕ → List A) (last : ℕ → ℕ) (from count before : ℕ) → from < count
     → in_turn made last from (count - from) before ≡ made from before ++ in_turn made last (from + 1) (count - (from + 1)) (last before)
@@ -48,6 +68,14 @@ edits_go_on made last from count before net after total lt one so_far =
     let rest : List Edit = in_turn made last (from + 1) (count - (from + 1)) (last before) in
     let first : unrefused (made from before ++ rest) net ≡ unrefused rest after = unrefused_append (made from before) rest net ∙ ap (λ answer. answer >>= unrefused rest) one in
     sym first ∙ ap (λ edits. unrefused edits net) (sym (turn made last from count before lt)) ∙ so_far
+
+-- and in its next turn none of them is refused
+pub turn_accepted : (made : ℕ → ℕ → List Edit) (last : ℕ → ℕ) (from count before : ℕ) (net : Network) (total : Result Network EditFault) → from < count
+    → unrefused (in_turn made last from (count - from) before) net ≡ total → IsOk total → IsOk (unrefused (made from before) net)
+turn_accepted made last from count before net total lt so_far whole =
+    let rest : List Edit = in_turn made last (from + 1) (count - (from + 1)) (last before) in
+    let all : IsOk (unrefused (in_turn made last from (count - from) before) net) = rw so_far whole in
+    front_accepted (made from before) rest net (rw (turn made last from count before lt) at all)
 
 pub edits_end : (made : ℕ → ℕ → List Edit) (last : ℕ → ℕ) (from count before : ℕ) (net : Network) (total : Result Network EditFault) → count ≤ from
     → unrefused (in_turn made last from (count - from) before) net ≡ total → total ≡ Ok net

@@ -1,3 +1,4 @@
 pub mod Draws
+pub mod Pieces
 pub mod MadeNetwork
 pub mod MadeJob

@@ -1,5 +1,5 @@
 -- The network of the made job: the edits that make it of an empty network, in order.
-use Rattle.std.specs.Prelude.{◌≡◌, ℕ, ℤ, pos, ◌+◌, ◌-◌, ◌*◌, ◌%◌, ◌==◌, Bool, true, false, not, if◌then◌else◌, None, Result, Ok, List, [], ◌∷◌, ◌++◌, decimal, codes}
+use Rattle.std.specs.Prelude.{◌≡◌, ◌≤◌, ℕ, ℤ, pos, ◌+◌, ◌-◌, ◌*◌, ◌%◌, ◌==◌, Bool, true, false, not, if◌then◌else◌, None, Result, Ok, List, [], ◌∷◌, ◌++◌, decimal, codes}
 use Rattle.grid_ids.specs.Refusing.{◌>>=◌}
 use Rattle.grid_kinds.specs.declared.Injection.{Injection}
 use Rattle.grid_kinds.specs.declared.Injection.TheVariants.{Load, Generator}
@@ -135,3 +135,7 @@ made_network seed size = network_after (made_edits seed size) blank
 -- a network that the edits make of a blank one, none of them refused
 abbrev pub IsUnrefused : ℕ → ℕ → Network → Type 0
 IsUnrefused seed size net = unrefused (made_edits seed size) blank ≡ Ok net
+
+-- no edit of a made network is refused, whatever the seed
+abbrev pub MadeEditsAreAccepted : Type 0
+MadeEditsAreAccepted = (seed size : ℕ) → 1 ≤ size → size ≤ 1000 → unrefused (made_edits seed size) blank ≡ Ok (made_network seed size)

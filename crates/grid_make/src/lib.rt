@@ -7,11 +7,13 @@ ghost use Rattle.grid_make.specs.MadeNetwork.{IsUnrefused};
 ghost use Rattle.grid_make.specs.MadeJob.{made_job};
 
 mod draws;
+mod laws;
 mod names;
 mod network;
 mod scripts;
 
 use crate::draws::Draws;
+pub use crate::laws::made_edits_are_accepted;
 use crate::network::make_network;
 use crate::scripts::make_scripts;
 use grid_ids::{Memory, Seq};

@@ -1,22 +1,27 @@
 // The ids of the made job.
-ghost use Rattle.std.specs.Prelude.{◌≡◌, ◌++◌, IfOk, decimal};
+ghost use Rattle.std.specs.Prelude.{◌≡◌, ◌++◌, None, IsTrue, IfOk, decimal};
+ghost use Rattle.grid_ids.specs.Fault.{id_fault};
+ghost use Rattle.grid_make.specs.Pieces.{is_piece};
 ghost use Rattle.grid_make.specs.MadeNetwork.{part_name, switch_name, injection_name};
 
-use grid_ids::{Id, Memory};
+use grid_ids::{Id, IdFault, Memory};
 use std::alloc::Global;
 
-/// The id with this text. A text that is no id ends the making as want of memory does; the texts here are ids.
+/// The id with this text, which is one.
 pub fn id_of(alloc: Global, text: &str) -> Result<Id, Memory>
+    requires { id_fault text.now ≡ None }
     ensures { IfOk result (λ id. id ≡ text.now) }
 {
     match Id::new(alloc, text) {
         Ok(id) => Ok(id),
-        Err(_) => Err(Memory),
+        Err(IdFault::Memory) => Err(Memory),
+        Err(_) => unreachable!(),
     }
 }
 
 /// A letter and a number: a substation, a level, a line or a variant.
 pub fn numbered(alloc: Global, letter: &str, number: u32) -> Result<Id, Memory>
+    requires { IsTrue (is_piece 16 letter.now) }
     ensures { IfOk result (λ id. id ≡ letter.now ++ decimal number) }
 {
     let text = format!(in alloc; "{letter}{number}")?;
@@ -25,6 +30,7 @@ pub fn numbered(alloc: Global, letter: &str, number: u32) -> Result<Id, Memory>
 
 /// What belongs to a level, by the text after the level's name.
 pub fn part(alloc: Global, level: u32, part: &str) -> Result<Id, Memory>
+    requires { IsTrue (is_piece 40 part.now) }
     ensures { IfOk result (λ id. id ≡ part_name level part.now) }
 {
     let text = format!(in alloc; "L{level}{part}")?;
@@ -33,6 +39,7 @@ pub fn part(alloc: Global, level: u32, part: &str) -> Result<Id, Memory>
 
 /// A switch of a feeder, by its letter.
 pub fn feeder_switch(alloc: Global, level: u32, feeder: u32, letter: &str) -> Result<Id, Memory>
+    requires { IsTrue (is_piece 16 letter.now) }
     ensures { IfOk result (λ id. id ≡ switch_name level feeder letter.now) }
 {
     let text = format!(in alloc; "F{feeder}{letter}")?;

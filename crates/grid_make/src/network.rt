@@ -1,15 +1,16 @@
 // The network of the made job, by edits.
-ghost use Rattle.std.specs.Prelude.{◌≡◌, ◌<◌, ◌≤◌, ◌+◌, ◌*◌, ◌-◌, pos, Ok, IfOk, OnOk};
+ghost use Rattle.std.specs.Prelude.{◌≡◌, ◌<◌, ◌≤◌, ◌+◌, ◌*◌, ◌-◌, pos, Ok, IsOk, IsTrue, IfOk, OnOk};
 ghost use Rattle.grid_structure.specs.Editing.{apply};
 ghost use Rattle.grid_make.specs.Draws.{next, later, same, in_turn};
 ghost use Rattle.grid_make.specs.MadeNetwork.{line_end, coupler_edit, switch_edit, busbar_edits, feeder_edits, outlet_edits, level_edits, line_edits, unrefused, IsUnrefused};
 ghost use Rattle.grid_make.specs.MadeNetwork as made;
+ghost use Rattle.grid_make.specs.Pieces.{is_piece};
 
 use crate::draws::Draws;
 use crate::names::{feeder_injection, feeder_switch, id_of, numbered, part};
 use grid_ids::Memory;
 use grid_kinds::{Injection, SwitchKind};
-use grid_structure::{Branch, Edit, End, Structure};
+use grid_structure::{ApplyFault, Branch, Edit, End, Structure};
 use std::alloc::Global;
 
 /// How many feeders a level has.
@@ -32,19 +33,22 @@ fn node(number: u32) -> i64
     i64::from(number)
 }
 
-/// Makes an edit. A refusal ends the making as want of memory does, so a job that is made has every edit.
+/// Makes an edit that is not refused.
 fn change(structure: &mut Structure, edit: Edit) -> Result<(), Memory>
+    requires { IsOk (apply structure.now edit) }
     ensures { OnOk result (apply structure.old edit ≡ Ok structure.new) }
 {
     match structure.apply(&edit) {
         Ok(()) => Ok(()),
-        Err(_) => Err(Memory),
+        Err(ApplyFault::Memory) => Err(Memory),
+        Err(ApplyFault::Refused(_)) => unreachable!(),
     }
 }
 
 /// A substation with its level, and the level's busbar sections.
 #[tactic(auto, unfolding(crate::specs::MadeNetwork::busbar_edits, crate::specs::MadeNetwork::unrefused))]
 fn add_busbars(alloc: Global, structure: &mut Structure, level: u32) -> Result<(), Memory>
+    requires { IsOk (unrefused (busbar_edits level) structure.now) }
     ensures { OnOk result (unrefused (busbar_edits level) structure.old ≡ Ok structure.new) }
 {
     let substation = Edit::AddSubstation {
@@ -135,6 +139,7 @@ impl Feeder {
         node2: u32,
         opened: bool,
     ) -> Result<Edit, Memory>
+        requires { IsTrue (is_piece 16 letter.now) }
         ensures { IfOk result (λ edit. edit ≡ switch_edit self.level self.number letter.now kind node1 node2 opened) }
     {
         Ok(Edit::AddSwitch {
@@ -166,7 +171,8 @@ impl Feeder {
     /// Puts the feeder into its level.
     #[tactic(auto, unfolding(crate::specs::MadeNetwork::feeder_edits, crate::specs::MadeNetwork::unrefused))]
     fn add(self, alloc: Global, structure: &mut Structure, draws: &mut Draws) -> Result<(), Memory>
-        requires { self.number < 4 }
+        requires number { self.number < 4 }
+        requires accepted { IsOk (unrefused (feeder_edits self.level self.number draws.now) structure.now) }
         ensures edits { OnOk result (unrefused (feeder_edits self.level self.number draws.old) structure.old ≡ Ok structure.new) }
         ensures draws { draws.new ≡ next draws.old }
     {
@@ -192,6 +198,7 @@ fn add_feeders(
     draws: &mut Draws,
     level: u32,
 ) -> Result<(), Memory>
+    requires { IsOk (unrefused (in_turn (feeder_edits level) next 0 4 draws.now) structure.now) }
     ensures edits { OnOk result (unrefused (in_turn (feeder_edits level) next 0 4 draws.old) structure.old ≡ Ok structure.new) }
     ensures draws { OnOk result (draws.new ≡ later 4 draws.old) }
 {
@@ -211,6 +218,7 @@ fn add_outlet(
     node1: u32,
     node2: u32,
 ) -> Result<(), Memory>
+    requires { IsOk (unrefused (outlet_edits is_there level node1 node2) structure.now) }
     ensures { OnOk result (unrefused (outlet_edits is_there level node1 node2) structure.old ≡ Ok structure.new) }
 {
     if is_there {
@@ -229,7 +237,8 @@ fn add_level(
     size: u32,
     level: u32,
 ) -> Result<(), Memory>
-    requires { level < size }
+    requires level { level < size }
+    requires accepted { IsOk (unrefused (level_edits size level draws.now) structure.now) }
     ensures edits { OnOk result (unrefused (level_edits size level draws.old) structure.old ≡ Ok structure.new) }
     ensures draws { OnOk result (draws.new ≡ later 5 draws.old) }
 {
@@ -248,6 +257,7 @@ fn add_levels(
     draws: &mut Draws,
     size: u32,
 ) -> Result<(), Memory>
+    requires { IsOk (unrefused (in_turn (level_edits size) (later 5) 0 size draws.now) structure.now) }
     ensures edits { OnOk result (unrefused (in_turn (level_edits size) (later 5) 0 size draws.old) structure.old ≡ Ok structure.new) }
     ensures draws { OnOk result (draws.new ≡ later (5 * size) draws.old) }
 {
@@ -270,7 +280,8 @@ fn end(alloc: Global, level: u32, number: u32) -> Result<End, Memory>
 /// The line from a level to the next one.
 #[tactic(auto, unfolding(crate::specs::MadeNetwork::line_edits, crate::specs::MadeNetwork::unrefused))]
 fn add_line(alloc: Global, structure: &mut Structure, level: u32) -> Result<(), Memory>
-    requires { level < 1000 }
+    requires level { level < 1000 }
+    requires accepted { IsOk (unrefused (line_edits level 0) structure.now) }
     ensures { OnOk result (unrefused (line_edits level 0) structure.old ≡ Ok structure.new) }
 {
     let line = Edit::AddBranch {
@@ -285,7 +296,8 @@ fn add_line(alloc: Global, structure: &mut Structure, level: u32) -> Result<(), 
 
 /// So many lines, from the first level on.
 fn add_lines(alloc: Global, structure: &mut Structure, count: u32) -> Result<(), Memory>
-    requires { count < 1000 }
+    requires count { count < 1000 }
+    requires accepted { IsOk (unrefused (in_turn line_edits same 0 count 0) structure.now) }
     ensures { OnOk result (unrefused (in_turn line_edits same 0 count 0) structure.old ≡ Ok structure.new) }
 {
     for level in 0..count {

@@ -1,7 +1,7 @@
 use Rattle.std.proofs.Common.{◌≡◌, ◌+◌, refl, ap, ◌∙◌}
 use Rattle.grid_make.specs.Draws.{next, later}
 use Rattle.grid_make.specs.MadeNetwork.{feeder_edits}
-use Rattle.grid_make.proofs.Turns.{edits_go_on, edits_end, later_one}
+use Rattle.grid_make.proofs.Turns.{edits_go_on, edits_end, turn_accepted, later_one}
 use Rattle.grid_make.proofs.network.add_feeders.Goals as goal
 
 pub loop-number-init : goal.loop-number-init
@@ -16,3 +16,6 @@ loop-number-preserved c =
 
 pub returns-clause-edits : goal.returns-clause-edits
 returns-clause-edits c = edits_end (feeder_edits c.args.level) next c.loop-number.number 4 c.loop-number.draws c.loop-number.structure _ c.loop-number-test.false c.loop-number.invariant.0
+
+pub add-requires-clause-accepted : goal.add-requires-clause-accepted
+add-requires-clause-accepted c = turn_accepted (feeder_edits c.args.level) next c.loop-number.number 4 c.loop-number.draws c.loop-number.structure _ c.loop-number-test.true c.loop-number.invariant.0 c.requires

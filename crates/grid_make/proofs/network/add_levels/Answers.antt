@@ -1,7 +1,7 @@
 use Rattle.std.proofs.Common.{◌≡◌, ◌+◌, ◌-◌, ◌*◌, refl, ap, ◌∙◌, arith}
 use Rattle.grid_make.specs.Draws.{later}
 use Rattle.grid_make.specs.MadeNetwork.{level_edits}
-use Rattle.grid_make.proofs.Turns.{edits_go_on, edits_end, later_times}
+use Rattle.grid_make.proofs.Turns.{edits_go_on, edits_end, turn_accepted, later_times}
 use Rattle.grid_make.proofs.network.add_levels.Goals as goal
 
 pub loop-level-init : goal.loop-level-init
@@ -17,3 +17,6 @@ loop-level-preserved c =
 
 pub returns-clause-edits : goal.returns-clause-edits
 returns-clause-edits c = edits_end (level_edits c.args.size) (later 5) c.loop-level.level c.args.size c.loop-level.draws c.loop-level.structure _ c.loop-level-test.false c.loop-level.invariant.0
+
+pub add_level-requires-clause-accepted : goal.add_level-requires-clause-accepted
+add_level-requires-clause-accepted c = turn_accepted (level_edits c.args.size) (later 5) c.loop-level.level c.args.size c.loop-level.draws c.loop-level.structure _ c.loop-level-test.true c.loop-level.invariant.0 c.requires
