@@ -1,4 +1,4 @@
-use Rattle.std.proofs.Common.{◌≡◌, ◌<◌, ◌≤◌, ◌^◌, length, map, take, All}
+use Rattle.std.proofs.Common.{◌≡◌, ◌<◌, ◌^◌, length, map, take, All}
 use Rattle.grid_core.specs.History.{live}
 use Rattle.grid_report.specs.Histories.{variant_view}
 use Rattle.grid_cli.proofs.running.variant_views.Given as goal

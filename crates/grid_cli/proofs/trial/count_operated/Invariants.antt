@@ -1,4 +1,4 @@
-use Rattle.std.proofs.Common.{◌≡◌, ◌*◌, ◌^◌, ◌≤◌, take, length}
+use Rattle.std.proofs.Common.{◌≡◌, ◌*◌, ◌^◌, ◌≤◌, take}
 use Rattle.std.specs.Prelude.{sum_by, count_by}
 use Rattle.grid_core.specs.declared.journal.Entry.{Entry}
 use Rattle.grid_cli.specs.Trials.{is_updated}

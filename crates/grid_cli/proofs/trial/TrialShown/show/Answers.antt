@@ -1,4 +1,3 @@
-use Rattle.std.proofs.Common.{◌≡◌, refl, append_assoc}
 use Rattle.std.specs.Prelude.{codes, decimal}
 use Rattle.grid_cli.specs.Trials.{trial_head, trial_line}
 use Rattle.grid_cli.proofs.Trialled.{parts_put}
