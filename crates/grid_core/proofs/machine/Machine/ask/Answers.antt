@@ -11,14 +11,14 @@ returns-in-None-clause-made c =
 pub states-opened-requires : goal.states-opened-requires
 states-opened-requires c = stands_slot c.args.self.now c.args.variant.now c.in-Some.slot c.in-Some.ensures
 
-pub index-requires : goal.index-requires
-index-requires c = let below = slot_within c.args.self.now c.in-Some.slot (flagged c.args.self.now c.args.variant.now c.in-Some.slot c.requires.held c.in-Some.ensures) in omega (arith, below, c.args.self.now.retained.ok.0)
+pub index-retained-requires : goal.index-retained-requires
+index-retained-requires c = let below = slot_within c.args.self.now c.in-Some.slot (flagged c.args.self.now c.args.variant.now c.in-Some.slot c.requires.held c.in-Some.ensures) in omega (arith, below, c.args.self.now.retained.ok.0)
 
 pub find_verdict-requires-clause-fits : goal.find_verdict-requires-clause-fits
 find_verdict-requires-clause-fits c =
-    seen_fits c.args.self.now c.in-Some.slot c.args.variant.now c.requires.held c.in-Some.ensures c.states-opened.result.now c.index.result.now c.states-opened.ensures c.index.ensures
+    seen_fits c.args.self.now c.in-Some.slot c.args.variant.now c.requires.held c.in-Some.ensures c.states-opened.result.now c.index-retained.result.now c.states-opened.ensures c.index-retained.ensures
 
 pub carry_out-requires-clause-decides : goal.carry_out-requires-clause-decides
 carry_out-requires-clause-decides c =
-    found_decides c.args.self.now c.in-Some.slot c.args.variant.now c.requires.held c.in-Some.ensures c.states-opened.result.now c.index.result.now c.states-opened.ensures c.index.ensures
+    found_decides c.args.self.now c.in-Some.slot c.args.variant.now c.requires.held c.in-Some.ensures c.states-opened.result.now c.index-retained.result.now c.states-opened.ensures c.index-retained.ensures
     c.args.request.now c.in_ok-verdict.verdict c.in_ok-verdict.ensures
