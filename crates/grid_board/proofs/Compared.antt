@@ -1,5 +1,5 @@
 -- Lists that are compared item by item, without one of them being made.
-use Rattle.std.proofs.Common.{◌≡◌, refl, sym, ap, ◌∙◌, subst, ℕ, zero, suc, ◌+◌, ◌<◌, ◌≤◌, arith, Bool, true, false, ◌&&◌, List, [], ◌∷◌, length, map, take, get_or, Option, Some, None}
+use Rattle.std.proofs.Common.{◌≡◌, refl, sym, ap, ◌∙◌, ℕ, zero, suc, ◌+◌, ◌≤◌, arith, Bool, true, false, List, [], ◌∷◌, length, map, take, get_or, Option, Some, None}
 use Rattle.std.specs.Prelude.{◌↔◌, IsTrue, slice_get, filter_map, is_some, option_and_then, option_map}
 use Rattle.std.specs.List.{list_all, enumerate_from, cons_option}
 use Rattle.std.proofs.lemmas.Bool.{and_parts, false≢true}
@@ -14,7 +14,6 @@ use Rattle.grid_structure.specs.Sites.{levels, branches, branch_ends}
 use Rattle.grid_structure.specs.Soundness.{IsSound}
 use Rattle.grid_states.specs.Rows.{row_at}
 use Rattle.grid_bench.specs.declared.base.BaseLevel.{BaseLevel}
-use Rattle.grid_bench.specs.declared.base.BenchBranch.{BenchBranch}
 use Rattle.grid_bench.specs.Bases.{Basis, basis}
 use Rattle.grid_core.specs.Solo.{State, level_at}
 use Rattle.grid_board.specs.Questions.{part_with, part_of, parts_of, alone, spot_of, branch_between, branch_of}
@@ -111,10 +110,11 @@ pub alone_part : (state : State) (place : ℕ) (level : VoltageLevel) (opened re
     → IsTrue result ↔ (part_with level opened retained ≡ part) → IsTrue result ↔ (alone state place ≡ Some base)
 alone_part state place level opened retained base part result there op re one none here h =
     let now : alone state place ≡ Some (basis (part_with level opened retained ∷ []) []) =
-        alone_is state place level (part_with level opened retained) there (ap (λ r. part_with level r retained) op ∙ ap (part_with level (row_at state.opened place)) re) in
-    let found : basis (part ∷ []) [] ≡ base = ap (λ (ps : List BaseLevel). basis ps []) (sym (single base.levels part one here)) ∙ ap (basis base.levels) (sym (nothing base.branches none)) in
-    (λ t. now ∙ ap (λ (p : BaseLevel). Some (basis (p ∷ []) [])) (h.0 t) ∙ ap (λ b. Some b) found,
-    λ is. h.1 (first_is (part_with level opened retained) part (some_is (basis (part_with level opened retained ∷ []) []) (basis (part ∷ []) []) (sym now ∙ is ∙ ap (λ b. Some b) (sym found)))))
+    alone_is state place level (part_with level opened retained) there (ap (λ r. part_with level r retained) op ∙ ap (part_with level (row_at state.opened place)) re) in
+    let found : basis (part ∷ []) [] ≡ base = ap (λ (ps : List BaseLevel). basis ps []) (sym (single base.levels part one here)) ∙ ap (basis base.levels) (sym (nothing base.branches none)) in (
+      λ t. now ∙ ap (λ (p : BaseLevel). Some (basis (p ∷ []) [])) (h.0 t) ∙ ap (λ b. Some b) found,
+      λ is. h.1 (first_is (part_with level opened retained) part (some_is (basis (part_with level opened retained ∷ []) []) (basis (part ∷ []) []) (sym now ∙ is ∙ ap (λ b. Some b) (sym found)))),
+    )
   where
     first_is : (p q : BaseLevel) → basis (p ∷ []) [] ≡ basis (q ∷ []) [] → p ≡ q
     first_is p q same = some_is p q (ap (λ (b : Basis). slice_get b.levels 0) same)

@@ -1,5 +1,6 @@
-use Rattle.std.proofs.Common.{◌≡◌, ◌<◌, ◌≤◌, length, refl, sym, ap, ◌∙◌, rules, Some}
+use Rattle.std.proofs.Common.{◌<◌, ◌≤◌, length, sym, ap, ◌∙◌, rules}
 use Rattle.std.specs.Prelude.{filter_map, map}
+use Rattle.std.proofs.lemmas.Bool.{false≢true}
 use Rattle.std.proofs.lemmas.Option.{slice_get-get_or}
 use Rattle.grid_structure.specs.Sites.{branches, branch_ends}
 use Rattle.grid_board.specs.Questions.{branch_of, branch_between, spot_of}
@@ -16,7 +17,7 @@ returns-then-not-is_branch c =
     never (differ_from (filter_map (branch_of net) (branches net)) c.args.list.now c.loop-place.place (branch_between (map (spot_of net) (branch_ends c.branch-structure.result.now))) _
     (found_branch net c.loop-place.place c.branch-structure.result.now c.keeps.ensures c.branch-structure.ensures)
     (slice_get-get_or c.args.list.now c.loop-place.place _ below)
-    (λ e. cc (c.is_branch.ensures.1 e, c.if-not-is_branch.true)))
+    (λ e. absurd (false≢true (sym c.if-not-is_branch.true ∙ c.is_branch.ensures.1 e))))
 
 pub loop-place-preserved : goal.loop-place-preserved
 loop-place-preserved c =

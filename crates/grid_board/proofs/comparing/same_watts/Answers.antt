@@ -1,4 +1,4 @@
-use Rattle.std.proofs.Common.{◌≡◌, ◌<◌, ℤ, pos, map, length, get_or, refl, sym, ap, ◌∙◌, rules, Some}
+use Rattle.std.proofs.Common.{◌≡◌, ◌<◌, pos, map, length, get_or, refl, sym, ap, ◌∙◌, rules, Some}
 use Rattle.std.specs.Prelude.{option_map}
 use Rattle.std.proofs.lemmas.Option.{slice_get-map, slice_get_read, slice_get-get_or}
 use Rattle.grid_level.specs.declared.Placed.{Placed}
