@@ -1,4 +1,4 @@
-ghost use Rattle.std.specs.Prelude.{◌≡◌, ◌<◌, IfOk, MatchOption, None, Unit};
+ghost use Rattle.std.specs.Prelude.{◌≡◌, ◌<◌, IfOk, IsNone, None};
 ghost use Rattle.grid_bench.specs.Answers.{IsTaskOf};
 ghost use Rattle.grid_board.specs.Questions.{present};
 
@@ -120,7 +120,7 @@ fn ask(
     request: &Request,
 ) -> Result<Option<Answer>, Fail>
     requires { worker < board.now.workers }
-    ensures { IfOk result (λ asked. MatchOption asked (present board.now worker request.now ≡ None) (λ answer. Unit {0})) }
+    ensures { IfOk result (λ asked. IsNone asked → present board.now worker request.now ≡ None) }
 {
     match board.snapshot(worker, request)? {
         Some((base, task)) => Ok(Some(answered::<Brand>(bench, base, task, Blank::new(1))?)),
