@@ -202,9 +202,9 @@ fn hand_over<K: Sink>(bytes: &[u8], sink: &mut K) -> Status
     }
 }
 
-/// Runs a job in its order, and writes its report.
+// Runs a job in its order, and writes its report.
 #[tactic(auto, using(grid_report::proofs::Begun::at_start))]
-pub(crate) fn replay<K: Sink>(alloc: Global, job: Job, sink: &mut K) -> Status
+fn replay<K: Sink>(alloc: Global, job: Job, sink: &mut K) -> Status
     requires { IsScheduled job }
     ensures written { Writes (replay_text job) (K.written sink.old) (K.written sink.new) result }
     ensures fault { result ≡ Status.WriteFault → Rose (K.faults sink.old) (K.faults sink.new) }

@@ -1,23 +1,21 @@
 // The top call, and the form `run`: workers on threads of their own.
-ghost use Rattle.std.specs.Prelude.{◌≡◌, ◌↔◌, ◌<◌, None, Some, IsTrue, IsFalse, IfOk, length, map, string_bytes};
+ghost use Rattle.std.specs.Prelude.{◌≡◌, ◌↔◌, None, Some, IsTrue, IsFalse, IfOk, map, string_bytes};
 ghost use Rattle.grid_source.specs.Causes.{Rose};
 ghost use Rattle.grid_cli.specs.Words.{form_of, on_one_thread, ReadsNothing};
 ghost use Rattle.grid_cli.specs.Orders.{IsScheduled};
 ghost use Rattle.grid_cli.specs.Once.{Outcome, OutcomeOf, Exact, WritesReport};
-ghost use Rattle.grid_cli.specs.Threaded.{IsRunOf, IsOutcomeOf};
+ghost use Rattle.grid_cli.specs.Threaded.{IsOutcomeOf};
 
-use crate::once::{Status, grid_once, read_from, replay, status_of};
+use crate::once::{Status, grid_once, read_from, status_of};
 use crate::running::outcome;
 use crate::words::{Form, read_words};
-use grid_core::{Scripts, World};
 use grid_ids::Memory;
 use grid_json::Job;
-use grid_manager::{Blank, Gate, Manager, Named};
+use grid_manager::Gate;
 use grid_report::{Outcome, write_report};
 use grid_source::{Sink, Source};
-use grid_workers::run_workers;
+use grid_workers::run_scripts;
 use std::alloc::Global;
-use std::marker::Brand;
 use std::sync::Wait;
 use std::thread::Threads;
 
@@ -84,8 +82,8 @@ fn read_and_run<R: Threads + Wait + Sync, S: Source, K: Sink, G: Gate>(
     }
 }
 
-// Runs a job on threads, and writes its report. A job without workers is run as by `replay`.
-#[tactic(auto, using(crate::proofs::Threading::replayed, crate::proofs::Threading::unwritten, crate::proofs::Threading::reported))]
+// Runs a job on threads, and writes its report.
+#[tactic(auto, using(crate::proofs::Threading::unwritten, crate::proofs::Threading::reported))]
 fn write_run<R: Threads + Wait + Sync, K: Sink, G: Gate>(
     rt: &R,
     alloc: Global,
@@ -97,49 +95,26 @@ fn write_run<R: Threads + Wait + Sync, K: Sink, G: Gate>(
     ensures written { WritesReport job (K.written sink.old) (K.written sink.new) result }
     ensures fault { result ≡ Status.WriteFault → Rose (K.faults sink.old) (K.faults sink.new) }
 {
-    if job.scripts.len() == 0 {
-        return replay(alloc, job, sink);
-    }
-    match run_on_threads(rt, alloc, job, gate) {
+    match run_job_on_threads(rt, alloc, job, gate) {
         Ok(outcome) => status_of(write_report(alloc, &outcome, sink)),
         Err(Memory) => Status::NoMemory,
     }
 }
 
-// What came of a job whose workers ran on threads of their own.
-fn run_on_threads<R: Threads + Wait + Sync, G: Gate>(
+// What came of a job whose workers ran on threads of their own. Where a worker's call found no memory, so did this one.
+fn run_job_on_threads<R: Threads + Wait + Sync, G: Gate>(
     rt: &R,
     alloc: Global,
     job: Job,
     gate: &G,
 ) -> Result<Outcome, Memory>
-    requires scheduled { IsScheduled job }
-    requires some { 0 < length job.scripts }
+    requires { IsScheduled job }
     ensures { IfOk result (IsOutcomeOf job) }
 {
     let workers = job.scripts.len() as u32;
-    let blank = Blank::make(alloc, job.network, workers)?;
-    let world = run_scripts::<Brand, R, G>(rt, alloc, blank, &job.scripts, gate)?;
-    outcome(alloc, world, workers, job.filters)
-}
-
-// Each worker makes its script's calls on a thread of its own. Where one of them wants memory, so does this call.
-fn run_scripts<N: Named + Send + Sync, R: Threads + Wait + Sync, G: Gate>(
-    rt: &R,
-    alloc: Global,
-    blank: Blank,
-    scripts: &Scripts,
-    gate: &G,
-) -> Result<World, Memory>
-    requires named { (blank.table ≡ N.table) × (blank.workers ≡ N.workers) }
-    requires count { length scripts.now ≡ N.workers }
-    requires some { 0 < N.workers }
-    ensures { IfOk result (IsRunOf blank.structure scripts.now) }
-{
-    let (manager, seats) = Manager::<N>::start(alloc, blank)?;
-    let worked = run_workers(rt, alloc, &manager, seats, scripts, gate);
-    if worked.short {
+    let run = run_scripts(rt, alloc, job.network, &job.scripts, gate)?;
+    if run.short {
         return Err(Memory);
     }
-    Ok(manager.close(worked.seats).into_world())
+    outcome(alloc, run.board.into_world(), workers, job.filters)
 }
