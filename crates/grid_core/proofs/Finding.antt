@@ -1,9 +1,8 @@
 -- What is found in a state is what the machine of one variant makes of the request.
-use Rattle.std.proofs.Common.{◌≡◌, refl, sym, ap, ◌∙◌, subst, ℕ, ℤ, ◌<◌, Bool, true, false, List, [], length, Option, Some, None}
-use Rattle.std.specs.Prelude.{Ok, Err, slice_get, All, IsTrue}
+use Rattle.std.proofs.Common.{◌≡◌, refl, sym, ap, ◌∙◌, ℕ, ℤ, Bool, true, false, List, Option, Some, None}
+use Rattle.std.specs.Prelude.{Ok, Err}
 use Rattle.grid_level.specs.VoltageLevel.{VoltageLevel}
 use Rattle.grid_level.specs.Passing.{positioned, stood}
-use Rattle.grid_structure.specs.Network.{Network}
 use Rattle.grid_structure.specs.Sites.{levels, find_level}
 use Rattle.grid_states.specs.Rows.{row_at}
 use Rattle.grid_connect.specs.declared.ConnectPlan.{ConnectPlan}
@@ -20,12 +19,11 @@ use Rattle.grid_core.specs.declared.reply.Reply.{Reply}
 use Rattle.grid_core.specs.declared.reply.Reply.TheVariants as replies
 use Rattle.grid_core.specs.declared.reply.Refusal.{Refusal}
 use Rattle.grid_core.specs.declared.reply.Refusal.TheVariants as refusals
-use Rattle.grid_core.specs.declared.verdict.Verdict.{Verdict}
 use Rattle.grid_core.specs.declared.verdict.Verdict.TheVariants as verdicts
-use Rattle.grid_core.specs.Solo.{State, Step, solo, state_seen, site_of_side, level_at, connected, disconnected, with_all_opened}
+use Rattle.grid_core.specs.Solo.{State, solo, site_of_side, level_at, connected, disconnected, with_all_opened}
 use Rattle.grid_core.specs.Replies.{events_of}
-use Rattle.grid_core.specs.Fitting.{RowsFit, StateFits}
-use Rattle.grid_core.specs.Verdicts.{asks, puts, step_of, put_reply, names_of, IsVerdict, IsFound, operating, connect_verdict, disconnect_verdict}
+use Rattle.grid_core.specs.Fitting.{RowsFit}
+use Rattle.grid_core.specs.Verdicts.{asks, puts, step_of, put_reply, names_of, IsFound, operating, connect_verdict, disconnect_verdict}
 use Rattle.grid_core.proofs.Asking.{connect_refused, disconnect_refused, connect_found, disconnect_found, bus_breaker_reply, bus_reply, components_reply, bus_breaker_nowhere, bus_nowhere, components_nowhere}
 use Rattle.grid_core.proofs.Planned.{connect_places, disconnect_places}
 use Rattle.grid_core.proofs.Flagging.{got_within, refused_events}

@@ -1,4 +1,4 @@
-use Rattle.std.proofs.Common.{◌≡◌, sym, ap, ◌∙◌, subst, ◌<◌, length, List, Bool}
+use Rattle.std.proofs.Common.{sym, ap, ◌∙◌, subst, length, List, Bool}
 use Rattle.std.proofs.lemmas.Int.{to_z-of_z}
 use mir.Syntax.{w64}
 use Rattle.grid_level.specs.Passing.{positioned}

@@ -1,4 +1,4 @@
-use Rattle.std.proofs.Common.{◌≡◌, sym, ap, ◌∙◌, subst, ◌<◌, length, List, Bool}
+use Rattle.std.proofs.Common.{sym, ap, ◌∙◌, subst, length, List, Bool}
 use Rattle.grid_level.specs.Passing.{stood}
 use Rattle.grid_states.specs.Rows.{row_at}
 use Rattle.grid_busbreaker.specs.declared.BusBreakerView.{BusBreakerView}

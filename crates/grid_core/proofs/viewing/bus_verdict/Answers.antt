@@ -1,4 +1,4 @@
-use Rattle.std.proofs.Common.{◌≡◌, sym, ap, ◌∙◌, subst, ◌<◌, length, List, Bool}
+use Rattle.std.proofs.Common.{sym, ap, ◌∙◌, subst, length, List, Bool}
 use Rattle.std.proofs.lemmas.List.{length-map}
 use Rattle.grid_level.specs.Passing.{positioned}
 use Rattle.grid_busview.specs.declared.BusView.{BusView}

@@ -1,4 +1,4 @@
-use Rattle.std.proofs.Common.{◌≡◌, sym, ap, ◌∙◌, subst, length, List}
+use Rattle.std.proofs.Common.{sym, subst, List}
 use Rattle.grid_islands.specs.declared.BusComponent.{BusComponent}
 use Rattle.grid_core.specs.declared.request.Request.TheVariants as requests
 use Rattle.grid_core.specs.declared.reply.Reply.TheVariants as replies

@@ -1,4 +1,4 @@
-use Rattle.std.proofs.Common.{◌<◌, length, arith}
+use Rattle.std.proofs.Common.{arith}
 use Rattle.grid_core.proofs.Making.{each_ok}
 use Rattle.grid_core.proofs.Flagging.{stands_slot, flagged, slot_within, dead_made}
 use Rattle.grid_core.proofs.Carrying.{asks_variant, seen_fits, found_decides}
