@@ -12,7 +12,7 @@ use crate::words::{Form, read_words};
 use grid_ids::Memory;
 use grid_json::Job;
 use grid_manager::Gate;
-use grid_report::{Outcome, write_report};
+use grid_report::write_report;
 use grid_source::{Sink, Source};
 use grid_workers::run_scripts;
 use std::alloc::Global;
@@ -107,7 +107,7 @@ fn run_job_on_threads<R: Threads + Wait + Sync, G: Gate>(
     alloc: Global,
     job: Job,
     gate: &G,
-) -> Result<Outcome, Memory>
+) -> Result<grid_report::Outcome, Memory>
     requires { IsScheduled job }
     ensures { IfOk result (IsOutcomeOf job) }
 {
