@@ -4,8 +4,9 @@
 mod usage;
 mod why;
 
-use grid_cli::{Status, grid_once};
+use grid_cli::Status;
 use grid_json::Place;
+use grid_manager::Idle;
 use grid_source::{StdSink, StdSource};
 use std::process::ExitCode;
 use std::{env, io};
@@ -84,7 +85,14 @@ fn run(rt: &HostRuntime) -> Status {
     };
     let mut source = StdSource::new(rt.reader());
     let mut sink = StdSink::new(io::writer(rt));
-    grid_once(rt.alloc(), words.as_slice(), &mut source, &mut sink)
+    grid_cli::grid(
+        rt,
+        rt.alloc(),
+        words.as_slice(),
+        &mut source,
+        &mut sink,
+        &Idle,
+    )
 }
 
 /// Tells a fault on standard error, and how the program is called where that is the fault.

@@ -10,6 +10,7 @@ const ABOUT: &str =
 
 const FORMS: &str = "grid check < JOB
        grid replay < JOB > REPORT
+       grid run < JOB > REPORT
        grid print < JOB > JOB
        grid make SEED SIZE > JOB
        grid trial SEED SIZE";
@@ -44,6 +45,11 @@ fn with_forms<'a>(alloc: Global, command: Command<'a>) -> Result<Command<'a>, Al
             alloc,
             "replay",
             "Reads a job, runs its commands in order and writes the report",
+        ))?
+        .subcommand(form(
+            alloc,
+            "run",
+            "Reads a job, runs its workers on threads of their own and writes the report of the order that happened",
         ))?
         .subcommand(form(
             alloc,

@@ -5,3 +5,4 @@ pub mod Written
 pub mod Exact
 pub mod Numbers
 pub mod Trialled
+pub mod Threading

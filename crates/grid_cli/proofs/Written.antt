@@ -1,5 +1,5 @@
 -- What was read and written, put together.
-use Rattle.std.proofs.Common.{◌≡◌, ◌∙◌, ◌++◌, ℕ, List, Option, None, Some, Result, Ok, Err, ap, sym, subst, inl, inr, take, drop, append_assoc, take-append-drop}
+use Rattle.std.proofs.Common.{◌≡◌, ◌∙◌, ◌++◌, ℕ, List, Option, None, Some, Result, Ok, Err, refl, ap, sym, subst, inl, inr, take, drop, append_assoc, take-append-drop}
 use Rattle.std.specs.Prelude.{OnOk, OnErr}
 use Rattle.std.specs.Io.KnownBytes.{Appends, Keeps}
 use Rattle.grid_source.specs.Whole.{IsBegun}
@@ -9,15 +9,15 @@ use Rattle.grid_report.specs.declared.outcome.Outcome.{Outcome}
 use Rattle.grid_report.specs.Outcomes.{report_of}
 use Rattle.grid_report.specs.Histories.{history_of, outcome_of, report_text}
 use Rattle.grid_json.specs.declared.whole.Job.{Job}
-use Rattle.grid_json.specs.declared.whole.JobFault.{JobFault}
-use Rattle.grid_json.specs.declared.whole.JobFault.TheVariants as jobs
 use Rattle.grid_json.specs.Whole.{job_of}
+use Rattle.grid_cli.specs.declared.words.Form.{Form}
+use Rattle.grid_cli.specs.declared.words.Form.TheVariants.{Run}
 use Rattle.grid_cli.specs.declared.once.Answer.{Answer}
 use Rattle.grid_cli.specs.declared.once.Answer.TheVariants as answers
 use Rattle.grid_cli.specs.declared.once.Status.{Status}
 use Rattle.grid_cli.specs.declared.once.Status.TheVariants as statuses
 use Rattle.grid_cli.specs.Orders.{order_of, replay_text}
-use Rattle.grid_cli.specs.Once.{ReadsJob, ReadsNoJob, Writes, OutcomeOf, output, answer_to, output_for, form_for, text_of, status_after}
+use Rattle.grid_cli.specs.Once.{ReadsJob, ReadsNoJob, Writes, WritesReport, OutcomeOf, IsOutput, form_for, text_of, status_after}
 
 pub handed : (written : Result (Unit {0}) ReportFault) (text : List ℕ) (old new : Option (List ℕ)) → OnOk written (Appends old new text) → OnErr written (IsBegun old text new) → Writes text old new (status_after written)
 handed (Ok done) text old new ok err = ok
@@ -33,39 +33,41 @@ reported job came written old new is ok err =
     subst (λ t. Writes t old new (status_after written)) text (handed written (report_of came) old new ok err)
 
 -- the output for the job that was read
-told : (answer : Answer) (bytes : List ℕ) (job : Job) → job_of bytes ≡ Ok job → output (form_for answer) bytes ≡ Ok (text_of answer job)
-unfolding output answer_to
-told answers.Counts bytes job read = ap (output_for answers.Counts) read
-told answers.Report bytes job read = ap (output_for answers.Report) read
-told answers.Network bytes job read = ap (output_for answers.Network) read
+told : (answer : Answer) (bytes : List ℕ) (job : Job) → job_of bytes ≡ Ok job → IsOutput (form_for answer) bytes (text_of answer job)
+unfolding text_of
+told answers.Counts bytes job read = (job, read, refl)
+told answers.Report bytes job read = (job, read, refl)
+told answers.Network bytes job read = (job, read, refl)
 
--- there is none where there is no job
-untold : (answer : Answer) (bytes : List ℕ) (fault : JobFault) → job_of bytes ≡ Err fault → output (form_for answer) bytes ≡ output_for answer (Err fault)
-unfolding output answer_to
-untold answers.Counts bytes fault read = ap (output_for answers.Counts) read
-untold answers.Report bytes fault read = ap (output_for answers.Report) read
-untold answers.Network bytes fault read = ap (output_for answers.Network) read
+-- what a form writes for the job that was read
+wrote : (form : Form) (left left' old new : Option (List ℕ)) (job : Job) (text : List ℕ) (status : Status) → (r : ReadsJob left left' job) → IsOutput form r.0 text → Writes text old new status
+    → OutcomeOf form left left' old new status
+wrote form left left' old new job text statuses.Done r o w = (r.0, text, r.1, o, w)
+wrote form left left' old new job text statuses.WriteFault r o w = (r.0, text, r.1, o, w)
+wrote form left left' old new job text statuses.NoMemory r o w = inr (r.0, text, r.1, o, w)
+wrote form left left' old new job text statuses.Usage r o w = absurd w
+wrote form left left' old new job text statuses.ReadFault r o w = absurd w
+wrote form left left' old new job text statuses.TooLong r o w = absurd w
+wrote form left left' old new job text statuses.BadJson r o w = absurd w
+wrote form left left' old new job text (statuses.BadJob place reason) r o w = absurd w
 
 pub answered : (answer : Answer) (left left' old new : Option (List ℕ)) (job : Job) (status : Status) → ReadsJob left left' job → Writes (text_of answer job) old new status
     → OutcomeOf (form_for answer) left left' old new status
-answered answer left left' old new job statuses.Done r w = (r.0, text_of answer job, r.1, told answer r.0 job r.2, w)
-answered answer left left' old new job statuses.WriteFault r w = (r.0, text_of answer job, r.1, told answer r.0 job r.2, w)
-answered answer left left' old new job statuses.NoMemory r w = inr (r.0, text_of answer job, r.1, told answer r.0 job r.2, w)
-answered answer left left' old new job statuses.Usage r w = absurd w
-answered answer left left' old new job statuses.ReadFault r w = absurd w
-answered answer left left' old new job statuses.TooLong r w = absurd w
-answered answer left left' old new job statuses.BadJson r w = absurd w
-answered answer left left' old new job (statuses.BadJob place reason) r w = absurd w
+answered answer left left' old new job status r w = wrote (form_for answer) left left' old new job (text_of answer job) status r (told answer r.0 job r.2) w
 
-pub unread : (answer : Answer) (left left' old new : Option (List ℕ)) (status : Status) → ReadsNoJob left left' status → Keeps old new → OutcomeOf (form_for answer) left left' old new status
-unread answer left left' old new statuses.Done r w = absurd r
-unread answer left left' old new statuses.Usage r w = absurd r
-unread answer left left' old new statuses.ReadFault r w = (r, w)
-unread answer left left' old new statuses.TooLong r w = (r, w)
-unread answer left left' old new statuses.BadJson r w = ((r.0, r.1, untold answer r.0 jobs.BadJson r.2), w)
-unread answer left left' old new (statuses.BadJob place reason) r w = ((r.0, r.1, untold answer r.0 (jobs.BadJob place reason) r.2), w)
-unread answer left left' old new statuses.WriteFault r w = absurd r
-unread answer left left' old new statuses.NoMemory r w = inl (r, w)
+-- the report of some order was written of a job that was read
+pub ran : (left left' old new : Option (List ℕ)) (job : Job) (status : Status) → ReadsJob left left' job → WritesReport job old new status → OutcomeOf Run left left' old new status
+ran left left' old new job status r w = wrote Run left left' old new job w.0 status r (job, r.2, w.1) w.2
+
+pub unread : (form : Form) (left left' old new : Option (List ℕ)) (status : Status) → ReadsNoJob left left' status → Keeps old new → OutcomeOf form left left' old new status
+unread form left left' old new statuses.Done r w = absurd r
+unread form left left' old new statuses.Usage r w = absurd r
+unread form left left' old new statuses.ReadFault r w = (r, w)
+unread form left left' old new statuses.TooLong r w = (r, w)
+unread form left left' old new statuses.BadJson r w = (r, w)
+unread form left left' old new (statuses.BadJob place reason) r w = (r, w)
+unread form left left' old new statuses.WriteFault r w = absurd r
+unread form left left' old new statuses.NoMemory r w = inl (r, w)
 
 -- ---- bytes that are handed over
 

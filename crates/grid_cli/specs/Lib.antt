@@ -3,3 +3,4 @@ pub mod Counts
 pub mod Orders
 pub mod Trials
 pub mod Once
+pub mod Threaded

@@ -1,5 +1,5 @@
--- The order of a job's steps, and the report of the job in it.
-use Rattle.std.specs.Prelude.{ℕ, ◌≤◌, List, length}
+-- The orders of a job's steps, and the report of the job in one.
+use Rattle.std.specs.Prelude.{◌≡◌, ℕ, ◌≤◌, List, length}
 use Rattle.grid_json.specs.declared.whole.Job.{Job}
 use Rattle.grid_json.specs.Job.{max_workers}
 use Rattle.grid_report.specs.Histories.{IsOrder, chosen_order, report_text}
@@ -16,3 +16,7 @@ pub record IsScheduled (job : Job) : Type 0 where
 -- the report of the job, run in its order
 unfoldable pub replay_text : Job → List ℕ
 replay_text job = report_text job.network job.scripts job.filters (order_of job)
+
+-- the text is the report of the job in some order of its steps
+abbrev pub IsReport : Job → List ℕ → Type 0
+IsReport job text = (order : List ℕ) × IsOrder job.scripts order × (text ≡ report_text job.network job.scripts job.filters order)

@@ -4,7 +4,7 @@ use Rattle.std.specs.List.{range_with_len}
 use Rattle.std.specs.Str.{bytes_eq}
 use Rattle.grid_cli.specs.declared.words.TheConstants.{MOST_SEED, MOST_SIZE}
 use Rattle.grid_cli.specs.declared.words.Form.{Form}
-use Rattle.grid_cli.specs.declared.words.Form.TheVariants.{Check, Replay, Print, Make, Trial}
+use Rattle.grid_cli.specs.declared.words.Form.TheVariants.{Check, Replay, Run, Print, Make, Trial}
 
 -- the number from the least to the most whose decimal digits are the text
 unfoldable pub number_among : ℕ → ℕ → List ℕ → Option ℕ
@@ -18,7 +18,10 @@ size_in text = number_among 1 MOST_SIZE text
 
 abbrev pub form_by_name : List ℕ → Option Form
 form_by_name word =
-    if bytes_eq word (codes "check") then Some Check else (if bytes_eq word (codes "replay") then Some Replay else (if bytes_eq word (codes "print") then Some Print else None))
+    if bytes_eq word (codes "check") then Some Check
+    else (if bytes_eq word (codes "replay") then Some Replay
+    else (if bytes_eq word (codes "run") then Some Run
+    else (if bytes_eq word (codes "print") then Some Print else None)))
 
 -- the form of a seed and a size, where both are there
 abbrev pub with_numbers : (ℕ → ℕ → Form) → Option ℕ → Option ℕ → Option Form
@@ -49,9 +52,24 @@ form_of (word ∷ seed ∷ size ∷ other ∷ words) = None
 abbrev pub IsWithin : Form → Type 0
 IsWithin Check = ⊤
 IsWithin Replay = ⊤
+IsWithin Run = ⊤
 IsWithin Print = ⊤
 IsWithin (Make seed size) = (seed ≤ MOST_SEED) × (1 ≤ size) × (size ≤ MOST_SIZE)
 IsWithin (Trial seed size) = (seed ≤ MOST_SEED) × (1 ≤ size) × (size ≤ MOST_SIZE)
+
+-- the form, where one thread serves it: all but `run`
+abbrev pub on_one_thread : Option Form → Option Form
+on_one_thread None = None
+on_one_thread (Some Run) = None
+on_one_thread (Some Check) = Some Check
+on_one_thread (Some Replay) = Some Replay
+on_one_thread (Some Print) = Some Print
+on_one_thread (Some (Make seed size)) = Some (Make seed size)
+on_one_thread (Some (Trial seed size)) = Some (Trial seed size)
+
+-- the words of a form that one thread serves
+abbrev pub form_alone : List (List ℕ) → Option Form
+form_alone words = on_one_thread (form_of words)
 
 -- the forms that read no input
 abbrev pub ReadsNothing : Option Form → Type 0
@@ -60,4 +78,5 @@ ReadsNothing (Some (Make seed size)) = ⊤
 ReadsNothing (Some (Trial seed size)) = ⊤
 ReadsNothing (Some Check) = ⊥
 ReadsNothing (Some Replay) = ⊥
+ReadsNothing (Some Run) = ⊥
 ReadsNothing (Some Print) = ⊥

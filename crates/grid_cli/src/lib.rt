@@ -4,8 +4,10 @@
 mod counts;
 mod once;
 mod running;
+mod threaded;
 mod trial;
 mod words;
 
 pub use once::{Status, grid_once};
+pub use threaded::grid;
 pub use words::{Form, MOST_SEED, MOST_SIZE, read_words};

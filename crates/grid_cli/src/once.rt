@@ -1,10 +1,10 @@
-// The top call.
+// The top call on one thread.
 ghost use Rattle.std.specs.Prelude.{◌≡◌, ◌↔◌, ◌≤◌, None, Err, IfOk, IfErr, map, string_bytes};
 ghost use Rattle.grid_source.specs.Causes.{Rose};
 ghost use Rattle.grid_json.specs.Job.{command_total};
 ghost use Rattle.grid_print.specs.Job.{network_text};
 ghost use Rattle.grid_cli.specs.declared.words.TheConstants.{MOST_SEED, MOST_SIZE};
-ghost use Rattle.grid_cli.specs.Words.{form_of, ReadsNothing};
+ghost use Rattle.grid_cli.specs.Words.{form_alone, ReadsNothing};
 ghost use Rattle.grid_cli.specs.Orders.{IsScheduled, replay_text};
 ghost use Rattle.grid_cli.specs.Once.{Outcome, OutcomeOf, form_for, Exact, Writes, ReadsNoJob, ReadsJob, status_after, text_of, made_text};
 
@@ -42,37 +42,38 @@ pub enum Status {
     NoMemory,
 }
 
-/// Does what the words ask for, from the source to the sink.
+/// Does what the words ask for, from the source to the sink, on the calling thread. It serves every form but `run`, which is
+/// Usage here as words of no form are. It takes no lock.
 pub fn grid_once<S: Source, K: Sink>(
     alloc: Global,
     words: &[String],
     source: &mut S,
     sink: &mut K,
 ) -> Status
-    ensures usage { (result ≡ Status.Usage) ↔ (form_of (map string_bytes words.now) ≡ None) }
+    ensures usage { (result ≡ Status.Usage) ↔ (form_alone (map string_bytes words.now) ≡ None) }
 
     // What was read and what was written, by the status.
-    ensures outcome { Outcome (form_of (map string_bytes words.now)) (S.left source.old)
+    ensures outcome { Outcome (form_alone (map string_bytes words.now)) (S.left source.old)
         (S.left source.new) (K.written sink.old) (K.written sink.new) result }
 
     // Where the source tells its bytes, they decide the status, but for faults and want of memory.
-    ensures exact { Exact (form_of (map string_bytes words.now)) (S.left source.old) result }
+    ensures exact { Exact (form_alone (map string_bytes words.now)) (S.left source.old) result }
 
     ensures read_fault { result ≡ Status.ReadFault → Rose (S.faults source.old) (S.faults source.new) }
     ensures write_fault { result ≡ Status.WriteFault → Rose (K.faults sink.old) (K.faults sink.new) }
-    ensures untouched { ReadsNothing (form_of (map string_bytes words.now)) → S.faults source.new ≡ S.faults source.old }
+    ensures untouched { ReadsNothing (form_alone (map string_bytes words.now)) → S.faults source.new ≡ S.faults source.old }
 {
     run(alloc, words, source, sink)
 }
 
 // The same, without what follows from the other clauses.
 fn run<S: Source, K: Sink>(alloc: Global, words: &[String], source: &mut S, sink: &mut K) -> Status
-    ensures usage { (result ≡ Status.Usage) ↔ (form_of (map string_bytes words.now) ≡ None) }
-    ensures outcome { Outcome (form_of (map string_bytes words.now)) (S.left source.old)
+    ensures usage { (result ≡ Status.Usage) ↔ (form_alone (map string_bytes words.now) ≡ None) }
+    ensures outcome { Outcome (form_alone (map string_bytes words.now)) (S.left source.old)
         (S.left source.new) (K.written sink.old) (K.written sink.new) result }
     ensures read_fault { result ≡ Status.ReadFault → Rose (S.faults source.old) (S.faults source.new) }
     ensures write_fault { result ≡ Status.WriteFault → Rose (K.faults sink.old) (K.faults sink.new) }
-    ensures untouched { ReadsNothing (form_of (map string_bytes words.now)) → S.faults source.new ≡ S.faults source.old }
+    ensures untouched { ReadsNothing (form_alone (map string_bytes words.now)) → S.faults source.new ≡ S.faults source.old }
 {
     let Some(form) = read_words(words) else {
         return Status::Usage;
@@ -80,6 +81,7 @@ fn run<S: Source, K: Sink>(alloc: Global, words: &[String], source: &mut S, sink
     match form {
         Form::Check => read_and_answer(alloc, Answer::Counts, source, sink),
         Form::Replay => read_and_answer(alloc, Answer::Report, source, sink),
+        Form::Run => Status::Usage,
         Form::Print => read_and_answer(alloc, Answer::Network, source, sink),
         Form::Make { seed, size } => make(alloc, seed, size, sink),
         Form::Trial { seed, size } => status_of(write_trial(alloc, seed, size, sink)),
@@ -112,8 +114,8 @@ fn read_and_answer<S: Source, K: Sink>(
     }
 }
 
-// The job of the source's bytes, which are given up then, or why there is none.
-fn read_from<S: Source>(alloc: Global, source: &mut S) -> Result<Job, Status>
+/// The job of the source's bytes, which are given up then, or why there is none.
+pub(crate) fn read_from<S: Source>(alloc: Global, source: &mut S) -> Result<Job, Status>
     ensures job { IfOk result (ReadsJob (S.left source.old) (S.left source.new)) }
     ensures few { IfOk result (λ job. command_total job.scripts ≤ 20000) }
     ensures scheduled { IfOk result IsScheduled }
@@ -200,7 +202,7 @@ fn hand_over<K: Sink>(bytes: &[u8], sink: &mut K) -> Status
     }
 }
 
-// Runs a job, and writes its report.
+// Runs a job in its order, and writes its report.
 #[tactic(auto, using(grid_report::proofs::Begun::at_start))]
 fn replay<K: Sink>(alloc: Global, job: Job, sink: &mut K) -> Status
     requires { IsScheduled job }
@@ -213,8 +215,8 @@ fn replay<K: Sink>(alloc: Global, job: Job, sink: &mut K) -> Status
     }
 }
 
-// The status after a text was handed to the sink.
-fn status_of(written: Result<(), ReportFault>) -> Status
+/// The status after a text was handed to the sink.
+pub(crate) fn status_of(written: Result<(), ReportFault>) -> Status
     ensures { result ≡ status_after written }
 {
     match written {

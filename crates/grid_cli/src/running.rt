@@ -6,6 +6,7 @@ ghost use Rattle.grid_report.specs.Histories.{variant_view, variant_views, histo
 ghost use Rattle.grid_cli.specs.Orders.{IsScheduled, order_of};
 
 use grid_core::{Request, Script, World};
+use grid_events::Filters;
 use grid_ids::{Duplicate, Id, Memory, Seq};
 use grid_json::{Job, Order};
 use grid_report::{BusViews, Outcome, VariantView, VariantViews};
@@ -109,6 +110,27 @@ fn chosen_order(alloc: Global, order: Option<Order>, scripts: &[Script]) -> Resu
     }
 }
 
+/// What came of a world's history, with these filters.
+pub(crate) fn outcome(
+    alloc: Global,
+    world: World,
+    workers: u32,
+    filters: Filters,
+) -> Result<Outcome, Memory>
+    requires { workers ≡ world.workers }
+    ensures outcome { IfOk result (λ outcome. outcome ≡ outcome_of world filters) }
+    ensures few { IfOk result (λ outcome. length outcome.views < 2 ^ 32) }
+    ensures each { IfOk result (λ outcome. All (λ v. length v.views < 2 ^ 32) outcome.views) }
+{
+    let views = variant_views(alloc, &world)?;
+    Ok(Outcome {
+        journal: world.into_journal(),
+        workers,
+        views,
+        filters,
+    })
+}
+
 /// What comes of a job that is run in its order.
 pub fn run_job(alloc: Global, job: Job) -> Result<Outcome, Memory>
     requires { IsScheduled job }
@@ -118,11 +140,5 @@ pub fn run_job(alloc: Global, job: Job) -> Result<Outcome, Memory>
 {
     let order = chosen_order(alloc, job.order, job.scripts.slice())?;
     let world = run(alloc, job.network, job.scripts.slice(), order.slice())?;
-    let views = variant_views(alloc, &world)?;
-    Ok(Outcome {
-        journal: world.into_journal(),
-        workers: job.scripts.len() as u32,
-        views,
-        filters: job.filters,
-    })
+    outcome(alloc, world, job.scripts.len() as u32, job.filters)
 }

@@ -18,6 +18,8 @@ pub enum Form {
     Check,
     /// Reads a job, runs its commands in order, and writes the report.
     Replay,
+    /// Reads a job, runs its workers on threads of their own, and writes the report of the order that happened.
+    Run,
     /// Reads a job, and writes its network as a job of the network alone.
     Print,
     /// Writes the made job of a seed and a size. It reads nothing.
@@ -26,8 +28,8 @@ pub enum Form {
     Trial { seed: u32, size: u32 },
 }
 
-/// What the words ask for; None exactly where they are no form. The forms are `check`, `replay`, `print`,
-/// `make SEED SIZE` and `trial SEED SIZE`. A number is written in decimal digits without a leading zero; a seed is from
+/// What the words ask for; None exactly where they are no form. The forms are `check`, `replay`, `run`,
+/// `print`, `make SEED SIZE` and `trial SEED SIZE`. A number is written in decimal digits without a leading zero; a seed is from
 /// 0 to `MOST_SEED`, a size from 1 to `MOST_SIZE`. The program's name is not among the words. It takes no memory.
 pub fn read_words(words: &[String]) -> Option<Form>
     ensures form { result ≡ form_of (map string_bytes words.now) }
@@ -47,6 +49,7 @@ fn form_named(word: &str) -> Option<Form>
     match word {
         "check" => Some(Form::Check),
         "replay" => Some(Form::Replay),
+        "run" => Some(Form::Run),
         "print" => Some(Form::Print),
         _ => None,
     }

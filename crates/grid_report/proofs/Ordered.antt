@@ -112,7 +112,7 @@ counted_by worker c all step before true own h e = counted_own worker c all step
 counted_by worker c all step before false other h e = counted_other worker c all step before other h e
 
 -- how often a worker stands in the order of some steps
-counted : (worker : ℕ) (steps : List Command) → count_by (λ w. w == worker) (told_order steps) ≡ length (asked_by worker steps)
+pub counted : (worker : ℕ) (steps : List Command) → count_by (λ w. w == worker) (told_order steps) ≡ length (asked_by worker steps)
 counted worker [] = ap (count_by (λ w. w == worker)) told_none ∙ asked_none worker
 counted worker (step ∷ before) =
     counted_by worker (count_by (λ w. w == worker) (told_order before)) (count_by (λ w. w == worker) (told_order (step ∷ before))) step before (step.worker == worker) refl (counted worker before)

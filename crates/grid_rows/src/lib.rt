@@ -11,3 +11,5 @@ mod histories;
 mod replays;
 #[cfg(test)]
 mod structures;
+#[cfg(test)]
+mod threads;

@@ -33,7 +33,7 @@ fn duo(alloc: Global, script: &str) -> Result<Vec<u8>, Fail> {
     duo_with(alloc, script, TAIL)
 }
 
-fn words(alloc: Global, texts: &[&str]) -> Result<Vec<String>, Fail> {
+pub(crate) fn words(alloc: Global, texts: &[&str]) -> Result<Vec<String>, Fail> {
     let mut words = Vec::new(alloc);
     for text in texts {
         words.push(String::from_str(alloc, text)?)?;
@@ -42,7 +42,7 @@ fn words(alloc: Global, texts: &[&str]) -> Result<Vec<String>, Fail> {
 }
 
 /// A status in words: that of a bad job with the place of its fault and the reason.
-fn named(alloc: Global, status: Status) -> Result<String, Fail> {
+pub(crate) fn named(alloc: Global, status: Status) -> Result<String, Fail> {
     match status {
         Status::BadJob { place, reason } => {
             let place = place.text();

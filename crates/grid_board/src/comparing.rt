@@ -1,0 +1,165 @@
+// Whether a base is the present one of a task. None of these takes memory.
+ghost use Rattle.std.specs.Prelude.{◌≡◌, ◌↔◌, ◌<◌, [], ◌∷◌, length, map, filter_map, Some, IsTrue};
+ghost use Rattle.grid_structure.specs.Sites.{levels, branches, branch_ends};
+ghost use Rattle.grid_busview.specs.Views.{stand_watts};
+ghost use Rattle.grid_bench.specs.Tasks.{level_of};
+ghost use Rattle.grid_core.specs.Fitting.{StateFits};
+ghost use Rattle.grid_board.specs.Questions as questions;
+ghost use Rattle.grid_board.specs.Questions.{state_seen};
+
+use crate::bases::branch_of;
+use crate::tasks::level_of;
+use grid_bench::{Base, BaseLevel, BenchBranch, Task};
+use grid_ids::{Same, same_items};
+use grid_kinds::Injection;
+use grid_level::{Level, Placed, Stand};
+use grid_states::States;
+use grid_structure::{Branch, Structure};
+
+// The watts that a terminal's record gives: `p0` of a load, `target_p` of a generator or a battery, 0 otherwise.
+#[tactic(auto, unfolding(grid_busview::specs::Views::stand_watts, grid_busview::specs::Views::item_watts))]
+fn watts_of(stand: &Stand) -> i64
+    ensures { result ≡ stand_watts stand.now }
+{
+    match stand {
+        Stand::Feeder(Injection::Load { p0, .. }) => *p0,
+        Stand::Feeder(Injection::Generator { target_p, .. }) => *target_p,
+        Stand::Feeder(Injection::Battery { target_p, .. }) => *target_p,
+        _ => 0,
+    }
+}
+
+// Whether the watts are those that the terminals' records give.
+fn same_watts(placed: &[Placed], powers: &[i64]) -> bool
+    ensures { IsTrue result ↔ (map (λ p. stand_watts p.stand) placed.now ≡ powers.now) }
+{
+    if placed.len() != powers.len() {
+        return false;
+    }
+    for place in 0..placed.len() {
+        if watts_of(&placed[place].stand) != powers[place] {
+            return false;
+        }
+    }
+    true
+}
+
+// Whether a part is this level with these flags and the watts of the records.
+#[tactic(auto, unfolding(crate::specs::Questions::part_with, grid_busview::specs::Views::record_watts))]
+fn is_part(level: &Level, opened: &[bool], retained: &[bool], part: &BaseLevel) -> bool
+    ensures { IsTrue result ↔ (questions.part_with level.now opened.now retained.now ≡ part.now) }
+{
+    level.id().same(part.level.id())
+        && same_items(opened, part.states.slice())
+        && same_items(retained, part.retained.slice())
+        && level.same(&part.level)
+        && same_watts(level.placed(), part.powers.slice())
+}
+
+// Whether the base is this level alone.
+fn is_alone(
+    structure: &Structure,
+    opened: &States,
+    retained: &States,
+    place: u32,
+    base: &Base,
+) -> bool
+    requires fits { StateFits (state_seen structure.now opened.now retained.now) }
+    requires level { place < length (levels structure.now) }
+    ensures { IsTrue result ↔ (questions.alone (state_seen structure.now opened.now retained.now) place ≡ Some base.now) }
+{
+    let parts = base.levels();
+    if parts.len() != 1 {
+        return false;
+    }
+    if !base.branches().is_empty() {
+        return false;
+    }
+    is_part(
+        structure.level(place),
+        opened.row(place),
+        retained.row(place),
+        &parts[0],
+    )
+}
+
+// Whether the parts are the levels as they stand.
+fn same_parts(
+    structure: &Structure,
+    opened: &States,
+    retained: &States,
+    parts: &[BaseLevel],
+) -> bool
+    requires { StateFits (state_seen structure.now opened.now retained.now) }
+    ensures { IsTrue result ↔ (questions.parts_of (state_seen structure.now opened.now retained.now) ≡ parts.now) }
+{
+    if structure.level_count() as usize != parts.len() {
+        return false;
+    }
+    for place in 0..structure.level_count() {
+        if !is_part(
+            structure.level(place),
+            opened.row(place),
+            retained.row(place),
+            &parts[place as usize],
+        ) {
+            return false;
+        }
+    }
+    true
+}
+
+// Whether a branch stands between these sites.
+fn is_branch(structure: &Structure, shape: &Branch, branch: &BenchBranch) -> bool
+    ensures { IsTrue result ↔ (questions.branch_between (map (questions.spot_of structure.now) (branch_ends shape.now)) ≡ Some branch.now) }
+{
+    match branch_of(structure, shape) {
+        Some(found) => found.same(branch),
+        None => false,
+    }
+}
+
+// Whether the list has the branches by the sites of their ends.
+fn same_branches(structure: &Structure, list: &[BenchBranch]) -> bool
+    ensures { IsTrue result ↔ (filter_map (questions.branch_of structure.now) (branches structure.now) ≡ list.now) }
+{
+    structure.keeps();
+    if structure.branch_count() as usize != list.len() {
+        return false;
+    }
+    for place in 0..structure.branch_count() {
+        if !is_branch(structure, structure.branch(place), &list[place as usize]) {
+            return false;
+        }
+    }
+    true
+}
+
+// Whether the base is the whole network.
+#[tactic(auto, unfolding(crate::specs::Questions::whole))]
+fn is_whole(structure: &Structure, opened: &States, retained: &States, base: &Base) -> bool
+    requires { StateFits (state_seen structure.now opened.now retained.now) }
+    ensures { IsTrue result ↔ (questions.whole (state_seen structure.now opened.now retained.now) ≡ base.now) }
+{
+    same_parts(structure, opened, retained, base.levels())
+        && same_branches(structure, base.branches())
+}
+
+/// Whether the base is the present one of a task, which names a level of the structure by its place.
+#[tactic(auto, unfolding(crate::specs::Questions::base_of, grid_bench::specs::Tasks::level_of))]
+pub(crate) fn is_base_of(
+    structure: &Structure,
+    opened: &States,
+    retained: &States,
+    task: Task,
+    base: &Base,
+) -> bool
+    requires fits { StateFits (state_seen structure.now opened.now retained.now) }
+    requires level { level_of task < length (levels structure.now) }
+    ensures { IsTrue result ↔ (questions.base_of (state_seen structure.now opened.now retained.now) task ≡ Some base.now) }
+{
+    match task {
+        Task::Components { .. } => is_whole(structure, opened, retained, base),
+        _ => is_alone(structure, opened, retained, level_of(task), base),
+    }
+}

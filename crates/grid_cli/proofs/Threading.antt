@@ -1,0 +1,61 @@
+-- What is written of a job that ran on threads: the report of an order of its steps.
+use Rattle.std.proofs.Common.{◌≡◌, refl, sym, ap, ◌∙◌, ℕ, List, [], length, reverse, Option, Some, None, Result, false}
+use Rattle.std.specs.Prelude.{slice_get, unwrap_or, OnOk, OnErr}
+use Rattle.std.specs.Io.KnownBytes.{Appends}
+use Rattle.std.proofs.lemmas.List.{length-reverse}
+use Rattle.grid_source.specs.Whole.{IsBegun}
+use Rattle.grid_structure.specs.Network.{Network}
+use Rattle.grid_core.specs.declared.request.Request.{Request}
+use Rattle.grid_core.specs.History.{History, Command, asked_by}
+use Rattle.grid_json.specs.declared.whole.Job.{Job}
+use Rattle.grid_report.specs.declared.pieces.ReportFault.{ReportFault}
+use Rattle.grid_report.specs.declared.outcome.Outcome.{Outcome}
+use Rattle.grid_report.specs.Outcomes.{report_of}
+use Rattle.grid_report.specs.Histories.{AsksScripts, IsOrder, history_of, outcome_of, script_of, told_order, steps_of, report_text}
+use Rattle.grid_report.proofs.Begun.{at_start}
+use Rattle.grid_report.proofs.Ordered.{counted, steps_told}
+use Rattle.grid_workers.specs.Runs.{IsRun}
+use Rattle.grid_cli.specs.declared.once.Status.{Status}
+use Rattle.grid_cli.specs.declared.once.Status.TheVariants as statuses
+use Rattle.grid_cli.specs.Orders.{IsScheduled, IsReport, order_of, replay_text}
+use Rattle.grid_cli.specs.Once.{Writes, WritesReport, status_after}
+use Rattle.grid_cli.specs.Threaded.{IsOutcomeOf}
+use Rattle.grid_cli.proofs.Written.{handed}
+
+-- ---- the order of a run that is not short
+
+script_is : (o : Option (List Request)) → unwrap_or o [] ≡ script_of o
+unfolding script_of
+script_is None = refl
+script_is (Some script) = refl
+
+asks_scripts : (network : Network) (scripts : List (List Request)) (history : History) → IsRun network scripts history false → AsksScripts scripts history.steps
+asks_scripts network scripts history run worker = run.whole refl worker ∙ script_is (slice_get scripts worker)
+
+is_order : (scripts : List (List Request)) (steps : List Command) → AsksScripts scripts steps → IsOrder scripts (told_order steps)
+is_order scripts steps asks worker = counted worker steps ∙ sym (length-reverse (asked_by worker steps)) ∙ ap length (asks worker)
+
+-- the history is that of the scripts in the order of its steps
+is_history : (network : Network) (scripts : List (List Request)) (history : History) → IsRun network scripts history false → history ≡ history_of network scripts (told_order history.steps)
+unfolding history_of
+is_history network scripts history run =
+    let steps : steps_of scripts (told_order history.steps) ≡ history.steps = steps_told scripts history.steps (asks_scripts network scripts history run) in
+    ap (λ (o : Network). let h : History = record { origin = o; workers = history.workers; steps = history.steps } in h) run.origin
+    ∙ ap (λ (n : ℕ). let h : History = record { origin = network; workers = n; steps = history.steps } in h) run.workers
+    ∙ ap (λ (l : List Command). let h : History = record { origin = network; workers = length scripts; steps = l } in h) (sym steps)
+
+pub came_of_run : (job : Job) (history : History) (came : Outcome) → IsRun job.network job.scripts history false → came ≡ outcome_of history job.filters → IsOutcomeOf job came
+came_of_run job history came run is =
+    (told_order history.steps, is_order job.scripts history.steps (asks_scripts job.network job.scripts history run), is ∙ ap (λ h. outcome_of h job.filters) (is_history job.network job.scripts history run))
+
+-- ---- what was written
+
+-- where nothing was written yet
+pub unwritten : (job : Job) (old : Option (List ℕ)) → IsScheduled job → WritesReport job old old statuses.NoMemory
+unfolding replay_text
+unwritten job old scheduled = (replay_text job, (order_of job, scheduled.ordered, refl), at_start old (replay_text job))
+
+pub reported : (job : Job) (came : Outcome) (wrote : Result (Unit {0}) ReportFault) (old new : Option (List ℕ)) → IsOutcomeOf job came → OnOk wrote (Appends old new (report_of came)) → OnErr wrote (IsBegun old (report_of came) new)
+    → WritesReport job old new (status_after wrote)
+unfolding report_text
+reported job came wrote old new is ok err = (report_of came, (is.0, is.1, ap report_of is.2), handed wrote (report_of came) old new ok err)

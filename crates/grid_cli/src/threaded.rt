@@ -1,0 +1,120 @@
+// The top call, and the form `run`: workers on threads of their own.
+ghost use Rattle.std.specs.Prelude.{◌≡◌, ◌↔◌, None, Some, IsTrue, IsFalse, IfOk, map, string_bytes};
+ghost use Rattle.grid_source.specs.Causes.{Rose};
+ghost use Rattle.grid_cli.specs.Words.{form_of, on_one_thread, ReadsNothing};
+ghost use Rattle.grid_cli.specs.Orders.{IsScheduled};
+ghost use Rattle.grid_cli.specs.Once.{Outcome, OutcomeOf, Exact, WritesReport};
+ghost use Rattle.grid_cli.specs.Threaded.{IsOutcomeOf};
+
+use crate::once::{Status, grid_once, read_from, status_of};
+use crate::running::outcome;
+use crate::words::{Form, read_words};
+use grid_ids::Memory;
+use grid_json::Job;
+use grid_manager::Gate;
+use grid_report::{Outcome, write_report};
+use grid_source::{Sink, Source};
+use grid_workers::run_scripts;
+use std::alloc::Global;
+use std::sync::Wait;
+use std::thread::Threads;
+
+/// Does what the words ask for, from the source to the sink. For `run` each worker makes its script's calls on a thread of
+/// its own, all on one board, and every thread has ended when it returns; the gate sees each worker at work. Every other form
+/// is served by `grid_once`.
+pub fn grid<R: Threads + Wait + Sync, S: Source, K: Sink, G: Gate>(
+    rt: &R,
+    alloc: Global,
+    words: &[String],
+    source: &mut S,
+    sink: &mut K,
+    gate: &G,
+) -> Status
+    ensures usage { (result ≡ Status.Usage) ↔ (form_of (map string_bytes words.now) ≡ None) }
+
+    // What was read and what was written, by the status. For `run` it is the report of some order of the job, which the
+    // report's first line tells.
+    ensures outcome { Outcome (form_of (map string_bytes words.now)) (S.left source.old)
+        (S.left source.new) (K.written sink.old) (K.written sink.new) result }
+
+    // Where the source tells its bytes, they decide the status, but for faults and want of memory.
+    ensures exact { Exact (form_of (map string_bytes words.now)) (S.left source.old) result }
+
+    ensures read_fault { result ≡ Status.ReadFault → Rose (S.faults source.old) (S.faults source.new) }
+    ensures write_fault { result ≡ Status.WriteFault → Rose (K.faults sink.old) (K.faults sink.new) }
+    ensures untouched { ReadsNothing (form_of (map string_bytes words.now)) → S.faults source.new ≡ S.faults source.old }
+{
+    if is_run(read_words(words)) {
+        read_and_run(rt, alloc, source, sink, gate)
+    } else {
+        grid_once(alloc, words, source, sink)
+    }
+}
+
+// Whether the form is `run`; every other one is served by one thread.
+fn is_run(form: Option<Form>) -> bool
+    ensures run { IsTrue result → form ≡ Some Form.Run }
+    ensures other { IsFalse result → on_one_thread form ≡ form }
+{
+    match form {
+        Some(Form::Run) => true,
+        Some(Form::Check | Form::Replay | Form::Print | Form::Make { .. } | Form::Trial { .. })
+        | None => false,
+    }
+}
+
+// Reads a job, and writes the report of the order in which its workers' steps happened.
+#[tactic(auto, using(crate::proofs::Written::ran, crate::proofs::Written::unread))]
+fn read_and_run<R: Threads + Wait + Sync, S: Source, K: Sink, G: Gate>(
+    rt: &R,
+    alloc: Global,
+    source: &mut S,
+    sink: &mut K,
+    gate: &G,
+) -> Status
+    ensures outcome { OutcomeOf Form.Run (S.left source.old) (S.left source.new) (K.written sink.old) (K.written sink.new) result }
+    ensures read_fault { result ≡ Status.ReadFault → Rose (S.faults source.old) (S.faults source.new) }
+    ensures write_fault { result ≡ Status.WriteFault → Rose (K.faults sink.old) (K.faults sink.new) }
+{
+    match read_from(alloc, source) {
+        Ok(job) => write_run(rt, alloc, job, sink, gate),
+        Err(status) => status,
+    }
+}
+
+// Runs a job on threads, and writes its report.
+#[tactic(auto, using(crate::proofs::Threading::unwritten, crate::proofs::Threading::reported))]
+fn write_run<R: Threads + Wait + Sync, K: Sink, G: Gate>(
+    rt: &R,
+    alloc: Global,
+    job: Job,
+    sink: &mut K,
+    gate: &G,
+) -> Status
+    requires { IsScheduled job }
+    ensures written { WritesReport job (K.written sink.old) (K.written sink.new) result }
+    ensures fault { result ≡ Status.WriteFault → Rose (K.faults sink.old) (K.faults sink.new) }
+{
+    match run_job_on_threads(rt, alloc, job, gate) {
+        Ok(outcome) => status_of(write_report(alloc, &outcome, sink)),
+        Err(Memory) => Status::NoMemory,
+    }
+}
+
+// What came of a job whose workers ran on threads of their own. Where a worker's call found no memory, so did this one.
+fn run_job_on_threads<R: Threads + Wait + Sync, G: Gate>(
+    rt: &R,
+    alloc: Global,
+    job: Job,
+    gate: &G,
+) -> Result<Outcome, Memory>
+    requires { IsScheduled job }
+    ensures { IfOk result (IsOutcomeOf job) }
+{
+    let workers = job.scripts.len() as u32;
+    let run = run_scripts(rt, alloc, job.network, &job.scripts, gate)?;
+    if run.short {
+        return Err(Memory);
+    }
+    outcome(alloc, run.board.into_world(), workers, job.filters)
+}

@@ -1,0 +1,28 @@
+use Rattle.std.proofs.Common.{◌≡◌, sym, ap, ◌∙◌, subst, length, List}
+use Rattle.grid_islands.specs.declared.BusComponent.{BusComponent}
+use Rattle.grid_core.specs.declared.request.Request.TheVariants as requests
+use Rattle.grid_core.specs.declared.reply.Reply.TheVariants as replies
+use Rattle.grid_core.specs.declared.verdict.Verdict.TheVariants as verdicts
+use Rattle.grid_core.specs.Solo.{state_seen, level_at}
+use Rattle.grid_core.specs.Verdicts.{IsVerdict}
+use Rattle.grid_core.proofs.Looking.{flags_fit, level_exists}
+use Rattle.grid_core.proofs.Ranges.{rows_of_levels}
+use Rattle.grid_core.proofs.Finding.{components_refused, components_is}
+use Rattle.grid_core.proofs.viewing.components_verdict.Goals as goal
+
+pub returns-in-None : goal.returns-in-None
+returns-in-None c retained = components_refused (state_seen c.args.structure.now c.args.opened.now retained) c.args.id.now (sym c.in-None.ensures.place)
+
+pub level_components-requires-clause-rows : goal.level_components-requires-clause-rows
+level_components-requires-clause-rows c = rows_of_levels c.args.structure.now c.args.opened.now c.requires
+
+pub level_components-requires-clause-flags : goal.level_components-requires-clause-flags
+level_components-requires-clause-flags c = flags_fit c.args.structure.now c.args.opened.now c.requires
+
+pub returns : goal.returns
+unfolding level_at
+returns c retained v =
+    let state = state_seen c.args.structure.now c.args.opened.now retained in
+    let level = level_exists c.args.structure.now c.in-Some.place c.in-Some.ensures.below in
+    subst (λ (z : List BusComponent). IsVerdict state v (requests.Components c.args.id.now) (verdicts.Stays (replies.Components z))) (sym (c.in_ok-list.ensures retained))
+    (components_is state c.args.id.now c.in-Some.place level.0 (sym c.in-Some.ensures.place) level.1 v)
