@@ -9,7 +9,7 @@ ghost use Rattle.grid_bench.specs.Stores.{kept_for};
 
 use super::*;
 use grid_busview::record_watts;
-use grid_ids::{Duplicate, Id, Memory, Same};
+use grid_ids::{Id, Memory, Same};
 use grid_kinds::{Injection, SwitchKind};
 use grid_level::{Flags, Level, Placed, Stand, Terminal};
 use grid_queue::Steps;

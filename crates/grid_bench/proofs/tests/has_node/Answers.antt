@@ -1,4 +1,4 @@
-use Rattle.std.proofs.Common.{◌≡◌, sym, ap, ◌∙◌, subst, ℕ}
+use Rattle.std.proofs.Common.{sym, ap, ◌∙◌, subst}
 use Rattle.std.specs.Prelude.{IsTrue, is_some, eqb}
 use Rattle.std.proofs.lemmas.Option.{same_Some}
 use Rattle.grid_level.specs.Passing.{nodes}
