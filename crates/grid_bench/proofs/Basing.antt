@@ -1,7 +1,7 @@
 -- Bases of one level, and of two that a line joins.
-use Rattle.std.proofs.Common.{◌≡◌, refl, sym, ap, ◌∙◌, ◌&&◌, ℕ, Bool, true, false, List, [], ◌∷◌, length, arith, Some, None}
-use Rattle.std.specs.Prelude.{◌≢◌, IsTrue, map, All}
-use Rattle.std.specs.List.{IsDistinct, list_any}
+use Rattle.std.proofs.Common.{◌≡◌, refl, true, [], ◌∷◌, arith, Some, None}
+use Rattle.std.specs.Prelude.{◌≢◌, map}
+use Rattle.std.specs.List.{IsDistinct}
 use Rattle.std.specs.Str.{bytes_eq}
 use Rattle.std.proofs.lemmas.Bool.{false_from_ne_true}
 use Rattle.std.proofs.lemmas.List.Elements.{All-cons}

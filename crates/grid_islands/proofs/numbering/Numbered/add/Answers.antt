@@ -1,4 +1,4 @@
-use Rattle.std.proofs.Common.{◌≡◌, ap, ◌∙◌, ℕ, ◌+◌, ◌++◌, ◌∷◌, [], List, Option}
+use Rattle.std.proofs.Common.{ap, ◌∙◌, ℕ, ◌+◌, ◌++◌, ◌∷◌, [], List, Option}
 use Rattle.grid_islands.specs.declared.numbering.Numbered.{Numbered}
 use Rattle.grid_islands.specs.Numbering.{counted_from, with_buses}
 use Rattle.grid_islands.proofs.numbering.Numbered.add.Goals as goal

@@ -1,0 +1,80 @@
+-- What tests assert at run time, and what it tells.
+use Rattle.std.proofs.Common.{◌≡◌, refl, sym, ap, ◌∙◌, subst, ℕ, ◌*◌, ◌≤◌, ◌&&◌, ◌||◌, not, cond, Bool, true, false, List, [], ◌∷◌, length, get_or, arith, Option, Some, None}
+use Rattle.std.specs.Prelude.{eqb, position, slice_get}
+use Rattle.std.specs.Bool.{beq}
+use Rattle.std.specs.List.{list_any, sum_by}
+use Rattle.std.proofs.lemmas.Bool.{eqb-true}
+use Rattle.std.proofs.lemmas.List.Quantifiers.{position-Some}
+use Rattle.std.proofs.lemmas.List.Sums.{count_by-le-length, sum_by-cons}
+use Rattle.grid_graph.specs.Components.{places}
+use Rattle.grid_graph.proofs.Reach.{In}
+use Rattle.grid_level.specs.declared.Switch.{Switch}
+use Rattle.grid_level.specs.VoltageLevel.{VoltageLevel}
+use Rattle.grid_level.specs.Passing.{Rule, bus, breaker, nodes}
+use Rattle.grid_groups.proofs.Indices.{In_among}
+use Rattle.grid_groups.proofs.Lists.{In_get}
+use Rattle.grid_groups.proofs.Standing.{nodes-stood}
+use Rattle.grid_bench.specs.Contents.{Content, content}
+use Rattle.grid_bench.specs.Costs.{is_at_end, touched_by, touched_both, standing_with, with_flags_at, change_cost, content_midway, flag_at, differs_at, place_cost, changes_cost}
+use Rattle.grid_bench.proofs.Following.{beq_refl}
+
+pub placed_among : (node : ℕ) (ns : List ℕ) (k : ℕ) → position (λ m. eqb m node) ns ≡ Some k → list_any (λ m. eqb m node) ns ≡ true
+placed_among node ns k h =
+    let at = position-Some (λ m. eqb m node) ns k 0 h in
+    let P : ℕ → Type 0 = λ z. In z ns in
+    In_among node ns (subst P (eqb-true (get_or ns k 0) node at.1) (In_get ns k at.0))
+
+-- ---- what a change touches
+
+touched_le : (rule : Rule) (before after : VoltageLevel) (s : Switch) → touched_by rule before after s ≤ length (nodes before)
+unfolding touched_by
+touched_le rule before after s = count_by-le-length (λ node. is_at_end rule before s node || is_at_end rule after s node) (nodes before)
+
+both_le : (before after : Content) (found : Option Switch) → touched_both before after found ≤ 2 * length (nodes before.level)
+unfolding touched_both
+both_le before after None = omega arith
+both_le before after (Some s) =
+    omega (arith, touched_le bus (standing_with before) (standing_with after) s, touched_le breaker (standing_with before) (standing_with after) s, ap length (nodes-stood before.level before.opened before.retained))
+
+cond_le : (b : Bool) (x n : ℕ) → x ≤ n → cond b x 0 ≤ n
+cond_le true x n le = le
+cond_le false x n le = omega arith
+
+place_le : (old new : Content) (place : ℕ) → place_cost old new place ≤ 2 * length (nodes old.level)
+unfolding place_cost
+place_le old new place =
+    let was = content_midway old new place in
+    cond_le (differs_at old new place) (change_cost was place (flag_at new.opened place) (flag_at new.retained place)) (2 * length (nodes old.level))
+    (both_le was (with_flags_at was place (flag_at new.opened place) (flag_at new.retained place)) (slice_get old.level.switches place))
+
+unchanged : (old new : Content) (place : ℕ) → flag_at old.opened place ≡ flag_at new.opened place → flag_at old.retained place ≡ flag_at new.retained place → place_cost old new place ≡ 0
+unfolding place_cost differs_at
+unchanged old new place e f =
+    let was = content_midway old new place in
+    let cost = change_cost was place (flag_at new.opened place) (flag_at new.retained place) in
+    ap (λ z. cond (not (z && beq (flag_at old.retained place) (flag_at new.retained place))) cost 0) (ap (beq (flag_at old.opened place)) (sym e) ∙ beq_refl (flag_at old.opened place))
+    ∙ ap (λ z. cond (not z) cost 0) (ap (beq (flag_at old.retained place)) (sym f) ∙ beq_refl (flag_at old.retained place))
+
+-- where the fourth of five switches alone changes, each node is visited twice at most
+pub fourth_costs : (level : VoltageLevel) (retained : List Bool) (a b c d e n : Bool) → length level.switches ≡ 5
+    → changes_cost (content level (a ∷ b ∷ c ∷ d ∷ e ∷ []) retained) (content level (a ∷ b ∷ c ∷ n ∷ e ∷ []) retained) ≤ 2 * length (nodes level)
+unfolding changes_cost places
+fourth_costs level retained a b c d e n five =
+    let old = content level (a ∷ b ∷ c ∷ d ∷ e ∷ []) retained in
+    let new = content level (a ∷ b ∷ c ∷ n ∷ e ∷ []) retained in
+    let f = place_cost old new in
+    let all : sum_by f (places (length level.switches)) ≡ sum_by f (0 ∷ 1 ∷ 2 ∷ 3 ∷ 4 ∷ []) = ap (λ z. sum_by f (places z)) five in
+    omega (
+      arith,
+      all,
+      sum_by-cons f 0 (1 ∷ 2 ∷ 3 ∷ 4 ∷ []),
+      sum_by-cons f 1 (2 ∷ 3 ∷ 4 ∷ []),
+      sum_by-cons f 2 (3 ∷ 4 ∷ []),
+      sum_by-cons f 3 (4 ∷ []),
+      sum_by-cons f 4 [],
+      unchanged old new 0 refl refl,
+      unchanged old new 1 refl refl,
+      unchanged old new 2 refl refl,
+      unchanged old new 4 refl refl,
+      place_le old new 3,
+    )
