@@ -1,0 +1,215 @@
+ghost use Rattle.std.specs.Prelude.{◌≡◌, ◌<◌};
+ghost use Rattle.grid_bench.specs.Answers.{IsTaskOf};
+
+use crate::replays::duo_with;
+use grid_bench::{Answer, Base, Bench, Task};
+use grid_board::{Board, CommitFault};
+use grid_core::{Reply, Request, Script, World};
+use grid_ids::{Duplicate, Same};
+use grid_json::{Job, read_job};
+use grid_level::Flags;
+use grid_queue::Steps;
+use grid_structure::Structure;
+use std::alloc::Global;
+use std::marker::Brand;
+use std::process::Abort;
+use std::sync::ledger::{Blank, Ledger};
+use std::test::Fail;
+
+/// What a bench answers, with a counter of its own.
+fn answered<L: Ledger>(
+    bench: &mut Bench,
+    base: Base,
+    task: Task,
+    blank: Blank,
+) -> Result<Answer, Fail>
+    requires name { blank.name ≡ L.name }
+    requires parts { blank.parts ≡ L.parts }
+    requires some { 0 < blank.parts }
+    requires task { IsTaskOf base task }
+{
+    let mut steps: Steps<L> = Steps::begin(blank);
+    Ok(bench.answer(base, task, &mut steps)?)
+}
+
+/// A board of two workers with a bench, and a world that makes the same steps.
+#[derive(Drop)]
+struct Both {
+    board: Board,
+    bench: Bench,
+    world: World,
+    ghost on_board: { board.workers ≡ 2 },
+    ghost in_world: { world.workers ≡ 2 },
+}
+
+impl Both {
+    fn start(alloc: Global, network: Structure) -> Result<Both, Fail> {
+        Ok(Both {
+            board: Board::start(alloc, network.copy()?, 2)?,
+            bench: Bench::empty(alloc),
+            world: World::start(alloc, network, 2)?,
+        })
+    }
+
+    /// The bench's answer on the present base, where the request has a task.
+    fn ask(&mut self, worker: u32, request: &Request) -> Result<Option<Answer>, Fail>
+        requires { worker < 2 }
+    {
+        match self.board.snapshot(worker, request)? {
+            Some((base, task)) => Ok(Some(answered::<Brand>(
+                &mut self.bench,
+                base,
+                task,
+                Blank::new(1),
+            )?)),
+            None => Ok(None),
+        }
+    }
+
+    fn commit(
+        &mut self,
+        worker: u32,
+        request: &Request,
+        answer: Answer,
+    ) -> Result<Reply, CommitFault>
+        requires { worker < 2 }
+    {
+        self.board.commit(worker, request, answer)
+    }
+
+    /// The positions in the first level of the present base.
+    fn positions(&self, alloc: Global, worker: u32, request: &Request) -> Result<Flags, Fail>
+        requires { worker < 2 }
+    {
+        match self.board.snapshot(worker, request)? {
+            Some((base, _)) if base.levels().len() > 0 => Ok(base.levels()[0].states.copy()?),
+            _ => Ok(Flags::empty(alloc)),
+        }
+    }
+
+    /// A step of the board, with the bench's answer where the request has a task.
+    fn put(&mut self, worker: u32, request: &Request) -> Result<Reply, Fail>
+        requires { worker < 2 }
+    {
+        match self.board.snapshot(worker, request)? {
+            Some((base, task)) => {
+                let answer = answered::<Brand>(&mut self.bench, base, task, Blank::new(1))?;
+                Ok(self.board.commit(worker, request, answer)?)
+            }
+            None => Ok(self.board.commit_plain(worker, request)?),
+        }
+    }
+
+    /// A step of both, and whether they reply alike.
+    fn agree(&mut self, worker: u32, request: &Request) -> Result<bool, Fail>
+        requires { worker < 2 }
+    {
+        let reply = self.put(worker, request)?;
+        let told = self.world.step(worker, request)?;
+        Ok(reply.same(&told))
+    }
+}
+
+/// The next command of a script, whose cursor moves on.
+fn next<'a>(script: Option<&'a Script>, cursor: &mut usize) -> Option<&'a Request> {
+    let request = script?.get(*cursor);
+    *cursor = cursor.saturating_add(1);
+    request
+}
+
+/// The job of the level with these scripts.
+fn job_of(alloc: Global, scripts: &str) -> Result<Job, Fail> {
+    let bytes = duo_with(alloc, scripts, "]]}")?;
+    Ok(read_job(alloc, bytes.as_slice())?)
+}
+
+// Scripts of two workers, and the order of their steps.
+const RUNS: [(&str, &str); 3] = [
+    (
+        r#"{"do":"clone","from":"InitialState","to":"VA"},{"do":"clone","from":"VA","to":"VB"},{"do":"use","variant":"VA"},{"do":"open","switch":"BC"},{"do":"bus_view","level":"VL"},{"do":"use","variant":"VB"},{"do":"bus_view","level":"VL"}],["#,
+        "0000000",
+    ),
+    (
+        r#"{"do":"clone","from":"InitialState","to":"VB"},{"do":"add_switch","id":"N","level":"VL","kind":"BREAKER","node1":3,"node2":5},{"do":"remove_switch","id":"N"}],[{"do":"use","variant":"VB"},{"do":"open","switch":"BC"},{"do":"bus_view","level":"VL"},{"do":"bus_view","level":"VL"},{"do":"open","switch":"N"}"#,
+        "01110101",
+    ),
+    (
+        r#"{"do":"clone","from":"InitialState","to":"VA"},{"do":"remove","variant":"VA"}],[{"do":"use","variant":"VA"},{"do":"bus_view","level":"VL"}"#,
+        "0101",
+    ),
+];
+
+/// Makes the steps of a job on a board and in a world, in this order.
+fn make(rt: &impl Abort, alloc: Global, scripts: &str, order: &str) -> Result<(), Fail> {
+    let job = job_of(alloc, scripts)?;
+    let mut both = Both::start(alloc, job.network)?;
+    let mut first = 0usize;
+    let mut second = 0usize;
+    for turn in order.bytes() {
+        let worker = u32::from(turn == b'1');
+        let request = if worker == 0 {
+            next(job.scripts.get(0), &mut first)
+        } else {
+            next(job.scripts.get(1), &mut second)
+        };
+        let Some(request) = request else {
+            return Ok(assert!(rt; false));
+        };
+        assert!(rt; both.agree(worker, request)?);
+    }
+    Ok(())
+}
+
+#[test]
+fn a_board_replies_as_a_world(rt: HostRuntime) -> Result<(), Fail> {
+    let alloc = rt.alloc();
+    for (scripts, order) in RUNS {
+        make(&rt, alloc, scripts, order)?;
+    }
+    Ok(())
+}
+
+// A clone in which the coupler is open; then the same in the variant of the second worker, who looks and connects.
+const OUT_OF_DATE: &str =
+    r#"{"do":"clone","from":"InitialState","to":"VA"},{"do":"use","variant":"VA"},{"do":"open","switch":"BC"},{"do":"use","variant":"InitialState"},{"do":"open","switch":"BC"}],[{"do":"bus_view","level":"VL"},{"do":"connect","equipment":"LD"}"#;
+
+/// Makes the commands of a script from one place to another.
+fn put_all(both: &mut Both, script: &[Request]) -> Result<(), Fail> {
+    for request in script {
+        both.put(0, request)?;
+    }
+    Ok(())
+}
+
+#[test]
+fn an_answer_that_is_out_of_date_is_stale(rt: HostRuntime) -> Result<(), Fail> {
+    let alloc = rt.alloc();
+    let job = job_of(alloc, OUT_OF_DATE)?;
+    let mut both = Both::start(alloc, job.network)?;
+    let (Some(before), Some(asked)) = (job.scripts.get(0), job.scripts.get(1)) else {
+        return Ok(assert!(rt; false));
+    };
+    let ([use_clone @ .., back, open], [view, connect]) = (before.slice(), asked.slice()) else {
+        return Ok(assert!(rt; false));
+    };
+    put_all(&mut both, use_clone)?;
+    let opened = both.positions(alloc, 0, view)?;
+    assert_eq!(rt;
+        opened.slice(),
+        [false, true, false, true, false].as_slice()
+    );
+    let closed = both.positions(alloc, 1, view)?;
+    assert_eq!(rt;
+        closed.slice(),
+        [false, true, false, false, false].as_slice()
+    );
+    let (Some(seen), Some(other)) = (both.ask(1, view)?, both.ask(1, view)?) else {
+        return Ok(assert!(rt; false));
+    };
+    assert!(rt; matches!(both.commit(1, connect, other), Err(CommitFault::Stale)));
+    both.put(0, back)?;
+    both.put(0, open)?;
+    assert!(rt; matches!(both.commit(1, view, seen), Err(CommitFault::Stale)));
+    assert_eq!(rt; both.board.length(), 5);
+    Ok(())
+}
