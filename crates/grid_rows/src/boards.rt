@@ -5,7 +5,7 @@ use crate::replays::duo_with;
 use grid_bench::{Answer, Base, Bench, Task};
 use grid_board::{Board, CommitFault};
 use grid_core::{Reply, Request, Script, World};
-use grid_ids::{Duplicate, Same};
+use grid_ids::{Duplicate, Memory, Same};
 use grid_json::{Job, read_job};
 use grid_level::Flags;
 use grid_queue::Steps;
@@ -120,7 +120,11 @@ fn next<'a>(script: Option<&'a Script>, cursor: &mut usize) -> Option<&'a Reques
 /// The job of the level with these scripts.
 fn job_of(alloc: Global, scripts: &str) -> Result<Job, Fail> {
     let bytes = duo_with(alloc, scripts, "]]}")?;
-    Ok(read_job(alloc, bytes.as_slice())?)
+    let job = match read_job(alloc, bytes.as_slice()) {
+        Ok(job) => Ok(job),
+        Err(_) => Err(Memory),
+    };
+    Ok(job?)
 }
 
 // Scripts of two workers, and the order of their steps.
