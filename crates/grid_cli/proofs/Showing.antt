@@ -58,18 +58,23 @@ turns_over scripts k so_far total le all =
 pub stays_order : (job : Job) (order named : List ℕ) (scripts : List (List Request)) → IsOrder job.scripts (order_of job) → order ≡ order_of job → named ≡ order → scripts ≡ job.scripts → IsOrder scripts named
 stays_order job order named scripts is ordered same own = subst (λ s. IsOrder s named) (sym own) (subst (IsOrder job.scripts) (sym (same ∙ ordered)) is)
 
-with_filters : List Filter → List Entry → ℕ → List VariantView → Outcome
+abbrev pub with_filters : List Filter → List Entry → ℕ → List VariantView → Outcome
 with_filters filters journal workers views = record { journal = journal; workers = workers; views = views; filters = filters }
 
-pub came : (job : Job) (order named : List ℕ) (scripts : List (List Request)) (world : History) (journal : List Entry) (workers : ℕ) (views : List VariantView)
-    → order ≡ order_of job → named ≡ order → scripts ≡ job.scripts → world ≡ history_of job.network scripts named
-    → journal ≡ journal_of world.origin world.steps → workers ≡ length job.scripts → views ≡ variant_views world.origin world.steps
-    → ◌≡◌ {A = Outcome} (record { journal = journal; workers = workers; views = views; filters = job.filters }) (outcome_of (history_of job.network job.scripts (order_of job)) job.filters)
-unfolding with_filters outcome_of history_of
-came job order named scripts world journal workers views ordered same own made told many seen =
-    let is : world ≡ history_of job.network job.scripts (order_of job) = made ∙ ap (λ s. history_of job.network s named) own ∙ ap (history_of job.network job.scripts) (same ∙ ordered) in
-    let counted : workers ≡ world.workers = many ∙ sym (ap (λ (h : History). h.workers) is) in
-    ap (λ j. with_filters job.filters j workers views) told
-    ∙ ap (λ n. with_filters job.filters (journal_of world.origin world.steps) n views) counted
-    ∙ ap (with_filters job.filters (journal_of world.origin world.steps) world.workers) seen
-    ∙ ap (λ h. outcome_of h job.filters) is
+-- the world of a job that was run in its order
+pub made_in_order : (job : Job) (order named : List ℕ) (scripts : List (List Request)) (world : History) → order ≡ order_of job → named ≡ order → scripts ≡ job.scripts → world ≡ history_of job.network scripts named
+    → world ≡ history_of job.network job.scripts (order_of job)
+made_in_order job order named scripts world ordered same own made = made ∙ ap (λ s. history_of job.network s named) own ∙ ap (history_of job.network job.scripts) (same ∙ ordered)
+
+pub workers_of_run : (job : Job) (world : History) → world ≡ history_of job.network job.scripts (order_of job) → world.workers ≡ length job.scripts
+unfolding history_of
+workers_of_run job world is = ap (λ (h : History). h.workers) is
+
+-- what came of it
+pub came : (world : History) (filters : List Filter) (journal : List Entry) (workers : ℕ) (views : List VariantView) → journal ≡ journal_of world.origin world.steps → workers ≡ world.workers → views ≡ variant_views world.origin world.steps
+    → with_filters filters journal workers views ≡ outcome_of world filters
+unfolding outcome_of
+came world filters journal workers views told many seen =
+    ap (λ j. with_filters filters j workers views) told
+    ∙ ap (λ n. with_filters filters (journal_of world.origin world.steps) n views) many
+    ∙ ap (with_filters filters (journal_of world.origin world.steps) world.workers) seen
