@@ -78,23 +78,6 @@ fn words_of(rt: &HostRuntime) -> Result<Vec<String>, Status> {
     Ok(words)
 }
 
-fn run(rt: &HostRuntime) -> Status {
-    let words = match words_of(rt) {
-        Ok(words) => words,
-        Err(status) => return status,
-    };
-    let mut source = StdSource::new(rt.reader());
-    let mut sink = StdSink::new(io::writer(rt));
-    grid_cli::grid(
-        rt,
-        rt.alloc(),
-        words.as_slice(),
-        &mut source,
-        &mut sink,
-        &Idle,
-    )
-}
-
 /// Tells a fault on standard error, and how the program is called where that is the fault.
 fn tell(rt: &HostRuntime, fault: &Fault) {
     let _ = eprintln!(rt; "{fault}");
@@ -106,10 +89,29 @@ fn tell(rt: &HostRuntime, fault: &Fault) {
     }
 }
 
-fn main(rt: HostRuntime) -> ExitCode {
-    let (code, fault) = ending(run(&rt));
+/// Tells what a status has to tell, and gives its number.
+fn exit_with(rt: &HostRuntime, status: Status) -> ExitCode {
+    let (code, fault) = ending(status);
     if let Some(fault) = fault {
-        tell(&rt, &fault);
+        tell(rt, &fault);
     }
     ExitCode::from(code)
+}
+
+fn main(rt: HostRuntime) -> ExitCode {
+    let words = match words_of(&rt) {
+        Ok(words) => words,
+        Err(status) => return exit_with(&rt, status),
+    };
+    let mut source = StdSource::new(rt.reader());
+    let mut sink = StdSink::new(io::writer(&rt));
+    let status = grid_cli::grid(
+        &rt,
+        rt.alloc(),
+        words.as_slice(),
+        &mut source,
+        &mut sink,
+        &Idle,
+    );
+    exit_with(&rt, status)
 }
