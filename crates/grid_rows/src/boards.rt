@@ -117,14 +117,19 @@ fn next<'a>(script: Option<&'a Script>, cursor: &mut usize) -> Option<&'a Reques
     request
 }
 
-/// The job of the level with these scripts.
-fn job_of(alloc: Global, scripts: &str) -> Result<Job, Fail> {
-    let bytes = duo_with(alloc, scripts, "]]}")?;
-    let job = match read_job(alloc, bytes.as_slice()) {
+/// The job of these bytes.
+pub(crate) fn read(alloc: Global, bytes: &[u8]) -> Result<Job, Fail> {
+    let job = match read_job(alloc, bytes) {
         Ok(job) => Ok(job),
         Err(_) => Err(Memory),
     };
     Ok(job?)
+}
+
+/// The job of the level with these scripts.
+fn job_of(alloc: Global, scripts: &str) -> Result<Job, Fail> {
+    let bytes = duo_with(alloc, scripts, "]]}")?;
+    read(alloc, bytes.as_slice())
 }
 
 // Scripts of two workers, and the order of their steps.
