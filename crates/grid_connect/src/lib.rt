@@ -38,6 +38,3 @@ pub enum DisconnectPlan {
 pub fn connect_plan_is_least()
     ensures { ConnectPlanIsLeast }
 {}
-
-#[cfg(test)]
-mod tests;

@@ -427,6 +427,3 @@ fn take_two(uses: &mut Uses, a: u16, b: u16)
     uses.take(a);
     uses.take(b);
 }
-
-#[cfg(test)]
-mod tests;
