@@ -35,9 +35,17 @@ fn first_line(report: &str) -> (&str, &str) {
 /// The job with an order in place of none: that of a report's first line.
 fn ordered(alloc: Global, job: &str, line: &str) -> Result<Vec<u8>, Fail> {
     let (front, _end) = job.rsplit_once("}").unwrap_or(("", ""));
-    let (_order, workers) = line.split_once(" ").unwrap_or(("", ""));
-    let order = workers.replace(alloc, " ", ",")?;
-    let text = format!(in alloc; "{front},\"order\":[{order}]}}")?;
+    let mut text = String::from_str(alloc, front)?;
+    text.push_str(",\"order\":[")?;
+    for (place, word) in line.split(" ").enumerate() {
+        if place > 1 {
+            text.push_str(",")?;
+        }
+        if place > 0 {
+            text.push_str(word)?;
+        }
+    }
+    text.push_str("]}")?;
     Ok(text.into_bytes())
 }
 
