@@ -8,7 +8,7 @@ fn texts_that_are_ids(rt: HostRuntime) -> Result<(), Fail> {
     let longer = [b'a'; 129];
     let longest = str::from_utf8(&longest)?;
     let longer = str::from_utf8(&longer)?;
-    assert_eq!(rt; Id::new(alloc, longest)?.text(), longest);
+    assert_eq!(rt; Id::new(alloc, longest)?.copy()?.text(), longest);
     assert_eq!(rt; Id::new(alloc, longer).err(), Some(IdFault::TooLong(129)));
     assert_eq!(rt; Id::new(alloc, "").err(), Some(IdFault::Empty));
     assert_eq!(rt; Id::new(alloc, "a\u{7}b").err(), Some(IdFault::Control(7)));
