@@ -5,29 +5,16 @@ ghost use Rattle.grid_busview.specs.Views.{stand_watts};
 ghost use Rattle.grid_bench.specs.Tasks.{level_of};
 ghost use Rattle.grid_core.specs.Fitting.{StateFits};
 ghost use Rattle.grid_board.specs.Questions as questions;
-ghost use Rattle.grid_board.specs.Questions.{state_seen};
+ghost use Rattle.grid_core.specs.Solo.{state_seen};
 
 use crate::bases::branch_of;
 use crate::tasks::level_of;
 use grid_bench::{Base, BaseLevel, BenchBranch, Task};
+use grid_busview::watts_of;
 use grid_ids::{Same, same_items};
-use grid_kinds::Injection;
-use grid_level::{Level, Placed, Stand};
+use grid_level::{Level, Placed};
 use grid_states::States;
 use grid_structure::{Branch, Structure};
-
-// The watts that a terminal's record gives: `p0` of a load, `target_p` of a generator or a battery, 0 otherwise.
-#[tactic(auto, unfolding(grid_busview::specs::Views::stand_watts, grid_busview::specs::Views::item_watts))]
-fn watts_of(stand: &Stand) -> i64
-    ensures { result ≡ stand_watts stand.now }
-{
-    match stand {
-        Stand::Feeder(Injection::Load { p0, .. }) => *p0,
-        Stand::Feeder(Injection::Generator { target_p, .. }) => *target_p,
-        Stand::Feeder(Injection::Battery { target_p, .. }) => *target_p,
-        _ => 0,
-    }
-}
 
 // Whether the watts are those that the terminals' records give.
 fn same_watts(placed: &[Placed], powers: &[i64]) -> bool

@@ -1,6 +1,6 @@
 use Rattle.std.proofs.Common.{◌≡◌, List, length, get_or, ap, ◌∙◌, rules}
 use Rattle.grid_bench.specs.declared.base.BaseLevel.{BaseLevel}
-use Rattle.grid_board.specs.Questions.{state_seen}
+use Rattle.grid_core.specs.Solo.{state_seen}
 use Rattle.grid_board.proofs.Questioning.{rows_there}
 use Rattle.grid_board.proofs.Compared.{never, alone_shape, alone_part}
 use Rattle.grid_board.proofs.comparing.is_alone.Goals as goal

@@ -1,6 +1,7 @@
 use Rattle.std.proofs.Common.{◌≡◌, ◌<◌, ◌≤◌, length, refl, sym, ap, ◌∙◌, rules, Some}
 use Rattle.std.proofs.lemmas.Option.{slice_get_read}
-use Rattle.grid_board.specs.Questions.{state_seen, part_with, parts_of}
+use Rattle.grid_board.specs.Questions.{part_with, parts_of}
+use Rattle.grid_core.specs.Solo.{state_seen}
 use Rattle.grid_board.proofs.Questioning.{rows_there}
 use Rattle.grid_board.proofs.Compared.{never, always, more, differ, done, part_count, part_at}
 use Rattle.grid_board.proofs.comparing.same_parts.Goals as goal

@@ -1,5 +1,6 @@
 use Rattle.std.proofs.Common.{◌≡◌, take}
-use Rattle.grid_board.specs.Questions.{parts_of, state_seen}
+use Rattle.grid_board.specs.Questions.{parts_of}
+use Rattle.grid_core.specs.Solo.{state_seen}
 use Rattle.grid_board.proofs.comparing.same_parts.Given as goal
 
 -- the first parts are equal
