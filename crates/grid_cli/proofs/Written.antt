@@ -1,5 +1,5 @@
 -- What was read and written, put together.
-use Rattle.std.proofs.Common.{◌≡◌, ◌∙◌, ◌++◌, ℕ, List, Option, None, Some, Result, Ok, Err, refl, ap, sym, subst, inl, inr, take, drop, append_assoc, take-append-drop}
+use Rattle.std.proofs.Common.{◌≡◌, ◌≢◌, ◌∙◌, ◌++◌, ℕ, List, Option, None, Some, Result, Ok, Err, refl, ap, sym, subst, inl, inr, take, drop, append_assoc, take-append-drop}
 use Rattle.std.specs.Prelude.{OnOk, OnErr}
 use Rattle.std.specs.Io.KnownBytes.{Appends, Keeps}
 use Rattle.grid_source.specs.Whole.{IsBegun}
@@ -23,6 +23,12 @@ pub handed : (written : Result (Unit {0}) ReportFault) (text : List ℕ) (old ne
 handed (Ok done) text old new ok err = ok
 handed (Err Stopped) text old new ok err = err
 handed (Err Memory) text old new ok err = err
+
+-- the count of faults stays where the sink is not told to have failed
+pub calm : (written : Result (Unit {0}) ReportFault) (before now : ℕ) → (written ≢ Err Stopped → now ≡ before) → status_after written ≢ statuses.WriteFault → now ≡ before
+calm (Ok done) before now stays told = stays (λ is. absurd (cc))
+calm (Err Stopped) before now stays told = absurd (told refl)
+calm (Err Memory) before now stays told = stays (λ is. absurd (cc))
 
 -- the report of a job that was run
 pub reported : (job : Job) (came : Outcome) (written : Result (Unit {0}) ReportFault) (old new : Option (List ℕ)) → came ≡ outcome_of (history_of job.network job.scripts (order_of job)) job.filters

@@ -21,6 +21,17 @@ use Rattle.grid_cli.specs.Counts.{check_text}
 use Rattle.grid_cli.specs.Orders.{replay_text, IsReport}
 use Rattle.grid_cli.specs.Trials.{trial_text}
 
+-- the program's exit status
+abbrev pub exit_number : Status → ℕ
+exit_number statuses.Done = 0
+exit_number statuses.Usage = 2
+exit_number statuses.ReadFault = 3
+exit_number statuses.TooLong = 4
+exit_number statuses.BadJson = 5
+exit_number (statuses.BadJob place reason) = 6
+exit_number statuses.WriteFault = 7
+exit_number statuses.NoMemory = 8
+
 -- ---- the output
 
 -- what is written for a job on one thread

@@ -1,5 +1,5 @@
 // What a job has, counted.
-ghost use Rattle.std.specs.Prelude.{◌≡◌, ◌≤◌, ◌++◌, OnOk, OnErr, Err, decimal};
+ghost use Rattle.std.specs.Prelude.{◌≡◌, ◌≢◌, ◌≤◌, ◌++◌, OnOk, OnErr, Err, decimal, []};
 ghost use Rattle.std.specs.Io.KnownBytes.{Appends};
 ghost use Rattle.grid_source.specs.Causes.{Rose};
 ghost use Rattle.grid_source.specs.Whole.{IsBegun};
@@ -39,7 +39,8 @@ impl Shown for Counts {
 
 /// Puts a number and the word for what it counts.
 pub(crate) fn put_counted(out: &mut Text, number: u128, word: &str) -> Result<(), Memory>
-    ensures { OnOk result (out.new ≡ out.old ++ decimal number ++ word.now) }
+    ensures ok { OnOk result (out.new ≡ out.old ++ decimal number ++ word.now) }
+    ensures err { OnErr result (out.new ≡ []) }
 {
     out.put_total(number)?;
     out.put(word)
@@ -79,6 +80,7 @@ pub fn write_counts<K: Sink>(alloc: Global, job: &Job, sink: &mut K) -> Result<(
     ensures err { OnErr result (IsBegun (K.written sink.old) (check_text job.now) (K.written sink.new)) }
     ensures later { K.faults sink.old ≤ K.faults sink.new }
     ensures cause { result ≡ Err ReportFault.Stopped → Rose (K.faults sink.old) (K.faults sink.new) }
+    ensures stays { result ≢ Err ReportFault.Stopped → K.faults sink.new ≡ K.faults sink.old }
 {
     write_blocks(alloc, &[counts_of(job)], sink)
 }

@@ -1,12 +1,12 @@
 // The top call on one thread.
-ghost use Rattle.std.specs.Prelude.{◌≡◌, ◌↔◌, ◌≤◌, None, Err, IfOk, IfErr, map, string_bytes};
+ghost use Rattle.std.specs.Prelude.{◌≡◌, ◌≢◌, ◌↔◌, ◌≤◌, None, Err, IfOk, IfErr, map, string_bytes};
 ghost use Rattle.grid_source.specs.Causes.{Rose};
 ghost use Rattle.grid_json.specs.Job.{command_total};
 ghost use Rattle.grid_print.specs.Job.{network_text};
 ghost use Rattle.grid_cli.specs.declared.words.TheConstants.{MOST_SEED, MOST_SIZE};
 ghost use Rattle.grid_cli.specs.Words.{form_alone, ReadsNothing};
 ghost use Rattle.grid_cli.specs.Orders.{IsScheduled, replay_text};
-ghost use Rattle.grid_cli.specs.Once.{Outcome, OutcomeOf, form_for, Exact, Writes, ReadsNoJob, ReadsJob, status_after, text_of, made_text};
+ghost use Rattle.grid_cli.specs.Once.{Outcome, OutcomeOf, form_for, Exact, Writes, ReadsNoJob, ReadsJob, status_after, text_of, made_text, exit_number};
 
 use crate::counts::write_counts;
 use crate::running::run_job;
@@ -42,6 +42,24 @@ pub enum Status {
     NoMemory,
 }
 
+impl Status {
+    /// The program's exit status. The numbers are this project's own.
+    pub fn number(&self) -> u8
+        ensures { result ≡ exit_number self.now }
+    {
+        match self {
+            Status::Done => 0,
+            Status::Usage => 2,
+            Status::ReadFault => 3,
+            Status::TooLong => 4,
+            Status::BadJson => 5,
+            Status::BadJob { .. } => 6,
+            Status::WriteFault => 7,
+            Status::NoMemory => 8,
+        }
+    }
+}
+
 /// Does what the words ask for, from the source to the sink, on the calling thread. It serves every form but `run`, which is
 /// Usage here as words of no form are. It takes no lock.
 pub fn grid_once<S: Source, K: Sink>(
@@ -60,7 +78,9 @@ pub fn grid_once<S: Source, K: Sink>(
     ensures exact { Exact (form_alone (map string_bytes words.now)) (S.left source.old) result }
 
     ensures read_fault { result ≡ Status.ReadFault → Rose (S.faults source.old) (S.faults source.new) }
+    ensures reads_stay { result ≢ Status.ReadFault → S.faults source.new ≡ S.faults source.old }
     ensures write_fault { result ≡ Status.WriteFault → Rose (K.faults sink.old) (K.faults sink.new) }
+    ensures writes_stay { result ≢ Status.WriteFault → K.faults sink.new ≡ K.faults sink.old }
     ensures untouched { ReadsNothing (form_alone (map string_bytes words.now)) → S.faults source.new ≡ S.faults source.old }
 {
     run(alloc, words, source, sink)
@@ -72,7 +92,9 @@ fn run<S: Source, K: Sink>(alloc: Global, words: &[String], source: &mut S, sink
     ensures outcome { Outcome (form_alone (map string_bytes words.now)) (S.left source.old)
         (S.left source.new) (K.written sink.old) (K.written sink.new) result }
     ensures read_fault { result ≡ Status.ReadFault → Rose (S.faults source.old) (S.faults source.new) }
+    ensures reads_stay { result ≢ Status.ReadFault → S.faults source.new ≡ S.faults source.old }
     ensures write_fault { result ≡ Status.WriteFault → Rose (K.faults sink.old) (K.faults sink.new) }
+    ensures writes_stay { result ≢ Status.WriteFault → K.faults sink.new ≡ K.faults sink.old }
     ensures untouched { ReadsNothing (form_alone (map string_bytes words.now)) → S.faults source.new ≡ S.faults source.old }
 {
     let Some(form) = read_words(words) else {
@@ -106,7 +128,9 @@ fn read_and_answer<S: Source, K: Sink>(
 ) -> Status
     ensures outcome { OutcomeOf (form_for wanted) (S.left source.old) (S.left source.new) (K.written sink.old) (K.written sink.new) result }
     ensures read_fault { result ≡ Status.ReadFault → Rose (S.faults source.old) (S.faults source.new) }
+    ensures reads_stay { result ≢ Status.ReadFault → S.faults source.new ≡ S.faults source.old }
     ensures write_fault { result ≡ Status.WriteFault → Rose (K.faults sink.old) (K.faults sink.new) }
+    ensures writes_stay { result ≢ Status.WriteFault → K.faults sink.new ≡ K.faults sink.old }
 {
     match read_from(alloc, source) {
         Ok(job) => write_answer(alloc, wanted, job, sink),
@@ -121,6 +145,7 @@ pub(crate) fn read_from<S: Source>(alloc: Global, source: &mut S) -> Result<Job,
     ensures scheduled { IfOk result IsScheduled }
     ensures none { IfErr result (ReadsNoJob (S.left source.old) (S.left source.new)) }
     ensures fault { result ≡ Err Status.ReadFault → Rose (S.faults source.old) (S.faults source.new) }
+    ensures stays { result ≢ Err Status.ReadFault → S.faults source.new ≡ S.faults source.old }
 {
     let bytes = match read_all(alloc, source) {
         Ok(bytes) => bytes,
@@ -137,12 +162,13 @@ pub(crate) fn read_from<S: Source>(alloc: Global, source: &mut S) -> Result<Job,
 }
 
 // Writes what is written for a job.
-#[tactic(auto, unfolding(crate::specs::Once::text_of), using(crate::proofs::Written::handed))]
+#[tactic(auto, unfolding(crate::specs::Once::text_of), using(crate::proofs::Written::handed, crate::proofs::Written::calm))]
 fn write_answer<K: Sink>(alloc: Global, wanted: Answer, job: Job, sink: &mut K) -> Status
     requires few { command_total job.scripts ≤ 20000 }
     requires scheduled { IsScheduled job }
     ensures written { Writes (text_of wanted job) (K.written sink.old) (K.written sink.new) result }
     ensures fault { result ≡ Status.WriteFault → Rose (K.faults sink.old) (K.faults sink.new) }
+    ensures stays { result ≢ Status.WriteFault → K.faults sink.new ≡ K.faults sink.old }
 {
     match wanted {
         Answer::Counts => status_of(write_counts(alloc, &job, sink)),
@@ -156,6 +182,7 @@ fn write_answer<K: Sink>(alloc: Global, wanted: Answer, job: Job, sink: &mut K) 
 fn print<K: Sink>(alloc: Global, network: &Structure, sink: &mut K) -> Status
     ensures written { Writes (network_text network.now) (K.written sink.old) (K.written sink.new) result }
     ensures fault { result ≡ Status.WriteFault → Rose (K.faults sink.old) (K.faults sink.new) }
+    ensures stays { result ≢ Status.WriteFault → K.faults sink.new ≡ K.faults sink.old }
 {
     match print_network(alloc, network) {
         Ok(bytes) => hand_over(bytes.as_slice(), sink),
@@ -183,6 +210,7 @@ fn make<K: Sink>(alloc: Global, seed: u32, size: u32, sink: &mut K) -> Status
     requires few { size ≤ MOST_SIZE }
     ensures written { Writes (made_text seed size) (K.written sink.old) (K.written sink.new) result }
     ensures fault { result ≡ Status.WriteFault → Rose (K.faults sink.old) (K.faults sink.new) }
+    ensures stays { result ≢ Status.WriteFault → K.faults sink.new ≡ K.faults sink.old }
 {
     match made_bytes(alloc, seed, size) {
         Ok(bytes) => hand_over(bytes.as_slice(), sink),
@@ -195,6 +223,7 @@ fn make<K: Sink>(alloc: Global, seed: u32, size: u32, sink: &mut K) -> Status
 fn hand_over<K: Sink>(bytes: &[u8], sink: &mut K) -> Status
     ensures written { Writes bytes.now (K.written sink.old) (K.written sink.new) result }
     ensures fault { result ≡ Status.WriteFault → Rose (K.faults sink.old) (K.faults sink.new) }
+    ensures stays { result ≢ Status.WriteFault → K.faults sink.new ≡ K.faults sink.old }
 {
     match write_all(sink, bytes) {
         Ok(()) => Status::Done,
@@ -203,11 +232,12 @@ fn hand_over<K: Sink>(bytes: &[u8], sink: &mut K) -> Status
 }
 
 // Runs a job in its order, and writes its report.
-#[tactic(auto, using(grid_report::proofs::Begun::at_start))]
+#[tactic(auto, using(grid_report::proofs::Begun::at_start, crate::proofs::Written::calm))]
 fn replay<K: Sink>(alloc: Global, job: Job, sink: &mut K) -> Status
     requires { IsScheduled job }
     ensures written { Writes (replay_text job) (K.written sink.old) (K.written sink.new) result }
     ensures fault { result ≡ Status.WriteFault → Rose (K.faults sink.old) (K.faults sink.new) }
+    ensures stays { result ≢ Status.WriteFault → K.faults sink.new ≡ K.faults sink.old }
 {
     match run_job(alloc, job) {
         Ok(outcome) => status_of(write_report(alloc, &outcome, sink)),

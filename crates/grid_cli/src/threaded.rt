@@ -1,5 +1,5 @@
 // The top call, and the form `run`: workers on threads of their own.
-ghost use Rattle.std.specs.Prelude.{◌≡◌, ◌↔◌, None, Some, IsTrue, IsFalse, IfOk, map, string_bytes};
+ghost use Rattle.std.specs.Prelude.{◌≡◌, ◌≢◌, ◌↔◌, None, Some, IsTrue, IsFalse, IfOk, map, string_bytes};
 ghost use Rattle.grid_source.specs.Causes.{Rose};
 ghost use Rattle.grid_cli.specs.Words.{form_of, on_one_thread, ReadsNothing};
 ghost use Rattle.grid_cli.specs.Orders.{IsScheduled};
@@ -41,7 +41,9 @@ pub fn grid<R: Threads + Wait + Sync, S: Source, K: Sink, G: Gate>(
     ensures exact { Exact (form_of (map string_bytes words.now)) (S.left source.old) result }
 
     ensures read_fault { result ≡ Status.ReadFault → Rose (S.faults source.old) (S.faults source.new) }
+    ensures reads_stay { result ≢ Status.ReadFault → S.faults source.new ≡ S.faults source.old }
     ensures write_fault { result ≡ Status.WriteFault → Rose (K.faults sink.old) (K.faults sink.new) }
+    ensures writes_stay { result ≢ Status.WriteFault → K.faults sink.new ≡ K.faults sink.old }
     ensures untouched { ReadsNothing (form_of (map string_bytes words.now)) → S.faults source.new ≡ S.faults source.old }
 {
     if is_run(read_words(words)) {
@@ -74,7 +76,9 @@ fn read_and_run<R: Threads + Wait + Sync, S: Source, K: Sink, G: Gate>(
 ) -> Status
     ensures outcome { OutcomeOf Form.Run (S.left source.old) (S.left source.new) (K.written sink.old) (K.written sink.new) result }
     ensures read_fault { result ≡ Status.ReadFault → Rose (S.faults source.old) (S.faults source.new) }
+    ensures reads_stay { result ≢ Status.ReadFault → S.faults source.new ≡ S.faults source.old }
     ensures write_fault { result ≡ Status.WriteFault → Rose (K.faults sink.old) (K.faults sink.new) }
+    ensures writes_stay { result ≢ Status.WriteFault → K.faults sink.new ≡ K.faults sink.old }
 {
     match read_from(alloc, source) {
         Ok(job) => write_run(rt, alloc, job, sink, gate),
@@ -83,7 +87,7 @@ fn read_and_run<R: Threads + Wait + Sync, S: Source, K: Sink, G: Gate>(
 }
 
 // Runs a job on threads, and writes its report.
-#[tactic(auto, using(crate::proofs::Threading::unwritten, crate::proofs::Threading::reported))]
+#[tactic(auto, using(crate::proofs::Threading::unwritten, crate::proofs::Threading::reported, crate::proofs::Written::calm))]
 fn write_run<R: Threads + Wait + Sync, K: Sink, G: Gate>(
     rt: &R,
     alloc: Global,
@@ -94,6 +98,7 @@ fn write_run<R: Threads + Wait + Sync, K: Sink, G: Gate>(
     requires { IsScheduled job }
     ensures written { WritesReport job (K.written sink.old) (K.written sink.new) result }
     ensures fault { result ≡ Status.WriteFault → Rose (K.faults sink.old) (K.faults sink.new) }
+    ensures stays { result ≢ Status.WriteFault → K.faults sink.new ≡ K.faults sink.old }
 {
     match run_job_on_threads(rt, alloc, job, gate) {
         Ok(outcome) => status_of(write_report(alloc, &outcome, sink)),

@@ -1,5 +1,5 @@
 // A trial: the made job, run in its order, and counted.
-ghost use Rattle.std.specs.Prelude.{◌≡◌, ◌++◌, ◌≤◌, ◌<◌, ◌^◌, ◌*◌, All, length, sum_by, count_by, IfOk, OnOk, OnErr, Err};
+ghost use Rattle.std.specs.Prelude.{◌≡◌, ◌≢◌, ◌++◌, ◌≤◌, ◌<◌, ◌^◌, ◌*◌, All, length, sum_by, count_by, IfOk, OnOk, OnErr, Err, []};
 ghost use Rattle.std.specs.Io.KnownBytes.{Appends};
 ghost use Rattle.grid_source.specs.Causes.{Rose};
 ghost use Rattle.grid_source.specs.Whole.{IsBegun};
@@ -47,7 +47,8 @@ impl Shown for Trial {
 
 /// Puts which trial it is.
 fn put_head(out: &mut Text, seed: u32, size: u32) -> Result<(), Memory>
-    ensures { OnOk result (out.new ≡ out.old ++ trial_head seed size) }
+    ensures ok { OnOk result (out.new ≡ out.old ++ trial_head seed size) }
+    ensures err { OnErr result (out.new ≡ []) }
 {
     out.put("trial ")?;
     put_counted(out, u128::from(seed), " ")?;
@@ -145,6 +146,7 @@ pub fn write_trial<K: Sink>(
     ensures err { OnErr result (IsBegun (K.written sink.old) (trial_text seed size) (K.written sink.new)) }
     ensures later { K.faults sink.old ≤ K.faults sink.new }
     ensures cause { result ≡ Err ReportFault.Stopped → Rose (K.faults sink.old) (K.faults sink.new) }
+    ensures stays { result ≢ Err ReportFault.Stopped → K.faults sink.new ≡ K.faults sink.old }
 {
     let trial = run_trial(alloc, seed, size)?;
     write_blocks(alloc, &[trial], sink)

@@ -1,5 +1,5 @@
 // The lines of buses.
-ghost use Rattle.std.specs.Prelude.{◌≡◌, ◌++◌, OnOk};
+ghost use Rattle.std.specs.Prelude.{◌≡◌, ◌++◌, OnOk, OnErr, []};
 ghost use Rattle.grid_report.specs.Lines.{bus_name, terminals_text, bus_text, flows_text, bus_line, bus_lines, count_text, level_text};
 
 use crate::text::{Shown, Text, put_spaced};
@@ -20,8 +20,9 @@ impl Shown for Terminal {
 }
 
 /// Puts the name of a bus: its level's id and its least node.
-pub fn put_bus_name(out: &mut Text, level: &Id, least: u16) -> Result<(), Memory>
-    ensures { OnOk result (out.new ≡ out.old ++ bus_name level.now least) }
+pub(crate) fn put_bus_name(out: &mut Text, level: &Id, least: u16) -> Result<(), Memory>
+    ensures ok { OnOk result (out.new ≡ out.old ++ bus_name level.now least) }
+    ensures err { OnErr result (out.new ≡ []) }
 {
     out.put(level.text())?;
     out.put("_")?;
@@ -29,7 +30,8 @@ pub fn put_bus_name(out: &mut Text, level: &Id, least: u16) -> Result<(), Memory
 }
 
 fn put_terminals(out: &mut Text, terminals: &[Terminal]) -> Result<(), Memory>
-    ensures { OnOk result (out.new ≡ out.old ++ terminals_text terminals.now) }
+    ensures ok { OnOk result (out.new ≡ out.old ++ terminals_text terminals.now) }
+    ensures err { OnErr result (out.new ≡ []) }
 {
     if terminals.is_empty() {
         out.put(" -")
@@ -39,7 +41,8 @@ fn put_terminals(out: &mut Text, terminals: &[Terminal]) -> Result<(), Memory>
 }
 
 fn put_flows(out: &mut Text, load: &i128, generation: &i128) -> Result<(), Memory>
-    ensures { OnOk result (out.new ≡ out.old ++ flows_text load.now generation.now) }
+    ensures ok { OnOk result (out.new ≡ out.old ++ flows_text load.now generation.now) }
+    ensures err { OnErr result (out.new ≡ []) }
 {
     out.put(" | load ")?;
     out.put_signed(load)?;
@@ -57,7 +60,8 @@ pub(crate) fn put_bus(
     nodes: &[u16],
     terminals: &[Terminal],
 ) -> Result<(), Memory>
-    ensures { OnOk result (out.new ≡ out.old ++ bus_text level.now least nodes.now terminals.now) }
+    ensures ok { OnOk result (out.new ≡ out.old ++ bus_text level.now least nodes.now terminals.now) }
+    ensures err { OnErr result (out.new ≡ []) }
 {
     out.put("  bus ")?;
     put_bus_name(out, level, least)?;
@@ -69,7 +73,8 @@ pub(crate) fn put_bus(
 
 /// Puts the line of a bus of a bus view.
 fn put_bus_line(out: &mut Text, level: &Id, bus: &ViewBus) -> Result<(), Memory>
-    ensures { OnOk result (out.new ≡ out.old ++ bus_line level.now bus.now) }
+    ensures ok { OnOk result (out.new ≡ out.old ++ bus_line level.now bus.now) }
+    ensures err { OnErr result (out.new ≡ []) }
 {
     put_bus(
         out,
@@ -83,8 +88,9 @@ fn put_bus_line(out: &mut Text, level: &Id, bus: &ViewBus) -> Result<(), Memory>
 
 /// Puts the line of each bus of a view.
 #[tactic(auto, unfolding(crate::specs::Lines::bus_lines))]
-pub fn put_buses(out: &mut Text, view: &BusView) -> Result<(), Memory>
-    ensures { OnOk result (out.new ≡ out.old ++ bus_lines view.now) }
+pub(crate) fn put_buses(out: &mut Text, view: &BusView) -> Result<(), Memory>
+    ensures ok { OnOk result (out.new ≡ out.old ++ bus_lines view.now) }
+    ensures err { OnErr result (out.new ≡ []) }
 {
     for bus in view.buses.slice() {
         put_bus_line(out, &view.level, bus)?;
@@ -93,8 +99,9 @@ pub fn put_buses(out: &mut Text, view: &BusView) -> Result<(), Memory>
 }
 
 /// Puts how many buses a view has.
-pub fn put_count(out: &mut Text, view: &BusView) -> Result<(), Memory>
-    ensures { OnOk result (out.new ≡ out.old ++ count_text view.now) }
+pub(crate) fn put_count(out: &mut Text, view: &BusView) -> Result<(), Memory>
+    ensures ok { OnOk result (out.new ≡ out.old ++ count_text view.now) }
+    ensures err { OnErr result (out.new ≡ []) }
 {
     out.put_unsigned(view.buses.len() as u64)?;
     out.put(" buses")
@@ -102,8 +109,9 @@ pub fn put_count(out: &mut Text, view: &BusView) -> Result<(), Memory>
 
 /// Puts a level's line with its buses.
 #[tactic(auto, unfolding(crate::specs::Lines::level_text))]
-pub fn put_level(out: &mut Text, view: &BusView) -> Result<(), Memory>
-    ensures { OnOk result (out.new ≡ out.old ++ level_text view.now) }
+pub(crate) fn put_level(out: &mut Text, view: &BusView) -> Result<(), Memory>
+    ensures ok { OnOk result (out.new ≡ out.old ++ level_text view.now) }
+    ensures err { OnErr result (out.new ≡ []) }
 {
     out.put("level ")?;
     out.put(view.level.text())?;

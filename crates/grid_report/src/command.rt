@@ -1,5 +1,5 @@
 // What was asked, by its words.
-ghost use Rattle.std.specs.Prelude.{◌≡◌, ◌++◌, OnOk, codes};
+ghost use Rattle.std.specs.Prelude.{◌≡◌, ◌++◌, OnOk, codes, OnErr, []};
 ghost use Rattle.grid_report.specs.Words.{behind};
 ghost use Rattle.grid_report.specs.Commands.{edit_text, retained_text, overwrite_text, command_text};
 
@@ -16,7 +16,8 @@ fn put_internal(
     node1: &i64,
     node2: &i64,
 ) -> Result<(), Memory>
-    ensures { OnOk result (out.new ≡ out.old ++ (word.now ++ level.now ++ behind node1.now ++ behind node2.now)) }
+    ensures ok { OnOk result (out.new ≡ out.old ++ (word.now ++ level.now ++ behind node1.now ++ behind node2.now)) }
+    ensures err { OnErr result (out.new ≡ []) }
 {
     put_named(out, word, level)?;
     put_pair(out, node1, node2)
@@ -24,7 +25,8 @@ fn put_internal(
 
 #[tactic(auto, unfolding(crate::specs::Commands::edit_text))]
 fn put_edit(out: &mut Text, edit: &Edit) -> Result<(), Memory>
-    ensures { OnOk result (out.new ≡ out.old ++ edit_text edit.now) }
+    ensures ok { OnOk result (out.new ≡ out.old ++ edit_text edit.now) }
+    ensures err { OnErr result (out.new ≡ []) }
 {
     match edit {
         Edit::AddSubstation { id } => put_named(out, "add_substation ", id),
@@ -50,7 +52,8 @@ fn put_edit(out: &mut Text, edit: &Edit) -> Result<(), Memory>
 
 #[tactic(auto, unfolding(crate::specs::Commands::retained_text))]
 fn put_retained(out: &mut Text, id: &Id, retained: bool) -> Result<(), Memory>
-    ensures { OnOk result (out.new ≡ out.old ++ (codes "retain " ++ id.now ++ retained_text retained)) }
+    ensures ok { OnOk result (out.new ≡ out.old ++ (codes "retain " ++ id.now ++ retained_text retained)) }
+    ensures err { OnErr result (out.new ≡ []) }
 {
     put_named(out, "retain ", id)?;
     if retained {
@@ -62,7 +65,8 @@ fn put_retained(out: &mut Text, id: &Id, retained: bool) -> Result<(), Memory>
 
 /// Puts the words of a command on one side of an equipment.
 fn put_side(out: &mut Text, word: &str, id: &Id, side: &i64) -> Result<(), Memory>
-    ensures { OnOk result (out.new ≡ out.old ++ (word.now ++ id.now ++ behind side.now)) }
+    ensures ok { OnOk result (out.new ≡ out.old ++ (word.now ++ id.now ++ behind side.now)) }
+    ensures err { OnErr result (out.new ≡ []) }
 {
     put_named(out, word, id)?;
     put_behind(out, side)
@@ -70,7 +74,8 @@ fn put_side(out: &mut Text, word: &str, id: &Id, side: &i64) -> Result<(), Memor
 
 #[tactic(auto, unfolding(crate::specs::Commands::overwrite_text))]
 fn put_clone(out: &mut Text, from: &Id, to: &Id, overwrite: bool) -> Result<(), Memory>
-    ensures { OnOk result (out.new ≡ out.old ++ (codes "clone " ++ from.now ++ codes " " ++ to.now ++ overwrite_text overwrite)) }
+    ensures ok { OnOk result (out.new ≡ out.old ++ (codes "clone " ++ from.now ++ codes " " ++ to.now ++ overwrite_text overwrite)) }
+    ensures err { OnErr result (out.new ≡ []) }
 {
     put_named(out, "clone ", from)?;
     put_named(out, " ", to)?;
@@ -84,7 +89,8 @@ fn put_clone(out: &mut Text, from: &Id, to: &Id, overwrite: bool) -> Result<(), 
 /// Puts a command by its words.
 #[tactic(auto, unfolding(crate::specs::Commands::command_text))]
 pub(crate) fn put_command(out: &mut Text, request: &Request) -> Result<(), Memory>
-    ensures { OnOk result (out.new ≡ out.old ++ command_text request.now) }
+    ensures ok { OnOk result (out.new ≡ out.old ++ command_text request.now) }
+    ensures err { OnErr result (out.new ≡ []) }
 {
     match request {
         Request::UseVariant { name } => put_named(out, "use ", name),

@@ -1,5 +1,5 @@
 // What listeners were told.
-ghost use Rattle.std.specs.Prelude.{◌≡◌, ◌++◌, OnOk, codes};
+ghost use Rattle.std.specs.Prelude.{◌≡◌, ◌++◌, OnOk, codes, OnErr, []};
 ghost use Rattle.grid_report.specs.Events.{moved_text, event_text, event_line};
 
 use crate::text::{Text, put_named};
@@ -8,7 +8,8 @@ use grid_ids::{Id, Memory};
 
 #[tactic(auto, unfolding(crate::specs::Events::moved_text))]
 fn put_update(out: &mut Text, variant: &Id, switch: &Id, opened: bool) -> Result<(), Memory>
-    ensures { OnOk result (out.new ≡ out.old ++ (codes "updated " ++ variant.now ++ codes " " ++ switch.now ++ moved_text opened)) }
+    ensures ok { OnOk result (out.new ≡ out.old ++ (codes "updated " ++ variant.now ++ codes " " ++ switch.now ++ moved_text opened)) }
+    ensures err { OnErr result (out.new ≡ []) }
 {
     put_named(out, "updated ", variant)?;
     put_named(out, " ", switch)?;
@@ -21,7 +22,8 @@ fn put_update(out: &mut Text, variant: &Id, switch: &Id, opened: bool) -> Result
 
 /// Puts a word and two variants.
 fn put_made(out: &mut Text, word: &str, from: &Id, to: &Id) -> Result<(), Memory>
-    ensures { OnOk result (out.new ≡ out.old ++ (word.now ++ from.now ++ codes " to " ++ to.now)) }
+    ensures ok { OnOk result (out.new ≡ out.old ++ (word.now ++ from.now ++ codes " to " ++ to.now)) }
+    ensures err { OnErr result (out.new ≡ []) }
 {
     put_named(out, word, from)?;
     put_named(out, " to ", to)
@@ -29,7 +31,8 @@ fn put_made(out: &mut Text, word: &str, from: &Id, to: &Id) -> Result<(), Memory
 
 #[tactic(auto, unfolding(crate::specs::Events::event_text))]
 fn put_event(out: &mut Text, event: &Event) -> Result<(), Memory>
-    ensures { OnOk result (out.new ≡ out.old ++ event_text event.now) }
+    ensures ok { OnOk result (out.new ≡ out.old ++ event_text event.now) }
+    ensures err { OnErr result (out.new ≡ []) }
 {
     match event {
         Event::Created { id } => put_named(out, "created ", id),
@@ -48,7 +51,8 @@ fn put_event(out: &mut Text, event: &Event) -> Result<(), Memory>
 /// Puts the line of an event.
 #[tactic(auto, unfolding(crate::specs::Events::event_line))]
 pub(crate) fn put_event_line(out: &mut Text, event: &Event) -> Result<(), Memory>
-    ensures { OnOk result (out.new ≡ out.old ++ event_line event.now) }
+    ensures ok { OnOk result (out.new ≡ out.old ++ event_line event.now) }
+    ensures err { OnErr result (out.new ≡ []) }
 {
     put_event(out, event)?;
     out.put("\n")

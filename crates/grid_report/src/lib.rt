@@ -13,8 +13,7 @@ mod reply;
 mod report;
 mod text;
 
-pub use bus::{put_bus_name, put_buses, put_count, put_level};
 pub use outcome::{BusViews, Outcome, VariantView, VariantViews};
 pub use pieces::{PIECE, Pieces, ReportFault};
 pub use report::{write_blocks, write_report};
-pub use text::{Shown, Text, put_spaced};
+pub use text::{Shown, Text};

@@ -1,5 +1,5 @@
 // Bytes that are handed to a sink in pieces of one size.
-ghost use Rattle.std.specs.Prelude.{◌≡◌, ◌<◌, ◌≤◌, ℕ, List, [], length, take, OnOk, OnErr, Err};
+ghost use Rattle.std.specs.Prelude.{◌≡◌, ◌≢◌, ◌<◌, ◌≤◌, ℕ, List, [], length, take, OnOk, OnErr, Err};
 ghost use Rattle.std.specs.Io.KnownBytes.{Appends, append_known};
 ghost use Rattle.grid_source.specs.Causes.{Rose};
 ghost use Rattle.grid_source.specs.Whole.{IsBegun};
@@ -64,6 +64,7 @@ impl Pieces {
             (K.written sink.new)) }
         ensures later { K.faults sink.old ≤ K.faults sink.new }
         ensures cause { result ≡ Err ReportFault.Stopped → Rose (K.faults sink.old) (K.faults sink.new) }
+        ensures stays { result ≢ Err ReportFault.Stopped → K.faults sink.new ≡ K.faults sink.old }
     {
         put_into(&mut self.buffer, sink, bytes)
     }
@@ -75,6 +76,7 @@ impl Pieces {
         ensures err { OnErr result ((done : ℕ) × Appends (K.written sink.old) (K.written sink.new) (take done self.old)) }
         ensures later { K.faults sink.old ≤ K.faults sink.new }
         ensures cause { OnErr result (Rose (K.faults sink.old) (K.faults sink.new)) }
+        ensures stays { result ≢ Err ReportFault.Stopped → K.faults sink.new ≡ K.faults sink.old }
     {
         hand_over(&mut self.buffer, sink)
     }
@@ -90,6 +92,7 @@ fn put_into<K: Sink>(buffer: &mut Vec<u8>, sink: &mut K, bytes: &[u8]) -> Result
         bytes.now (K.written sink.new)) }
     ensures later { K.faults sink.old ≤ K.faults sink.new }
     ensures cause { result ≡ Err ReportFault.Stopped → Rose (K.faults sink.old) (K.faults sink.new) }
+    ensures stays { result ≢ Err ReportFault.Stopped → K.faults sink.new ≡ K.faults sink.old }
 {
     let mut rest = bytes;
     while !rest.is_empty() {
@@ -114,6 +117,7 @@ fn hand_over<K: Sink>(buffer: &mut Vec<u8>, sink: &mut K) -> Result<(), ReportFa
     ensures err { OnErr result ((done : ℕ) × Appends (K.written sink.old) (K.written sink.new) (take done buffer.old.items)) }
     ensures later { K.faults sink.old ≤ K.faults sink.new }
     ensures cause { OnErr result (Rose (K.faults sink.old) (K.faults sink.new)) }
+    ensures stays { result ≢ Err ReportFault.Stopped → K.faults sink.new ≡ K.faults sink.old }
 {
     let handed = write_all(sink, buffer.as_slice());
     buffer.clear();

@@ -1,5 +1,5 @@
 // The parts of a report, in order.
-ghost use Rattle.std.specs.Prelude.{◌≡◌, ◌++◌, OnOk, IfOk, filter, codes, decimal};
+ghost use Rattle.std.specs.Prelude.{◌≡◌, ◌++◌, OnOk, IfOk, filter, codes, decimal, OnErr, []};
 ghost use Rattle.std.specs.List.{flat_map, range_with_len};
 ghost use Rattle.grid_events.specs.Filters.{matches};
 ghost use Rattle.grid_report.specs.Lines.{level_text};
@@ -61,7 +61,8 @@ impl Shown for Block<'_> {
 
 /// Puts the worker of each step, behind a space.
 fn put_workers(out: &mut Text, journal: &[Entry]) -> Result<(), Memory>
-    ensures { OnOk result (out.new ≡ out.old ++ flat_map (λ e. codes " " ++ decimal e.worker) journal.now) }
+    ensures ok { OnOk result (out.new ≡ out.old ++ flat_map (λ e. codes " " ++ decimal e.worker) journal.now) }
+    ensures err { OnErr result (out.new ≡ []) }
 {
     for entry in journal {
         out.put(" ")?;
@@ -72,7 +73,8 @@ fn put_workers(out: &mut Text, journal: &[Entry]) -> Result<(), Memory>
 
 #[tactic(auto, unfolding(crate::specs::Outcomes::order_line))]
 fn put_order(out: &mut Text, journal: &[Entry]) -> Result<(), Memory>
-    ensures { OnOk result (out.new ≡ out.old ++ order_line journal.now) }
+    ensures ok { OnOk result (out.new ≡ out.old ++ order_line journal.now) }
+    ensures err { OnErr result (out.new ≡ []) }
 {
     out.put("order")?;
     put_workers(out, journal)?;
@@ -81,7 +83,8 @@ fn put_order(out: &mut Text, journal: &[Entry]) -> Result<(), Memory>
 
 #[tactic(auto, unfolding(crate::specs::Outcomes::worker_line))]
 fn put_worker(out: &mut Text, worker: u32) -> Result<(), Memory>
-    ensures { OnOk result (out.new ≡ out.old ++ worker_line worker) }
+    ensures ok { OnOk result (out.new ≡ out.old ++ worker_line worker) }
+    ensures err { OnErr result (out.new ≡ []) }
 {
     out.put("worker ")?;
     out.put_unsigned(u64::from(worker))?;
@@ -90,7 +93,8 @@ fn put_worker(out: &mut Text, worker: u32) -> Result<(), Memory>
 
 #[tactic(auto, unfolding(crate::specs::Outcomes::step_text))]
 fn put_step(out: &mut Text, number: u64, entry: &Entry) -> Result<(), Memory>
-    ensures { OnOk result (out.new ≡ out.old ++ step_text number entry.now) }
+    ensures ok { OnOk result (out.new ≡ out.old ++ step_text number entry.now) }
+    ensures err { OnErr result (out.new ≡ []) }
 {
     out.put_unsigned(number)?;
     put_named(out, " ", &entry.variant)?;
@@ -104,7 +108,8 @@ fn put_step(out: &mut Text, number: u64, entry: &Entry) -> Result<(), Memory>
 
 #[tactic(auto, unfolding(crate::specs::Outcomes::variant_line))]
 fn put_variant(out: &mut Text, name: &Id) -> Result<(), Memory>
-    ensures { OnOk result (out.new ≡ out.old ++ variant_line name.now) }
+    ensures ok { OnOk result (out.new ≡ out.old ++ variant_line name.now) }
+    ensures err { OnErr result (out.new ≡ []) }
 {
     put_named(out, "variant ", name)?;
     out.put("\n")
@@ -112,7 +117,8 @@ fn put_variant(out: &mut Text, name: &Id) -> Result<(), Memory>
 
 #[tactic(auto, unfolding(crate::specs::Outcomes::listener_line))]
 fn put_listener(out: &mut Text, number: u64) -> Result<(), Memory>
-    ensures { OnOk result (out.new ≡ out.old ++ listener_line number) }
+    ensures ok { OnOk result (out.new ≡ out.old ++ listener_line number) }
+    ensures err { OnErr result (out.new ≡ []) }
 {
     out.put("listener ")?;
     out.put_unsigned(number)?;

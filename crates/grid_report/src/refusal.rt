@@ -1,5 +1,5 @@
 // Why something was refused.
-ghost use Rattle.std.specs.Prelude.{◌≡◌, ◌++◌, OnOk};
+ghost use Rattle.std.specs.Prelude.{◌≡◌, ◌++◌, OnOk, OnErr, []};
 ghost use Rattle.grid_report.specs.Words.{behind};
 ghost use Rattle.grid_report.specs.Refusals.{check_text, fault_text, refusal_text};
 
@@ -11,7 +11,8 @@ use grid_structure::EditFault;
 
 /// Puts a text, and two numbers behind it.
 fn put_bound(out: &mut Text, text: &str, found: &i64, bound: &i64) -> Result<(), Memory>
-    ensures { OnOk result (out.new ≡ out.old ++ (text.now ++ behind found.now ++ behind bound.now)) }
+    ensures ok { OnOk result (out.new ≡ out.old ++ (text.now ++ behind found.now ++ behind bound.now)) }
+    ensures err { OnErr result (out.new ≡ []) }
 {
     out.put(text)?;
     put_pair(out, found, bound)
@@ -19,7 +20,8 @@ fn put_bound(out: &mut Text, text: &str, found: &i64, bound: &i64) -> Result<(),
 
 #[tactic(auto, unfolding(crate::specs::Refusals::check_text))]
 fn put_check(out: &mut Text, fault: &CheckFault) -> Result<(), Memory>
-    ensures { OnOk result (out.new ≡ out.old ++ check_text fault.now) }
+    ensures ok { OnOk result (out.new ≡ out.old ++ check_text fault.now) }
+    ensures err { OnErr result (out.new ≡ []) }
 {
     match fault {
         CheckFault::NominalNotPositive { found, bound } => {
@@ -40,7 +42,8 @@ fn put_check(out: &mut Text, fault: &CheckFault) -> Result<(), Memory>
 
 /// Puts a text, and a number behind it.
 fn put_node(out: &mut Text, text: &str, node: &i64) -> Result<(), Memory>
-    ensures { OnOk result (out.new ≡ out.old ++ (text.now ++ behind node.now)) }
+    ensures ok { OnOk result (out.new ≡ out.old ++ (text.now ++ behind node.now)) }
+    ensures err { OnErr result (out.new ≡ []) }
 {
     out.put(text)?;
     put_behind(out, node)
@@ -48,7 +51,8 @@ fn put_node(out: &mut Text, text: &str, node: &i64) -> Result<(), Memory>
 
 #[tactic(auto, unfolding(crate::specs::Refusals::fault_text))]
 fn put_fault(out: &mut Text, fault: &EditFault) -> Result<(), Memory>
-    ensures { OnOk result (out.new ≡ out.old ++ fault_text fault.now) }
+    ensures ok { OnOk result (out.new ≡ out.old ++ fault_text fault.now) }
+    ensures err { OnErr result (out.new ≡ []) }
 {
     match fault {
         EditFault::Check(fault) => put_check(out, fault),
@@ -71,7 +75,8 @@ fn put_fault(out: &mut Text, fault: &EditFault) -> Result<(), Memory>
 /// Puts a refusal: its number, its words, and the values that it names.
 #[tactic(auto, unfolding(crate::specs::Refusals::refusal_text))]
 pub(crate) fn put_refusal(out: &mut Text, refusal: &Refusal) -> Result<(), Memory>
-    ensures { OnOk result (out.new ≡ out.old ++ refusal_text refusal.now) }
+    ensures ok { OnOk result (out.new ≡ out.old ++ refusal_text refusal.now) }
+    ensures err { OnErr result (out.new ≡ []) }
 {
     match refusal {
         Refusal::NoVariant => out.put("40 no variant"),

@@ -1,5 +1,5 @@
 // What was answered, and the lines below it.
-ghost use Rattle.std.specs.Prelude.{◌≡◌, ◌++◌, OnOk, length, codes, decimal};
+ghost use Rattle.std.specs.Prelude.{◌≡◌, ◌++◌, OnOk, length, codes, decimal, OnErr, []};
 ghost use Rattle.std.specs.List.{flat_map};
 ghost use Rattle.grid_report.specs.Lines.{bus_name};
 ghost use Rattle.grid_report.specs.Refusals.{refusal_text};
@@ -14,7 +14,8 @@ use grid_ids::{Id, Memory};
 
 /// Each id behind a comma and a space.
 fn put_others(out: &mut Text, ids: &[Id]) -> Result<(), Memory>
-    ensures { OnOk result (out.new ≡ out.old ++ flat_map (λ other. codes ", " ++ other) ids.now) }
+    ensures ok { OnOk result (out.new ≡ out.old ++ flat_map (λ other. codes ", " ++ other) ids.now) }
+    ensures err { OnErr result (out.new ≡ []) }
 {
     for id in ids {
         put_named(out, ", ", id)?;
@@ -25,7 +26,8 @@ fn put_others(out: &mut Text, ids: &[Id]) -> Result<(), Memory>
 /// The ids with a comma and a space between them.
 #[tactic(auto, unfolding(crate::specs::Replies::ids_text))]
 fn put_ids(out: &mut Text, ids: &[Id]) -> Result<(), Memory>
-    ensures { OnOk result (out.new ≡ out.old ++ ids_text ids.now) }
+    ensures ok { OnOk result (out.new ≡ out.old ++ ids_text ids.now) }
+    ensures err { OnErr result (out.new ≡ []) }
 {
     match ids {
         [] => Ok(()),
@@ -38,7 +40,8 @@ fn put_ids(out: &mut Text, ids: &[Id]) -> Result<(), Memory>
 
 /// Puts a word and the ids of the switches that were operated.
 fn put_operated(out: &mut Text, word: &str, ids: &[Id]) -> Result<(), Memory>
-    ensures { OnOk result (out.new ≡ out.old ++ (word.now ++ ids_text ids.now)) }
+    ensures ok { OnOk result (out.new ≡ out.old ++ (word.now ++ ids_text ids.now)) }
+    ensures err { OnErr result (out.new ≡ []) }
 {
     out.put(word)?;
     put_ids(out, ids)
@@ -46,7 +49,8 @@ fn put_operated(out: &mut Text, word: &str, ids: &[Id]) -> Result<(), Memory>
 
 #[tactic(auto, unfolding(crate::specs::Replies::counts_text))]
 fn put_counts(out: &mut Text, view: &BusBreakerView) -> Result<(), Memory>
-    ensures { OnOk result (out.new ≡ out.old ++ counts_text view.now) }
+    ensures ok { OnOk result (out.new ≡ out.old ++ counts_text view.now) }
+    ensures err { OnErr result (out.new ≡ []) }
 {
     out.put_unsigned(view.buses.len() as u64)?;
     out.put(" buses, ")?;
@@ -55,14 +59,16 @@ fn put_counts(out: &mut Text, view: &BusBreakerView) -> Result<(), Memory>
 }
 
 fn put_bus_count(out: &mut Text, buses: &[BusComponent]) -> Result<(), Memory>
-    ensures { OnOk result (out.new ≡ out.old ++ (decimal (length buses.now) ++ codes " buses")) }
+    ensures ok { OnOk result (out.new ≡ out.old ++ (decimal (length buses.now) ++ codes " buses")) }
+    ensures err { OnErr result (out.new ≡ []) }
 {
     out.put_unsigned(buses.len() as u64)?;
     out.put(" buses")
 }
 
 fn put_refused(out: &mut Text, refusal: &Refusal) -> Result<(), Memory>
-    ensures { OnOk result (out.new ≡ out.old ++ (codes "refused " ++ refusal_text refusal.now)) }
+    ensures ok { OnOk result (out.new ≡ out.old ++ (codes "refused " ++ refusal_text refusal.now)) }
+    ensures err { OnErr result (out.new ≡ []) }
 {
     out.put("refused ")?;
     put_refusal(out, refusal)
@@ -71,7 +77,8 @@ fn put_refused(out: &mut Text, refusal: &Refusal) -> Result<(), Memory>
 /// Puts the answer on a command's line.
 #[tactic(auto, unfolding(crate::specs::Replies::answer_text))]
 pub(crate) fn put_answer(out: &mut Text, reply: &Reply) -> Result<(), Memory>
-    ensures { OnOk result (out.new ≡ out.old ++ answer_text reply.now) }
+    ensures ok { OnOk result (out.new ≡ out.old ++ answer_text reply.now) }
+    ensures err { OnErr result (out.new ≡ []) }
 {
     match reply {
         Reply::Done => out.put("done"),
@@ -96,7 +103,8 @@ pub(crate) fn put_answer(out: &mut Text, reply: &Reply) -> Result<(), Memory>
 /// Puts the line of a bus of a bus/breaker view.
 #[tactic(auto, unfolding(crate::specs::Replies::plain_line))]
 fn put_plain(out: &mut Text, level: &Id, bus: &Bus) -> Result<(), Memory>
-    ensures { OnOk result (out.new ≡ out.old ++ plain_line level.now bus.now) }
+    ensures ok { OnOk result (out.new ≡ out.old ++ plain_line level.now bus.now) }
+    ensures err { OnErr result (out.new ≡ []) }
 {
     put_bus(
         out,
@@ -109,7 +117,8 @@ fn put_plain(out: &mut Text, level: &Id, bus: &Bus) -> Result<(), Memory>
 }
 
 fn put_plains(out: &mut Text, level: &Id, buses: &[Bus]) -> Result<(), Memory>
-    ensures { OnOk result (out.new ≡ out.old ++ flat_map (plain_line level.now) buses.now) }
+    ensures ok { OnOk result (out.new ≡ out.old ++ flat_map (plain_line level.now) buses.now) }
+    ensures err { OnErr result (out.new ≡ []) }
 {
     for bus in buses {
         put_plain(out, level, bus)?;
@@ -119,7 +128,8 @@ fn put_plains(out: &mut Text, level: &Id, buses: &[Bus]) -> Result<(), Memory>
 
 #[tactic(auto, unfolding(crate::specs::Replies::position_text))]
 fn put_position(out: &mut Text, opened: bool) -> Result<(), Memory>
-    ensures { OnOk result (out.new ≡ out.old ++ position_text opened) }
+    ensures ok { OnOk result (out.new ≡ out.old ++ position_text opened) }
+    ensures err { OnErr result (out.new ≡ []) }
 {
     if opened {
         out.put(" open ")
@@ -130,7 +140,8 @@ fn put_position(out: &mut Text, opened: bool) -> Result<(), Memory>
 
 /// Puts the names of two buses of a level, and ends the line.
 fn put_ends(out: &mut Text, level: &Id, bus1: u16, bus2: u16) -> Result<(), Memory>
-    ensures { OnOk result (out.new ≡ out.old ++ (bus_name level.now bus1 ++ codes " " ++ bus_name level.now bus2 ++ codes "\n")) }
+    ensures ok { OnOk result (out.new ≡ out.old ++ (bus_name level.now bus1 ++ codes " " ++ bus_name level.now bus2 ++ codes "\n")) }
+    ensures err { OnErr result (out.new ≡ []) }
 {
     put_bus_name(out, level, bus1)?;
     out.put(" ")?;
@@ -141,7 +152,8 @@ fn put_ends(out: &mut Text, level: &Id, bus1: u16, bus2: u16) -> Result<(), Memo
 /// Puts the line of a retained switch.
 #[tactic(auto, unfolding(crate::specs::Replies::switch_line))]
 fn put_switch(out: &mut Text, level: &Id, switch: &ViewSwitch) -> Result<(), Memory>
-    ensures { OnOk result (out.new ≡ out.old ++ switch_line level.now switch.now) }
+    ensures ok { OnOk result (out.new ≡ out.old ++ switch_line level.now switch.now) }
+    ensures err { OnErr result (out.new ≡ []) }
 {
     put_named(out, "  switch ", &switch.id)?;
     put_position(out, switch.opened)?;
@@ -149,7 +161,8 @@ fn put_switch(out: &mut Text, level: &Id, switch: &ViewSwitch) -> Result<(), Mem
 }
 
 fn put_switches(out: &mut Text, level: &Id, switches: &[ViewSwitch]) -> Result<(), Memory>
-    ensures { OnOk result (out.new ≡ out.old ++ flat_map (switch_line level.now) switches.now) }
+    ensures ok { OnOk result (out.new ≡ out.old ++ flat_map (switch_line level.now) switches.now) }
+    ensures err { OnErr result (out.new ≡ []) }
 {
     for switch in switches {
         put_switch(out, level, switch)?;
@@ -159,7 +172,8 @@ fn put_switches(out: &mut Text, level: &Id, switches: &[ViewSwitch]) -> Result<(
 
 #[tactic(auto, unfolding(crate::specs::Replies::breaker_lines))]
 fn put_breaker_lines(out: &mut Text, view: &BusBreakerView) -> Result<(), Memory>
-    ensures { OnOk result (out.new ≡ out.old ++ breaker_lines view.now) }
+    ensures ok { OnOk result (out.new ≡ out.old ++ breaker_lines view.now) }
+    ensures err { OnErr result (out.new ≡ []) }
 {
     put_plains(out, &view.level, view.buses.slice())?;
     put_switches(out, &view.level, view.switches.slice())
@@ -168,7 +182,8 @@ fn put_breaker_lines(out: &mut Text, view: &BusBreakerView) -> Result<(), Memory
 /// Puts the line of a bus with its component.
 #[tactic(auto, unfolding(crate::specs::Replies::component_line))]
 fn put_component(out: &mut Text, level: &Id, bus: &BusComponent) -> Result<(), Memory>
-    ensures { OnOk result (out.new ≡ out.old ++ component_line level.now bus.now) }
+    ensures ok { OnOk result (out.new ≡ out.old ++ component_line level.now bus.now) }
+    ensures err { OnErr result (out.new ≡ []) }
 {
     out.put("  ")?;
     put_bus_name(out, level, bus.least)?;
@@ -180,7 +195,8 @@ fn put_component(out: &mut Text, level: &Id, bus: &BusComponent) -> Result<(), M
 }
 
 fn put_components(out: &mut Text, level: &Id, buses: &[BusComponent]) -> Result<(), Memory>
-    ensures { OnOk result (out.new ≡ out.old ++ flat_map (component_line level.now) buses.now) }
+    ensures ok { OnOk result (out.new ≡ out.old ++ flat_map (component_line level.now) buses.now) }
+    ensures err { OnErr result (out.new ≡ []) }
 {
     for bus in buses {
         put_component(out, level, bus)?;
@@ -191,7 +207,8 @@ fn put_components(out: &mut Text, level: &Id, buses: &[BusComponent]) -> Result<
 /// Puts the lines of the buses of the level that was asked for.
 #[tactic(auto, unfolding(crate::specs::Replies::component_lines))]
 fn put_asked(out: &mut Text, request: &Request, buses: &[BusComponent]) -> Result<(), Memory>
-    ensures { OnOk result (out.new ≡ out.old ++ component_lines request.now buses.now) }
+    ensures ok { OnOk result (out.new ≡ out.old ++ component_lines request.now buses.now) }
+    ensures err { OnErr result (out.new ≡ []) }
 {
     match request {
         Request::Components { level } => put_components(out, level, buses),
@@ -202,7 +219,8 @@ fn put_asked(out: &mut Text, request: &Request, buses: &[BusComponent]) -> Resul
 /// Puts the lines below a command's line.
 #[tactic(auto, unfolding(crate::specs::Replies::detail_lines))]
 pub(crate) fn put_details(out: &mut Text, request: &Request, reply: &Reply) -> Result<(), Memory>
-    ensures { OnOk result (out.new ≡ out.old ++ detail_lines request.now reply.now) }
+    ensures ok { OnOk result (out.new ≡ out.old ++ detail_lines request.now reply.now) }
+    ensures err { OnErr result (out.new ≡ []) }
 {
     match reply {
         Reply::BusBreaker(view) => put_breaker_lines(out, view),

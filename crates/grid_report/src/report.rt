@@ -1,5 +1,5 @@
 // Blocks of text, handed to a sink.
-ghost use Rattle.std.specs.Prelude.{◌≡◌, ◌≤◌, OnOk, OnErr, Err};
+ghost use Rattle.std.specs.Prelude.{◌≡◌, ◌≢◌, ◌≤◌, OnOk, OnErr, Err};
 ghost use Rattle.std.specs.List.{flat_map};
 ghost use Rattle.std.specs.Io.KnownBytes.{Appends};
 ghost use Rattle.grid_source.specs.Causes.{Rose};
@@ -15,8 +15,8 @@ use grid_source::Sink;
 use std::alloc::Global;
 
 /// Writes each block, in pieces of `PIECE` bytes, the last one shorter. A piece that is taken in part is offered again
-/// from its rest. It stops only where the sink's count of faults rose; after that, or want of memory, a front of the
-/// text was written.
+/// from its rest. It stops only where the sink's count of faults rose, which is as before after every other answer;
+/// after that, or want of memory, a front of the text was written.
 pub fn write_blocks<T: Shown, K: Sink>(
     alloc: Global,
     blocks: &[T],
@@ -28,6 +28,7 @@ pub fn write_blocks<T: Shown, K: Sink>(
         (IsBegun (K.written sink.old) (flat_map T.shown blocks.now) (K.written sink.new)) }
     ensures later { K.faults sink.old ≤ K.faults sink.new }
     ensures cause { result ≡ Err ReportFault.Stopped → Rose (K.faults sink.old) (K.faults sink.new) }
+    ensures stays { result ≢ Err ReportFault.Stopped → K.faults sink.new ≡ K.faults sink.old }
 {
     let mut pieces = Pieces::empty(alloc);
     let mut text = Text::empty(alloc);
@@ -40,7 +41,8 @@ pub fn write_blocks<T: Shown, K: Sink>(
 }
 
 /// Writes the report of an outcome, in pieces of `PIECE` bytes, the last one shorter. It stops only where the sink's
-/// count of faults rose; after that, or want of memory, a front of the text was written.
+/// count of faults rose, which is as before after every other answer; after that, or want of memory, a front of the text
+/// was written.
 pub fn write_report<K: Sink>(
     alloc: Global,
     outcome: &Outcome,
@@ -50,6 +52,7 @@ pub fn write_report<K: Sink>(
     ensures err { OnErr result (IsBegun (K.written sink.old) (report_of outcome.now) (K.written sink.new)) }
     ensures later { K.faults sink.old ≤ K.faults sink.new }
     ensures cause { result ≡ Err ReportFault.Stopped → Rose (K.faults sink.old) (K.faults sink.new) }
+    ensures stays { result ≢ Err ReportFault.Stopped → K.faults sink.new ≡ K.faults sink.old }
 {
     let blocks = match plan(alloc, outcome) {
         Ok(blocks) => blocks,

@@ -1,13 +1,14 @@
 // Text that grows, and what is shown of values.
-ghost use Rattle.std.specs.Prelude.{◌≡◌, [], ◌∷◌, ◌++◌, List as Seq, ℕ, string_bytes, OnOk, decimal};
+ghost use Rattle.std.specs.Prelude.{◌≡◌, [], ◌∷◌, ◌++◌, List as Seq, ℕ, string_bytes, OnOk, decimal, OnErr};
 ghost use Rattle.std.specs.List.{flat_map};
 ghost use Rattle.grid_report.specs.Words.{signed, behind};
 
 use grid_ids::{Id, Memory};
+use itoa::Buffer;
 use std::alloc::Global;
 use std::marker::Model;
 
-/// Text that grows at its end, seen as its bytes.
+/// Text that grows at its end, seen as its bytes. A call that takes memory leaves no text where memory is wanting.
 #[derive(Drop)]
 pub struct Text {
     bytes: String,
@@ -45,46 +46,52 @@ impl Text {
 
     /// Puts a text last.
     pub fn put(&mut self, text: &str) -> Result<(), Memory>
-        ensures { OnOk result (self.new ≡ self.old ++ text.now) }
+        ensures ok { OnOk result (self.new ≡ self.old ++ text.now) }
+        ensures err { OnErr result (self.new ≡ []) }
     {
-        self.bytes.push_str(text)?;
-        Ok(())
+        match self.bytes.push_str(text) {
+            Ok(()) => Ok(()),
+            Err(_) => {
+                self.bytes.clear();
+                Err(Memory)
+            }
+        }
     }
 
     /// Puts a number last, in decimal digits without a leading zero.
     pub fn put_unsigned(&mut self, number: u64) -> Result<(), Memory>
-        ensures { OnOk result (self.new ≡ self.old ++ decimal number) }
+        ensures ok { OnOk result (self.new ≡ self.old ++ decimal number) }
+        ensures err { OnErr result (self.new ≡ []) }
     {
-        write!(self.bytes, "{number}")?;
-        Ok(())
+        self.put(Buffer::new().format(number))
     }
 
     /// Puts a total last, in decimal digits without a leading zero.
     pub fn put_total(&mut self, total: u128) -> Result<(), Memory>
-        ensures { OnOk result (self.new ≡ self.old ++ decimal total) }
+        ensures ok { OnOk result (self.new ≡ self.old ++ decimal total) }
+        ensures err { OnErr result (self.new ≡ []) }
     {
-        write!(self.bytes, "{total}")?;
-        Ok(())
+        self.put(Buffer::new().format(total))
     }
 
     /// Puts a whole number last, with a minus sign in front of its digits where it is below 0.
     #[tactic(auto, unfolding(crate::specs::Words::signed))]
     pub fn put_whole(&mut self, number: &i64) -> Result<(), Memory>
-        ensures { OnOk result (self.new ≡ self.old ++ signed number.now) }
+        ensures ok { OnOk result (self.new ≡ self.old ++ signed number.now) }
+        ensures err { OnErr result (self.new ≡ []) }
     {
         let number = *number;
-        write!(self.bytes, "{number}")?;
-        Ok(())
+        self.put(Buffer::new().format(number))
     }
 
     /// Puts a number last, with a minus sign in front of its digits where it is below 0.
     #[tactic(auto, unfolding(crate::specs::Words::signed))]
     pub fn put_signed(&mut self, number: &i128) -> Result<(), Memory>
-        ensures { OnOk result (self.new ≡ self.old ++ signed number.now) }
+        ensures ok { OnOk result (self.new ≡ self.old ++ signed number.now) }
+        ensures err { OnErr result (self.new ≡ []) }
     {
         let number = *number;
-        write!(self.bytes, "{number}")?;
-        Ok(())
+        self.put(Buffer::new().format(number))
     }
 }
 
@@ -93,9 +100,10 @@ pub trait Shown {
     // The bytes that are written.
     ghost shown: { Self → Seq ℕ };
 
-    /// Puts what is written of the value last.
+    /// Puts what is written of the value last. Where memory is wanting, no text is left.
     fn show(&self, out: &mut Text) -> Result<(), Memory>
-        ensures { OnOk result (out.new ≡ out.old ++ shown self.now) };
+        ensures ok { OnOk result (out.new ≡ out.old ++ shown self.now) }
+        ensures err { OnErr result (out.new ≡ []) };
 }
 
 impl Shown for u8 {
@@ -123,8 +131,9 @@ impl Shown for Id {
 }
 
 /// Each item behind a space.
-pub fn put_spaced<T: Shown>(out: &mut Text, items: &[T]) -> Result<(), Memory>
-    ensures { OnOk result (out.new ≡ out.old ++ flat_map (λ x. 32 ∷ T.shown x) items.now) }
+pub(crate) fn put_spaced<T: Shown>(out: &mut Text, items: &[T]) -> Result<(), Memory>
+    ensures ok { OnOk result (out.new ≡ out.old ++ flat_map (λ x. 32 ∷ T.shown x) items.now) }
+    ensures err { OnErr result (out.new ≡ []) }
 {
     for item in items {
         out.put(" ")?;
@@ -135,7 +144,8 @@ pub fn put_spaced<T: Shown>(out: &mut Text, items: &[T]) -> Result<(), Memory>
 
 /// Puts words and a value behind them.
 pub(crate) fn put_named<T: Shown>(out: &mut Text, words: &str, value: &T) -> Result<(), Memory>
-    ensures { OnOk result (out.new ≡ out.old ++ (words.now ++ T.shown value.now)) }
+    ensures ok { OnOk result (out.new ≡ out.old ++ (words.now ++ T.shown value.now)) }
+    ensures err { OnErr result (out.new ≡ []) }
 {
     out.put(words)?;
     value.show(out)
@@ -143,7 +153,8 @@ pub(crate) fn put_named<T: Shown>(out: &mut Text, words: &str, value: &T) -> Res
 
 /// Puts a space and a number behind it.
 pub(crate) fn put_behind(out: &mut Text, number: &i64) -> Result<(), Memory>
-    ensures { OnOk result (out.new ≡ out.old ++ behind number.now) }
+    ensures ok { OnOk result (out.new ≡ out.old ++ behind number.now) }
+    ensures err { OnErr result (out.new ≡ []) }
 {
     out.put(" ")?;
     out.put_whole(number)
@@ -151,7 +162,8 @@ pub(crate) fn put_behind(out: &mut Text, number: &i64) -> Result<(), Memory>
 
 /// Puts two numbers, each behind a space.
 pub(crate) fn put_pair(out: &mut Text, first: &i64, second: &i64) -> Result<(), Memory>
-    ensures { OnOk result (out.new ≡ out.old ++ (behind first.now ++ behind second.now)) }
+    ensures ok { OnOk result (out.new ≡ out.old ++ (behind first.now ++ behind second.now)) }
+    ensures err { OnErr result (out.new ≡ []) }
 {
     put_behind(out, first)?;
     put_behind(out, second)

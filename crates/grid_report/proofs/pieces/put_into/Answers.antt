@@ -1,4 +1,4 @@
-use Rattle.std.proofs.Common.{◌≡◌, ◌++◌, arith}
+use Rattle.std.proofs.Common.{◌≡◌, ◌∙◌, ◌++◌, arith}
 use Rattle.grid_report.proofs.Writing.{waits_more, handed_over, begun, begun_in, further, on_err}
 use Rattle.grid_report.proofs.pieces.put_into.Goals as goal
 
@@ -21,7 +21,7 @@ loop-rest-preserved-in_ok-hand_over g c =
     record {
       below = rw c.in_ok-hand_over.ensures.cleared (omega arith);
       so_far = (i.0 ++ front, e, rw c.in_ok-hand_over.ensures.cleared (handed_over _ _ _ _ _ _ (waits_more _ _ _ _ _ _ _ i.2 c.in-Ok.ensures.items) c.in_ok-hand_over.ensures.ok));
-      later = omega (arith, c.loop-rest.invariant.later, c.hand_over.ensures.later);
+      same = c.in_ok-hand_over.ensures.stays (λ is. absurd (cc)) ∙ c.loop-rest.invariant.same;
     }
 
 pub loop-rest-preserved : goal.loop-rest-preserved
@@ -32,5 +32,5 @@ loop-rest-preserved g c =
     record {
       below = omega (arith, c.in-Ok.ensures.len, c.split_at.ensures.front_len, c.min.ensures, c.len-room.ensures, c.len.ensures, c.if-len-eq-PIECE.false);
       so_far = (i.0 ++ front, e, waits_more _ _ _ _ _ _ _ i.2 c.in-Ok.ensures.items);
-      later = c.loop-rest.invariant.later;
+      same = c.loop-rest.invariant.same;
     }

@@ -1,14 +1,14 @@
 use Rattle.grid_report.specs.Refusals.{check_text}
 use Rattle.grid_report.proofs.refusal.put_check.Goals as goal
 
-pub returns-in-NominalNotPositive : goal.returns-in-NominalNotPositive
+pub returns-in-NominalNotPositive-clause-ok : goal.returns-in-NominalNotPositive-clause-ok
 unfolding check_text
-returns-in-NominalNotPositive c = rw c.in-NominalNotPositive.is c.put_bound.ensures
+returns-in-NominalNotPositive-clause-ok c = rw c.in-NominalNotPositive.is c.put_bound.ensures.ok
 
-pub returns-in-PowerLimits : goal.returns-in-PowerLimits
+pub returns-in-PowerLimits-clause-ok : goal.returns-in-PowerLimits-clause-ok
 unfolding check_text
-returns-in-PowerLimits c = rw c.in-PowerLimits.is c.put_bound-in-PowerLimits.ensures
+returns-in-PowerLimits-clause-ok c = rw c.in-PowerLimits.is c.put_bound-in-PowerLimits.ensures.ok
 
-pub returns-in-RatedNotPositive : goal.returns-in-RatedNotPositive
+pub returns-in-RatedNotPositive-clause-ok : goal.returns-in-RatedNotPositive-clause-ok
 unfolding check_text
-returns-in-RatedNotPositive c = rw c.in-RatedNotPositive.is c.put_bound-in-RatedNotPositive.ensures
+returns-in-RatedNotPositive-clause-ok c = rw c.in-RatedNotPositive.is c.put_bound-in-RatedNotPositive.ensures.ok

@@ -7,7 +7,7 @@ returns-in_err-show-clause-err g c = on_err c.from_residual.result (before _ _ c
 
 pub returns-in_err-put-clause-err : goal.returns-in_err-put-clause-err
 returns-in_err-put-clause-err g c =
-    let line : c.as_bytes.result.now ≡ g.T.Shown.shown c.block-item.result = c.as_bytes.ensures ∙ c.in_ok-show.ensures ∙ ap (λ l. l ++ g.T.Shown.shown c.block-item.result) c.clear.ensures in
+    let line : c.as_bytes.result.now ≡ g.T.Shown.shown c.block-item.result = c.as_bytes.ensures ∙ c.in_ok-show.ensures.ok ∙ ap (λ l. l ++ g.T.Shown.shown c.block-item.result) c.clear.ensures in
     on_err c.from_residual-in_err-put.result (within _ _ _ _ _ _ _ (cut_at g.T.Shown.shown c.args.blocks.now c.loop-block.block-index c.block-item.result c.loop-block-test.true c.block-item.is) c.loop-block.invariant.so_far (rw line at c.in_err-put.ensures.err))
 
 pub returns-clause-err : goal.returns-clause-err
