@@ -1,66 +1,12 @@
 //! The program: real streams round the top call.
 #![tactic(auto)]
 
-mod usage;
-mod why;
-
 use grid_cli::Status;
-use grid_json::Place;
+use grid_lines::{Fault, ending, usage_text};
 use grid_manager::Idle;
 use grid_source::{StdSink, StdSource};
 use std::process::ExitCode;
 use std::{env, io};
-use thiserror::Error;
-use usage::usage_text;
-use why::{Why, why_of};
-
-/// Why a run was not done: the line on standard error.
-#[derive(Debug, Drop, Error)]
-enum Fault {
-    #[error("grid: the words are none of the forms below; nothing was read")]
-    Usage,
-    #[error("grid: standard input could not be read to its end; nothing was written")]
-    ReadFault,
-    #[error("grid: the input is longer than 33,554,432 bytes; nothing was written")]
-    TooLong,
-    #[error("grid: the input is not JSON; nothing was written")]
-    BadJson,
-    #[error("grid: the job's first fault is at {}: {why}; nothing was written (docs/formats.md)", place_text(.place))]
-    BadJob { place: Place, why: Why },
-    #[error("grid: standard output could not be written; the output is cut off")]
-    WriteFault,
-    #[error("grid: memory ran out; the output is cut off or missing")]
-    NoMemory,
-}
-
-/// Where a fault stands. The place of the whole job is empty.
-fn place_text(place: &Place) -> &str {
-    if place.text().is_empty() {
-        "its top"
-    } else {
-        place.text()
-    }
-}
-
-/// The exit status, and what is told.
-fn ending(status: Status) -> (u8, Option<Fault>) {
-    match status {
-        Status::Done => (0, None),
-        Status::Usage => (2, Some(Fault::Usage)),
-        Status::ReadFault => (3, Some(Fault::ReadFault)),
-        Status::TooLong => (4, Some(Fault::TooLong)),
-        Status::BadJson => (5, Some(Fault::BadJson)),
-        Status::BadJob { place, reason } => (
-            6,
-            Some(Fault::BadJob {
-                place,
-                why: why_of(reason),
-            }),
-        ),
-        Status::WriteFault => (7, Some(Fault::WriteFault)),
-        Status::NoMemory => (8, Some(Fault::NoMemory)),
-    }
-}
 
 /// The words behind the program's name. A word that is no text is no form.
 fn words_of(rt: &HostRuntime) -> Result<Vec<String>, Status> {
