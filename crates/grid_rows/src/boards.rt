@@ -1,7 +1,7 @@
 ghost use Rattle.std.specs.Prelude.{◌≡◌, ◌<◌};
 ghost use Rattle.grid_bench.specs.Answers.{IsTaskOf};
 
-use crate::replays::duo_with;
+use crate::jobs::duo_with;
 use grid_bench::{Answer, Base, Bench, Task};
 use grid_board::{Board, CommitFault};
 use grid_core::{Reply, Request, Script, World};

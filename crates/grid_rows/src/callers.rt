@@ -1,7 +1,7 @@
 ghost use Rattle.std.specs.Prelude.{◌≡◌};
 
 use crate::boards::read;
-use crate::histories::FOUR;
+use crate::jobs::FOUR;
 use grid_bench::Bench;
 use grid_core::{Journal, Reply, Request, Script};
 use grid_ids::Memory;

@@ -1,4 +1,5 @@
-//! Worked examples that cross the crates: whole jobs by the top call, and the first faults of jobs.
+//! Worked examples that cross the crates, of what no whole job by the top call on one thread shows: sources and sinks that
+//! fail, edits one by one, boards, callers and threads.
 #![tactic(auto)]
 
 #[cfg(test)]
@@ -6,14 +7,12 @@ mod boards;
 #[cfg(test)]
 mod callers;
 #[cfg(test)]
-mod commands;
+mod jobs;
 #[cfg(test)]
-mod faults;
-#[cfg(test)]
-mod histories;
-#[cfg(test)]
-mod replays;
+mod streams;
 #[cfg(test)]
 mod structures;
+#[cfg(test)]
+mod telling;
 #[cfg(test)]
 mod threads;

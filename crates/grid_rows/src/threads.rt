@@ -1,5 +1,4 @@
-use crate::histories::{FOUR, FOUR_REPORT};
-use crate::replays::{named, told, words};
+use crate::jobs::{FOUR, FOUR_REPORT, named, told, words};
 use grid_bench::Bench;
 use grid_cli::grid;
 use grid_ids::Id;

@@ -1,0 +1,142 @@
+// Worlds that tell listeners what happens, and copies of what a job is made of.
+use crate::boards::read;
+use crate::jobs::{FOUR, duo_with};
+use grid_core::{Request, Script, World};
+use grid_events::{Event, Events, Filter, Listener, Subscriptions};
+use grid_ids::{Duplicate, Id, Memory, Same};
+use grid_json::Job;
+use grid_print::print_job;
+use std::alloc::Global;
+use std::test::Fail;
+
+/// Keeps the events that it hears.
+#[derive(Drop)]
+struct Recorder {
+    events: Events,
+}
+
+impl Listener for Recorder {
+    ghost heard = { λ recorder. recorder.events };
+
+    fn hear(&mut self, event: &Event) -> Result<(), Memory> {
+        self.events.push(event.copy()?)?;
+        Ok(())
+    }
+}
+
+/// What is told of updates in a variant alone.
+fn updates_of(alloc: Global, variant: &str) -> Result<Filter, Fail> {
+    Ok(Filter {
+        created: false,
+        removed: false,
+        updated: true,
+        variant_created: false,
+        variant_overwritten: false,
+        variant_removed: false,
+        variant: Some(Id::new(alloc, variant)?),
+    })
+}
+
+// A variant in which the coupler is opened twice, and the same coupler opened in the initial one.
+const OPENS: &str =
+    r#"{"do":"open","switch":"BC"},{"do":"clone","from":"InitialState","to":"VA"},{"do":"use","variant":"VA"},{"do":"close","switch":"BC"},{"do":"open","switch":"ZZ"},{"do":"close","switch":"BC"}"#;
+
+/// Makes the steps of a script in a world of one worker, and tells them.
+fn tell<L: Listener>(
+    alloc: Global,
+    job: &Job,
+    script: &Script,
+    listeners: &mut Subscriptions<L>,
+) -> Result<usize, Fail> {
+    let mut world = World::start(alloc, job.network.copy()?, 1)?;
+    let mut made = 0usize;
+    for request in script.slice() {
+        if world.step_told(0, request, listeners).is_ok() {
+            made = made.saturating_add(1);
+        }
+    }
+    Ok(made)
+}
+
+#[test]
+fn a_recorder_hears_the_one_event(rt: HostRuntime) -> Result<(), Fail> {
+    let alloc = rt.alloc();
+    let bytes = duo_with(alloc, OPENS, "]]}")?;
+    let job = read(alloc, bytes.as_slice())?;
+    let Some(script) = job.scripts.get(0) else {
+        return Ok(assert!(rt; false));
+    };
+    let mut listeners = Subscriptions::empty(alloc);
+    let recorder = Recorder {
+        events: Events::empty(alloc),
+    };
+    assert!(rt;
+        listeners
+            .subscribe(updates_of(alloc, "VA")?, recorder)
+            .is_ok()
+    );
+    assert_eq!(rt; tell(alloc, &job, script, &mut listeners)?, 6);
+    let closed = Event::Updated {
+        variant: Id::new(alloc, "VA")?,
+        switch: Id::new(alloc, "BC")?,
+        opened: false,
+    };
+    let [subscription] = listeners.slice() else {
+        return Ok(assert!(rt; false));
+    };
+    let [event] = subscription.listener.events.slice() else {
+        return Ok(assert!(rt; false));
+    };
+    assert!(rt; event.same(&closed));
+
+    let mut boxed: Subscriptions<Box<dyn Listener>> = Subscriptions::empty(alloc);
+    let recorder: Box<dyn Listener> = Box::new(
+        alloc,
+        Recorder {
+            events: Events::empty(alloc),
+        },
+    )?;
+    assert!(rt; boxed.subscribe(updates_of(alloc, "VA")?, recorder).is_ok());
+    assert_eq!(rt; tell(alloc, &job, script, &mut boxed)?, 6);
+    Ok(())
+}
+
+/// Whether each command of a script, each listener and the network are equal to their copies.
+fn copies_are_equal(job: &Job) -> Result<bool, Fail> {
+    let mut equal = job.network.copy()?.same(&job.network);
+    equal = equal && job.filters.copy()?.same(&job.filters);
+    for script in job.scripts.slice() {
+        equal = equal && script.copy()?.same(script);
+    }
+    Ok(equal)
+}
+
+#[test]
+fn copies(rt: HostRuntime) -> Result<(), Fail> {
+    let alloc = rt.alloc();
+    let job = read(alloc, FOUR.as_bytes())?;
+    assert!(rt; copies_are_equal(&job)?);
+    Ok(())
+}
+
+#[test]
+fn a_job_with_retain_has_format_two(rt: HostRuntime) -> Result<(), Fail> {
+    let alloc = rt.alloc();
+    let job = read(
+        alloc,
+        br#"{"format":2,"network":{"id":"N"},"workers":[[{"do":"retain","switch":"X","retained":true}]]}"#.as_slice(),
+    )?;
+    let printed = print_job(alloc, &job)?;
+    assert!(rt;
+        printed
+            .as_slice()
+            .starts_with(br#"{"format":2,"#.as_slice())
+    );
+    assert!(rt;
+        matches!(
+            job.scripts.get(0).and_then(|script| script.get(0)),
+            Some(Request::RetainSwitch { .. })
+        )
+    );
+    Ok(())
+}
