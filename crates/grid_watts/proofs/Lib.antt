@@ -1,0 +1,10 @@
+pub mod Summing
+pub mod Owning
+pub mod Totalling
+pub mod Shifting
+pub mod Leaving
+pub mod Recording
+pub mod Locating
+pub mod Fronts
+pub mod Rooming
+pub mod Keeping
