@@ -87,10 +87,10 @@ unfolding parts_of
 part_count state = length-map (enumerate_from 0 (levels state.structure)) (λ (at : ℕ × VoltageLevel). part_of state at.0 at.1) ∙ length-enumerate_from 0 (levels state.structure)
 
 pub part_at : (state : State) (place : ℕ) (level : VoltageLevel) (opened retained : List Bool) → slice_get (levels state.structure) place ≡ Some level → opened ≡ row_at state.opened place → retained ≡ row_at state.retained place
-    → slice_get (parts_of state) place ≡ Some (part_with level opened retained)
+    → slice_get (parts_of state) place ≡ Some (part_with state.powers level opened retained)
 unfolding parts_of part_of
 part_at state place level opened retained there op re =
-    part_there state place level there ∙ ap (λ r. Some (part_with level r (row_at state.retained place))) (sym op) ∙ ap (λ r. Some (part_with level opened r)) (sym re)
+    part_there state place level there ∙ ap (λ r. Some (part_with state.powers level r (row_at state.retained place))) (sym op) ∙ ap (λ r. Some (part_with state.powers level opened r)) (sym re)
 
 -- ---- a level alone
 
@@ -107,13 +107,13 @@ alone_shape state place base is = by (level_at state.structure place) is
 pub alone_part : (state : State) (place : ℕ) (level : VoltageLevel) (opened retained : List Bool) (base : Basis) (part : BaseLevel) (result : Bool)
     → slice_get (levels state.structure) place ≡ Some level → opened ≡ row_at state.opened place → retained ≡ row_at state.retained place
     → length base.levels ≡ 1 → length base.branches ≡ 0 → part ≡ get_or base.levels 0 part
-    → IsTrue result ↔ (part_with level opened retained ≡ part) → IsTrue result ↔ (alone state place ≡ Some base)
+    → IsTrue result ↔ (part_with state.powers level opened retained ≡ part) → IsTrue result ↔ (alone state place ≡ Some base)
 alone_part state place level opened retained base part result there op re one none here h =
-    let now : alone state place ≡ Some (basis (part_with level opened retained ∷ []) []) =
-    alone_is state place level (part_with level opened retained) there (ap (λ r. part_with level r retained) op ∙ ap (part_with level (row_at state.opened place)) re) in
+    let now : alone state place ≡ Some (basis (part_with state.powers level opened retained ∷ []) []) =
+    alone_is state place level (part_with state.powers level opened retained) there (ap (λ r. part_with state.powers level r retained) op ∙ ap (part_with state.powers level (row_at state.opened place)) re) in
     let found : basis (part ∷ []) [] ≡ base = ap (λ (ps : List BaseLevel). basis ps []) (sym (single base.levels part one here)) ∙ ap (basis base.levels) (sym (nothing base.branches none)) in (
       λ t. now ∙ ap (λ (p : BaseLevel). Some (basis (p ∷ []) [])) (h.0 t) ∙ ap (λ b. Some b) found,
-      λ is. h.1 (first_is (part_with level opened retained) part (some_is (basis (part_with level opened retained ∷ []) []) (basis (part ∷ []) []) (sym now ∙ is ∙ ap (λ b. Some b) (sym found)))),
+      λ is. h.1 (first_is (part_with state.powers level opened retained) part (some_is (basis (part_with state.powers level opened retained ∷ []) []) (basis (part ∷ []) []) (sym now ∙ is ∙ ap (λ b. Some b) (sym found)))),
     )
   where
     first_is : (p q : BaseLevel) → basis (p ∷ []) [] ≡ basis (q ∷ []) [] → p ≡ q

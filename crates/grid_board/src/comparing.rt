@@ -1,7 +1,7 @@
 // Whether a base is the present one of a task. None of these takes memory.
 ghost use Rattle.std.specs.Prelude.{◌≡◌, ◌↔◌, ◌<◌, [], ◌∷◌, length, map, filter_map, Some, IsTrue};
 ghost use Rattle.grid_structure.specs.Sites.{levels, branches, branch_ends};
-ghost use Rattle.grid_busview.specs.Views.{stand_watts};
+ghost use Rattle.grid_watts.specs.Watts as specs;
 ghost use Rattle.grid_bench.specs.Tasks.{level_of};
 ghost use Rattle.grid_core.specs.Fitting.{StateFits};
 ghost use Rattle.grid_board.specs.Questions as questions;
@@ -10,37 +10,44 @@ ghost use Rattle.grid_core.specs.Solo.{state_seen};
 use crate::bases::branch_of;
 use crate::tasks::level_of;
 use grid_bench::{Base, BaseLevel, BenchBranch, Task};
-use grid_busview::watts_of;
 use grid_ids::{Same, same_items};
 use grid_level::{Level, Placed};
+use grid_powers::Powers;
 use grid_states::States;
 use grid_structure::{Branch, Structure};
+use grid_watts::watts_at;
 
-// Whether the watts are those that the terminals' records give.
-fn same_watts(placed: &[Placed], powers: &[i64]) -> bool
-    ensures { IsTrue result ↔ (map (λ p. stand_watts p.stand) placed.now ≡ powers.now) }
+// Whether the watts are those of the terminals under what is listed.
+fn same_watts(placed: &[Placed], powers: &Powers, watts: &[i64]) -> bool
+    ensures { IsTrue result ↔ (map (specs.watts_at powers.now.listed) placed.now ≡ watts.now) }
 {
-    if placed.len() != powers.len() {
+    if placed.len() != watts.len() {
         return false;
     }
     for place in 0..placed.len() {
-        if watts_of(&placed[place].stand) != powers[place] {
+        if watts_at(powers, &placed[place]) != watts[place] {
             return false;
         }
     }
     true
 }
 
-// Whether a part is this level with these flags and the watts of the records.
-#[tactic(auto, unfolding(crate::specs::Questions::part_with, grid_busview::specs::Views::record_watts))]
-fn is_part(level: &Level, opened: &[bool], retained: &[bool], part: &BaseLevel) -> bool
-    ensures { IsTrue result ↔ (questions.part_with level.now opened.now retained.now ≡ part.now) }
+// Whether a part is this level with these flags and the watts under what is listed.
+#[tactic(auto, unfolding(crate::specs::Questions::part_with, grid_watts::specs::Watts::level_watts))]
+fn is_part(
+    level: &Level,
+    opened: &[bool],
+    retained: &[bool],
+    powers: &Powers,
+    part: &BaseLevel,
+) -> bool
+    ensures { IsTrue result ↔ (questions.part_with powers.now.listed level.now opened.now retained.now ≡ part.now) }
 {
     level.id().same(part.level.id())
         && same_items(opened, part.states.slice())
         && same_items(retained, part.retained.slice())
         && level.same(&part.level)
-        && same_watts(level.placed(), part.powers.slice())
+        && same_watts(level.placed(), powers, part.powers.slice())
 }
 
 // Whether the base is this level alone.
@@ -48,12 +55,13 @@ fn is_alone(
     structure: &Structure,
     opened: &States,
     retained: &States,
+    powers: &Powers,
     place: u32,
     base: &Base,
 ) -> bool
-    requires fits { StateFits (state_seen structure.now opened.now retained.now) }
+    requires fits { StateFits (state_seen structure.now opened.now retained.now powers.now.listed) }
     requires level { place < length (levels structure.now) }
-    ensures { IsTrue result ↔ (questions.alone (state_seen structure.now opened.now retained.now) place ≡ Some base.now) }
+    ensures { IsTrue result ↔ (questions.alone (state_seen structure.now opened.now retained.now powers.now.listed) place ≡ Some base.now) }
 {
     let parts = base.levels();
     if parts.len() != 1 {
@@ -66,6 +74,7 @@ fn is_alone(
         structure.level(place),
         opened.row(place),
         retained.row(place),
+        powers,
         &parts[0],
     )
 }
@@ -75,10 +84,11 @@ fn same_parts(
     structure: &Structure,
     opened: &States,
     retained: &States,
+    powers: &Powers,
     parts: &[BaseLevel],
 ) -> bool
-    requires { StateFits (state_seen structure.now opened.now retained.now) }
-    ensures { IsTrue result ↔ (questions.parts_of (state_seen structure.now opened.now retained.now) ≡ parts.now) }
+    requires { StateFits (state_seen structure.now opened.now retained.now powers.now.listed) }
+    ensures { IsTrue result ↔ (questions.parts_of (state_seen structure.now opened.now retained.now powers.now.listed) ≡ parts.now) }
 {
     if structure.level_count() as usize != parts.len() {
         return false;
@@ -88,6 +98,7 @@ fn same_parts(
             structure.level(place),
             opened.row(place),
             retained.row(place),
+            powers,
             &parts[place as usize],
         ) {
             return false;
@@ -124,11 +135,17 @@ fn same_branches(structure: &Structure, list: &[BenchBranch]) -> bool
 
 // Whether the base is the whole network.
 #[tactic(auto, unfolding(crate::specs::Questions::whole))]
-fn is_whole(structure: &Structure, opened: &States, retained: &States, base: &Base) -> bool
-    requires { StateFits (state_seen structure.now opened.now retained.now) }
-    ensures { IsTrue result ↔ (questions.whole (state_seen structure.now opened.now retained.now) ≡ base.now) }
+fn is_whole(
+    structure: &Structure,
+    opened: &States,
+    retained: &States,
+    powers: &Powers,
+    base: &Base,
+) -> bool
+    requires { StateFits (state_seen structure.now opened.now retained.now powers.now.listed) }
+    ensures { IsTrue result ↔ (questions.whole (state_seen structure.now opened.now retained.now powers.now.listed) ≡ base.now) }
 {
-    same_parts(structure, opened, retained, base.levels())
+    same_parts(structure, opened, retained, powers, base.levels())
         && same_branches(structure, base.branches())
 }
 
@@ -138,15 +155,16 @@ pub(crate) fn is_base_of(
     structure: &Structure,
     opened: &States,
     retained: &States,
+    powers: &Powers,
     task: Task,
     base: &Base,
 ) -> bool
-    requires fits { StateFits (state_seen structure.now opened.now retained.now) }
+    requires fits { StateFits (state_seen structure.now opened.now retained.now powers.now.listed) }
     requires level { level_of task < length (levels structure.now) }
-    ensures { IsTrue result ↔ (questions.base_of (state_seen structure.now opened.now retained.now) task ≡ Some base.now) }
+    ensures { IsTrue result ↔ (questions.base_of (state_seen structure.now opened.now retained.now powers.now.listed) task ≡ Some base.now) }
 {
     match task {
-        Task::Components { .. } => is_whole(structure, opened, retained, base),
-        _ => is_alone(structure, opened, retained, level_of(task), base),
+        Task::Components { .. } => is_whole(structure, opened, retained, powers, base),
+        _ => is_alone(structure, opened, retained, powers, level_of(task), base),
     }
 }

@@ -11,7 +11,8 @@ use Rattle.grid_connect.specs.declared.DisconnectPlan.{DisconnectPlan}
 use Rattle.grid_connect.specs.declared.DisconnectPlan.TheVariants as disconnects
 use Rattle.grid_connect.specs.Plans.{connect_plan_of, disconnect_plan_of}
 use Rattle.grid_busbreaker.specs.Views.{bus_breaker_view_of}
-use Rattle.grid_busview.specs.Views.{record_watts, bus_view_of}
+use Rattle.grid_busview.specs.Views.{bus_view_of}
+use Rattle.grid_watts.specs.Watts.{level_watts}
 use Rattle.grid_islands.specs.Islands.{level_components}
 use Rattle.grid_core.specs.declared.request.Request.{Request}
 use Rattle.grid_core.specs.declared.request.Request.TheVariants as requests
@@ -92,7 +93,7 @@ module _ (state : State) (id : List ℕ) (place : ℕ) (level : VoltageLevel) (h
   unfolding asks step_of solo events_of
   bus_breaker_is v = record { asking = refl; made = ap (λ (r : Reply). (state, r)) (bus_breaker_reply state id place level h k); fits = refl }
 
-  pub bus_is : IsFound state (requests.BusView id) (verdicts.Stays (replies.Bus (bus_view_of (positioned level (row_at state.opened place)) (record_watts level))))
+  pub bus_is : IsFound state (requests.BusView id) (verdicts.Stays (replies.Bus (bus_view_of (positioned level (row_at state.opened place)) (level_watts state.powers level))))
   unfolding asks step_of solo events_of
   bus_is v = record { asking = refl; made = ap (λ (r : Reply). (state, r)) (bus_reply state id place level h k); fits = refl }
 

@@ -1,5 +1,6 @@
 // Plans of connecting and disconnecting, of a state by its parts.
 ghost use Rattle.std.specs.Prelude.{◌≡◌, Bool, List, IfOk};
+ghost use Rattle.grid_powers.specs.Listed.{Listed};
 ghost use Rattle.grid_core.specs.Fitting.{RowsFit};
 ghost use Rattle.grid_core.specs.Solo.{state_seen};
 ghost use Rattle.grid_core.specs.Verdicts as verdicts;
@@ -44,7 +45,8 @@ pub fn disconnect_verdict(level: u32, plan: DisconnectPlan) -> Verdict
     }
 }
 
-/// A terminal is disconnected, by opening switches, or connected, by closing some; whatever is retained.
+/// A terminal is disconnected, by opening switches, or connected, by closing some; whatever is retained
+/// and listed.
 pub(crate) fn plan_verdict(
     alloc: Global,
     structure: &Structure,
@@ -54,7 +56,7 @@ pub(crate) fn plan_verdict(
     opens: bool,
 ) -> Result<Verdict, Memory>
     requires { RowsFit structure.now opened.now }
-    ensures { IfOk result (λ verdict. (retained : List (List Bool)) → IsFound (state_seen structure.now opened.now retained) (operating id.now side opens) verdict) }
+    ensures { IfOk result (λ verdict. (retained : List (List Bool)) (powers : Listed) → IsFound (state_seen structure.now opened.now retained powers) (operating id.now side opens) verdict) }
 {
     let at = match find_site(structure, id, side) {
         Ok(at) => at,

@@ -13,8 +13,8 @@ use Rattle.grid_core.proofs.Finding.{no_site_is, connect_is, disconnect_is}
 use Rattle.grid_core.proofs.planning.plan_verdict.Goals as goal
 
 pub returns-in-Err : goal.returns-in-Err
-returns-in-Err c retained =
-    no_site_is (state_seen c.args.structure.now c.args.opened.now retained) c.args.id.now c.args.side c.args.opens c.in-Err.refusal
+returns-in-Err c retained powers =
+    no_site_is (state_seen c.args.structure.now c.args.opened.now retained powers) c.args.id.now c.args.side c.args.opens c.in-Err.refusal
     (ap (λ z. site_of_side c.args.structure.now c.args.id.now z) (sym (to_z-of_z w64 c.args.side c.ranges.side)) ∙ c.in-Err.ensures.site)
 
 pub row-row-requires : goal.row-row-requires
@@ -38,8 +38,8 @@ plan_connect-requires-clause-node c =
 
 pub returns-in_ok-plan : goal.returns-in_ok-plan
 unfolding level_at
-returns-in_ok-plan c retained v =
-    let state = state_seen c.args.structure.now c.args.opened.now retained in
+returns-in_ok-plan c retained powers v =
+    let state = state_seen c.args.structure.now c.args.opened.now retained powers in
     let level = c.level-level.result.now in
     subst (λ (b : Bool). IsVerdict state v (operating c.args.id.now c.args.side b) c.disconnect_verdict.result) (sym c.if-opens.true)
     (subst (λ (z : Verdict). IsVerdict state v (requests.Disconnect c.args.id.now c.args.side) z) (sym c.disconnect_verdict.ensures)
@@ -49,8 +49,8 @@ returns-in_ok-plan c retained v =
 
 pub returns-in_ok-plan-2 : goal.returns-in_ok-plan-2
 unfolding level_at
-returns-in_ok-plan-2 c retained v =
-    let state = state_seen c.args.structure.now c.args.opened.now retained in
+returns-in_ok-plan-2 c retained powers v =
+    let state = state_seen c.args.structure.now c.args.opened.now retained powers in
     let level = c.level-level.result.now in
     subst (λ (b : Bool). IsVerdict state v (operating c.args.id.now c.args.side b) c.connect_verdict.result) (sym c.if-opens.false)
     (subst (λ (z : Verdict). IsVerdict state v (requests.Connect c.args.id.now c.args.side) z) (sym c.connect_verdict.ensures)

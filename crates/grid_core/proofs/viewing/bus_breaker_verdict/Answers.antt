@@ -13,7 +13,7 @@ use Rattle.grid_core.proofs.Finding.{bus_breaker_refused, bus_breaker_is}
 use Rattle.grid_core.proofs.viewing.bus_breaker_verdict.Goals as goal
 
 pub returns-in-None : goal.returns-in-None
-returns-in-None c = bus_breaker_refused (state_seen c.args.structure.now c.args.opened.now c.args.retained.now) c.args.id.now (sym c.in-None.ensures.place)
+returns-in-None c powers = bus_breaker_refused (state_seen c.args.structure.now c.args.opened.now c.args.retained.now powers) c.args.id.now (sym c.in-None.ensures.place)
 
 pub row-requires : goal.row-requires
 row-requires c = (fits_at c.args.structure.now c.args.opened.now c.in-Some.place c.level.result.now c.requires.opened c.level.ensures).0
@@ -29,8 +29,8 @@ bus_breaker_view-requires-clause-retained c = ap length c.row-2.ensures ∙ (fit
 
 pub returns : goal.returns
 unfolding level_at
-returns c v =
-    let state = state_seen c.args.structure.now c.args.opened.now c.args.retained.now in
+returns c powers v =
+    let state = state_seen c.args.structure.now c.args.opened.now c.args.retained.now powers in
     let level = c.level.result.now in
     subst (λ (z : BusBreakerView). IsVerdict state v (requests.BusBreakerView c.args.id.now) (verdicts.Stays (replies.BusBreaker z)))
     (sym (c.in_ok-view.ensures ∙ ap (λ (row : List Bool). bus_breaker_view_of (stood level row c.row-2.result.now)) c.row.ensures ∙ ap (λ (row : List Bool). bus_breaker_view_of (stood level (row_at state.opened c.in-Some.place) row)) c.row-2.ensures))

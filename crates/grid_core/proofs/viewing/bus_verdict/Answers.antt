@@ -2,7 +2,8 @@ use Rattle.std.proofs.Common.{sym, ap, ◌∙◌, subst, length, List, Bool}
 use Rattle.std.proofs.lemmas.List.{length-map}
 use Rattle.grid_level.specs.Passing.{positioned}
 use Rattle.grid_busview.specs.declared.BusView.{BusView}
-use Rattle.grid_busview.specs.Views.{record_watts, bus_view_of}
+use Rattle.grid_busview.specs.Views.{bus_view_of}
+use Rattle.grid_watts.specs.Watts.{level_watts}
 use Rattle.grid_core.specs.declared.request.Request.TheVariants as requests
 use Rattle.grid_core.specs.declared.reply.Reply.TheVariants as replies
 use Rattle.grid_core.specs.declared.verdict.Verdict.TheVariants as verdicts
@@ -13,7 +14,7 @@ use Rattle.grid_core.proofs.Finding.{bus_refused, bus_is}
 use Rattle.grid_core.proofs.viewing.bus_verdict.Goals as goal
 
 pub returns-in-None : goal.returns-in-None
-returns-in-None c retained = bus_refused (state_seen c.args.structure.now c.args.opened.now retained) c.args.id.now (sym c.in-None.ensures.place)
+returns-in-None c retained = bus_refused (state_seen c.args.structure.now c.args.opened.now retained c.args.powers.now.listed) c.args.id.now (sym c.in-None.ensures.place)
 
 pub row-requires : goal.row-requires
 row-requires c = (fits_at c.args.structure.now c.args.opened.now c.in-Some.place c.level-level.result.now c.requires c.level-level.ensures).0
@@ -22,14 +23,14 @@ pub bus_view-requires-clause-states : goal.bus_view-requires-clause-states
 bus_view-requires-clause-states c = ap length c.row.ensures ∙ (fits_at c.args.structure.now c.args.opened.now c.in-Some.place c.level-level.result.now c.requires c.level-level.ensures).1
 
 pub bus_view-requires-clause-powers : goal.bus_view-requires-clause-powers
-unfolding record_watts
+unfolding level_watts
 bus_view-requires-clause-powers c = ap length (c.slice.ensures ∙ c.in_ok-watts.ensures) ∙ length-map c.level-level.result.now.placed _
 
 pub returns : goal.returns
 unfolding level_at
 returns c retained v =
-    let state = state_seen c.args.structure.now c.args.opened.now retained in
+    let state = state_seen c.args.structure.now c.args.opened.now retained c.args.powers.now.listed in
     let level = c.level-level.result.now in
     subst (λ (z : BusView). IsVerdict state v (requests.BusView c.args.id.now) (verdicts.Stays (replies.Bus z)))
-    (sym (c.in_ok-view.ensures ∙ ap (bus_view_of (positioned level c.row.result.now)) (c.slice.ensures ∙ c.in_ok-watts.ensures) ∙ ap (λ (row : List Bool). bus_view_of (positioned level row) (record_watts level)) c.row.ensures))
+    (sym (c.in_ok-view.ensures ∙ ap (bus_view_of (positioned level c.row.result.now)) (c.slice.ensures ∙ c.in_ok-watts.ensures) ∙ ap (λ (row : List Bool). bus_view_of (positioned level row) (level_watts c.args.powers.now.listed level)) c.row.ensures))
     (bus_is state c.args.id.now c.in-Some.place level (sym c.in-Some.ensures.place) c.level-level.ensures v)

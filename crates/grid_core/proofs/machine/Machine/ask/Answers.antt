@@ -1,6 +1,6 @@
 use Rattle.std.proofs.Common.{arith}
 use Rattle.grid_core.proofs.Making.{each_ok}
-use Rattle.grid_core.proofs.Flagging.{stands_slot, flagged, slot_within, dead_made}
+use Rattle.grid_core.proofs.Flagging.{stands_slot, flagged, slot_within, powers_within, dead_made}
 use Rattle.grid_core.proofs.Carrying.{asks_variant, seen_fits, found_decides}
 use Rattle.grid_core.proofs.machine.Machine.ask.Goals as goal
 
@@ -14,11 +14,14 @@ states-opened-requires c = stands_slot c.args.self.now c.args.variant.now c.in-S
 pub index-retained-requires : goal.index-retained-requires
 index-retained-requires c = let below = slot_within c.args.self.now c.in-Some.slot (flagged c.args.self.now c.args.variant.now c.in-Some.slot c.requires.held c.in-Some.ensures) in omega (arith, below, c.args.self.now.retained.ok.0)
 
+pub index-powers-requires : goal.index-powers-requires
+index-powers-requires c = let below = powers_within c.args.self.now c.args.variant.now c.in-Some.slot c.requires.held c.in-Some.ensures in omega (arith, below, c.args.self.now.powers.ok.0)
+
 pub find_verdict-requires-clause-fits : goal.find_verdict-requires-clause-fits
 find_verdict-requires-clause-fits c =
-    seen_fits c.args.self.now c.in-Some.slot c.args.variant.now c.requires.held c.in-Some.ensures c.states-opened.result.now c.index-retained.result.now c.states-opened.ensures c.index-retained.ensures
+    seen_fits c.args.self.now c.in-Some.slot c.args.variant.now c.requires.held c.in-Some.ensures c.states-opened.result.now c.index-retained.result.now c.index-powers.result.now c.states-opened.ensures c.index-retained.ensures c.index-powers.ensures
 
 pub carry_out-requires-clause-decides : goal.carry_out-requires-clause-decides
 carry_out-requires-clause-decides c =
-    found_decides c.args.self.now c.in-Some.slot c.args.variant.now c.requires.held c.in-Some.ensures c.states-opened.result.now c.index-retained.result.now c.states-opened.ensures c.index-retained.ensures
+    found_decides c.args.self.now c.in-Some.slot c.args.variant.now c.requires.held c.in-Some.ensures c.states-opened.result.now c.index-retained.result.now c.index-powers.result.now c.states-opened.ensures c.index-retained.ensures c.index-powers.ensures
     c.args.request.now c.in_ok-verdict.verdict c.in_ok-verdict.ensures
