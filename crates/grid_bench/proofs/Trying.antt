@@ -18,12 +18,6 @@ use Rattle.grid_bench.specs.Contents.{Content, content}
 use Rattle.grid_bench.specs.Costs.{is_at_end, touched_by, touched_both, standing_with, with_flags_at, change_cost, content_midway, flag_at, differs_at, place_cost, changes_cost}
 use Rattle.grid_bench.proofs.Following.{beq_refl}
 
-pub placed_among : (node : ℕ) (ns : List ℕ) (k : ℕ) → position (λ m. eqb m node) ns ≡ Some k → list_any (λ m. eqb m node) ns ≡ true
-placed_among node ns k h =
-    let at = position-Some (λ m. eqb m node) ns k 0 h in
-    let P : ℕ → Type 0 = λ z. In z ns in
-    In_among node ns (subst P (eqb-true (get_or ns k 0) node at.1) (In_get ns k at.0))
-
 -- ---- what a change touches
 
 touched_le : (rule : Rule) (before after : VoltageLevel) (s : Switch) → touched_by rule before after s ≤ length (nodes before)
