@@ -41,7 +41,7 @@ fn updates_of(alloc: Global, variant: &str) -> Result<Filter, Fail> {
 const OPENS: &str =
     r#"{"do":"open","switch":"BC"},{"do":"clone","from":"InitialState","to":"VA"},{"do":"use","variant":"VA"},{"do":"close","switch":"BC"},{"do":"open","switch":"ZZ"},{"do":"close","switch":"BC"}"#;
 
-/// Makes the steps of a script in a world of one worker, and tells them.
+/// Makes the steps of a script in a world of one worker, and tells them: how many were made.
 fn tell<L: Listener>(
     alloc: Global,
     job: &Job,
@@ -51,9 +51,10 @@ fn tell<L: Listener>(
     let mut world = World::start(alloc, job.network.copy()?, 1)?;
     let mut made = 0usize;
     for request in script.slice() {
-        if world.step_told(0, request, listeners).is_ok() {
-            made = made.saturating_add(1);
+        if world.step_told(0, request, listeners).is_err() {
+            return Ok(made);
         }
+        made = made.saturating_add(1);
     }
     Ok(made)
 }
