@@ -11,7 +11,7 @@ use super::*;
 use grid_busview::record_watts;
 use grid_ids::{Id, Memory, Same};
 use grid_kinds::{Injection, SwitchKind};
-use grid_level::{Flags, Level, Placed, Stand, Terminal};
+use grid_level::{Flags, Level, Placed, SharedLevel, Stand, Terminal};
 use grid_queue::Steps;
 use std::alloc::Global;
 use std::marker::Brand;
@@ -96,7 +96,7 @@ fn stands(
 ) -> Result<BaseLevel, Fail> {
     let powers = record_watts(alloc, &level)?;
     Ok(BaseLevel {
-        level,
+        level: SharedLevel::new(alloc, level)?,
         states: flags(alloc, opened)?,
         retained: flags(alloc, retained)?,
         powers,
@@ -120,14 +120,14 @@ fn bay(alloc: Global, name: &str, opened: &[bool]) -> Result<BaseLevel, Fail> {
 fn fits(part: &BaseLevel) -> bool
     ensures { IsTrue result → LevelFits part.now }
 {
-    let switches = part.level.switches().len();
+    let switches = part.level.level().switches().len();
     if part.states.len() != switches {
         return false;
     }
     if part.retained.len() != switches {
         return false;
     }
-    part.powers.len() == part.level.placed().len()
+    part.powers.len() == part.level.level().placed().len()
 }
 
 // Whether a branch end stands there.
@@ -148,6 +148,7 @@ fn carries(part: &BaseLevel, node: u16) -> bool
     ensures { result ≡ carries_end (Some part.now) node }
 {
     part.level
+        .level()
         .placed()
         .iter()
         .any(|placed| is_end_at(placed, node))
@@ -169,7 +170,7 @@ fn base_of_two(
     let (fit1, fit2) = (fits(&first), fits(&second));
     assert!(rt; fit1);
     assert!(rt; fit2);
-    let one = first.level.id().same(second.level.id());
+    let one = first.level.level().id().same(second.level.level().id());
     assert!(rt; !one);
     let (end1, end2) = (carries(&first, 1), carries(&second, 1));
     assert!(rt; end1);
@@ -199,7 +200,7 @@ fn has_node(base: &Base, level: u32, node: u16) -> bool
     if !has_level(base, level) {
         return false;
     }
-    base.level_at(level).level.index_of(node).is_some()
+    base.level_at(level).level.level().index_of(node).is_some()
 }
 
 // Whether the base has the level and the node that the task names.

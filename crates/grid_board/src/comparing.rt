@@ -43,10 +43,10 @@ fn is_part(
 ) -> bool
     ensures { IsTrue result ↔ (questions.part_with powers.now.listed level.now opened.now retained.now ≡ part.now) }
 {
-    level.id().same(part.level.id())
+    level.id().same(part.level.level().id())
         && same_items(opened, part.states.slice())
         && same_items(retained, part.retained.slice())
-        && level.same(&part.level)
+        && level.same(part.level.level())
         && same_watts(level.placed(), powers, part.powers.slice())
 }
 

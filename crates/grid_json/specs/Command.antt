@@ -29,16 +29,20 @@ use Rattle.grid_json.specs.Network.{two_at, three_at, end_at, item_names, item_a
 abbrev pub verb_words : List (List ℕ × Verb)
 verb_words =
     (codes "use", verbs.Use) ∷ (codes "remove", verbs.Remove) ∷ (codes "open", verbs.Open) ∷ (codes "close", verbs.Close)
-    ∷ (codes "retain", verbs.Retain) ∷ (codes "connect", verbs.Connect) ∷ (codes "disconnect", verbs.Disconnect)
+    ∷ (codes "retain", verbs.Retain) ∷ (codes "set_power", verbs.SetPower) ∷ (codes "totals", verbs.Totals) ∷ (codes "connect", verbs.Connect) ∷ (codes "disconnect", verbs.Disconnect)
     ∷ (codes "bus_breaker_view", verbs.BusBreakerView) ∷ (codes "bus_view", verbs.BusView) ∷ (codes "components", verbs.Components)
     ∷ (codes "clone", verbs.Clone) ∷ (codes "add_substation", verbs.Change edit_verbs.AddSubstation) ∷ (codes "add_level", verbs.Change edit_verbs.AddLevel)
     ∷ (codes "add_busbar", verbs.Change edit_verbs.AddBusbar) ∷ (codes "add_switch", verbs.Change edit_verbs.AddSwitch) ∷ (codes "remove_switch", verbs.Change edit_verbs.RemoveSwitch)
     ∷ (codes "remove_equipment", verbs.Change edit_verbs.RemoveEquipment) ∷ (codes "add_internal", verbs.Change edit_verbs.AddInternal)
     ∷ (codes "remove_internal", verbs.Change edit_verbs.RemoveInternal) ∷ (codes "add_injection", verbs.Change edit_verbs.AddInjection) ∷ (codes "add_branch", verbs.Change edit_verbs.AddBranch) ∷ []
 
--- the word `retain` came with the second format
+-- the word `retain` came with the second format, `set_power` and `totals` with the third
 abbrev pub known_verb : Format → Verb → Result Verb Fault
 known_verb formats.One verbs.Retain = Err (here Unknown)
+known_verb formats.One verbs.SetPower = Err (here Unknown)
+known_verb formats.One verbs.Totals = Err (here Unknown)
+known_verb formats.Two verbs.SetPower = Err (here Unknown)
+known_verb formats.Two verbs.Totals = Err (here Unknown)
 known_verb format verb = Ok verb
 
 abbrev pub verb_at : Format → Data → Result Verb Fault
@@ -55,6 +59,8 @@ verb_names verbs.Remove = codes "variant" ∷ []
 verb_names verbs.Open = codes "switch" ∷ []
 verb_names verbs.Close = codes "switch" ∷ []
 verb_names verbs.Retain = codes "switch" ∷ codes "retained" ∷ []
+verb_names verbs.SetPower = codes "equipment" ∷ codes "watts" ∷ []
+verb_names verbs.Totals = []
 verb_names verbs.Connect = codes "equipment" ∷ codes "side" ∷ []
 verb_names verbs.Disconnect = codes "equipment" ∷ codes "side" ∷ []
 verb_names verbs.BusBreakerView = codes "level" ∷ []
@@ -189,6 +195,12 @@ retain_at d = do
   retained ← member_at flag_at (codes "retained") d
   Ok (requests.RetainSwitch switch retained)
 
+unfoldable pub set_power_at : Data → Result Request Fault
+set_power_at d = do
+  equipment ← member_at id_at (codes "equipment") d
+  watts ← member_at whole_at (codes "watts") d
+  Ok (requests.SetPower equipment watts)
+
 -- the side is 1 where it is absent
 unfoldable pub sided_at : (List ℕ → ℤ → Request) → Data → Result Request Fault
 sided_at made d = do
@@ -220,6 +232,8 @@ request_at format verbs.Remove d = named_at (codes "variant") requests.RemoveVar
 request_at format verbs.Open d = named_at (codes "switch") requests.OpenSwitch d
 request_at format verbs.Close d = named_at (codes "switch") requests.CloseSwitch d
 request_at format verbs.Retain d = retain_at d
+request_at format verbs.SetPower d = set_power_at d
+request_at format verbs.Totals d = Ok requests.Totals
 request_at format verbs.Connect d = sided_at requests.Connect d
 request_at format verbs.Disconnect d = sided_at requests.Disconnect d
 request_at format verbs.BusBreakerView d = named_at (codes "level") requests.BusBreakerView d

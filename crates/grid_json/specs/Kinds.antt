@@ -1,10 +1,12 @@
 -- The words of the kinds.
-use Rattle.std.specs.Prelude.{[], ◌∷◌, Result, codes}
+use Rattle.std.specs.Prelude.{[], ◌∷◌, Result, Ok, Err, List, ℕ, codes}
 use Rattle.serde_json.specs.Data.{Data}
 use Rattle.grid_kinds.specs.declared.SwitchKind.{SwitchKind}
 use Rattle.grid_kinds.specs.declared.SwitchKind.TheVariants.{Breaker, Disconnector, LoadBreakSwitch}
 use Rattle.grid_json.specs.declared.fault.Fault.{Fault}
+use Rattle.grid_json.specs.declared.fault.Reason.TheVariants.{Unknown}
 use Rattle.grid_json.specs.declared.format.Format.{Format}
+use Rattle.grid_json.specs.declared.format.Format.TheVariants as formats
 use Rattle.grid_json.specs.declared.kinds.InjectionKind.{InjectionKind}
 use Rattle.grid_json.specs.declared.kinds.InjectionKind.TheVariants as injections
 use Rattle.grid_json.specs.declared.kinds.WindingsKind.{WindingsKind}
@@ -13,15 +15,26 @@ use Rattle.grid_json.specs.declared.kinds.BranchKind.{BranchKind}
 use Rattle.grid_json.specs.declared.kinds.BranchKind.TheVariants as branches
 use Rattle.grid_json.specs.declared.kinds.EventKind.{EventKind}
 use Rattle.grid_json.specs.declared.kinds.EventKind.TheVariants as events
-use Rattle.grid_json.specs.Reading.{word_at}
+use Rattle.grid_json.specs.Reading.{◌>>=◌, here, word_at}
 
 abbrev pub switch_kind_at : Format → Data → Result SwitchKind Fault
 switch_kind_at format = word_at ((codes "BREAKER", Breaker) ∷ (codes "DISCONNECTOR", Disconnector) ∷ (codes "LOAD_BREAK_SWITCH", LoadBreakSwitch) ∷ [])
 
+abbrev pub injection_words : List (List ℕ × InjectionKind)
+injection_words =
+    (codes "LOAD", injections.Load) ∷ (codes "GENERATOR", injections.Generator) ∷ (codes "BATTERY", injections.Battery)
+    ∷ (codes "SHUNT_COMPENSATOR", injections.ShuntCompensator) ∷ (codes "STATIC_VAR_COMPENSATOR", injections.StaticVarCompensator)
+    ∷ (codes "CONVERTER_STATION", injections.ConverterStation) ∷ []
+
+-- converter stations came with the fourth format
+abbrev pub known_injection : InjectionKind → Format → Result InjectionKind Fault
+known_injection injections.ConverterStation formats.One = Err (here Unknown)
+known_injection injections.ConverterStation formats.Two = Err (here Unknown)
+known_injection injections.ConverterStation formats.Three = Err (here Unknown)
+known_injection kind format = Ok kind
+
 abbrev pub injection_kind_at : Format → Data → Result InjectionKind Fault
-injection_kind_at format = word_at
-    ((codes "LOAD", injections.Load) ∷ (codes "GENERATOR", injections.Generator) ∷ (codes "BATTERY", injections.Battery)
-    ∷ (codes "SHUNT_COMPENSATOR", injections.ShuntCompensator) ∷ (codes "STATIC_VAR_COMPENSATOR", injections.StaticVarCompensator) ∷ [])
+injection_kind_at format d = word_at injection_words d >>= λ kind. known_injection kind format
 
 -- a transformer's kind
 abbrev pub windings_kind_at : Format → Data → Result WindingsKind Fault

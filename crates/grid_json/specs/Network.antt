@@ -109,6 +109,7 @@ item_names injections.Generator = codes "target_p" ∷ codes "target_v" ∷ code
 item_names injections.Battery = codes "target_p" ∷ codes "target_q" ∷ codes "min_p" ∷ codes "max_p" ∷ []
 item_names injections.ShuntCompensator = codes "section_count" ∷ codes "max_sections" ∷ []
 item_names injections.StaticVarCompensator = codes "target_q" ∷ []
+item_names injections.ConverterStation = codes "target_q" ∷ []
 
 abbrev pub injection_names : InjectionKind → List (List ℕ)
 injection_names kind = codes "kind" ∷ codes "id" ∷ codes "node" ∷ item_names kind
@@ -137,6 +138,9 @@ item_at injections.ShuntCompensator d = do
 item_at injections.StaticVarCompensator d = do
   target_q ← member_at whole_at (codes "target_q") d
   Ok (items.StaticVarCompensator target_q)
+item_at injections.ConverterStation d = do
+  target_q ← member_at whole_at (codes "target_q") d
+  Ok (items.ConverterStation target_q)
 
 -- the kind chooses the other members, so it is read first
 unfoldable pub injection_at : Format → Data → Result InjectionDraft Fault

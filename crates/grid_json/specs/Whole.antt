@@ -33,6 +33,10 @@ abbrev pub job_in : Result JobDraft JobFault → Result Job JobFault
 job_in (Ok draft) = or_bad_job (loaded draft)
 job_in (Err fault) = Err fault
 
+-- both passes over a value: the first fault with its place, or else the job
+unfoldable pub job_at : Data → Result Job JobFault
+job_at d = job_in (or_bad_job (draft_at d))
+
 -- both passes: BadJson where the bytes spell no JSON value, else the first fault with its place, else the job
 unfoldable pub job_of : List ℕ → Result Job JobFault
 job_of bytes = job_in (draft_of bytes)

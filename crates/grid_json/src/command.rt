@@ -2,7 +2,7 @@
 ghost use Rattle.std.specs.Prelude.{◌≡◌, ◌∷◌, codes};
 ghost use Rattle.serde_json.specs.View.{view};
 ghost use Rattle.grid_json.specs.Reading.{Gives, texts, word_at};
-ghost use Rattle.grid_json.specs.Command.{known_verb, command_names, plain_names, branch_names, add_level_at, add_busbar_at, add_switch_at, add_internal_at, remove_internal_at, add_injection_at, shape_at, add_branch_at, clone_at, retain_at, edit_at, request_at, verb_words, line_of, two_windings_of, three_windings_of, named_at, sided_at};
+ghost use Rattle.grid_json.specs.Command.{known_verb, command_names, plain_names, branch_names, add_level_at, add_busbar_at, add_switch_at, add_internal_at, remove_internal_at, add_injection_at, shape_at, add_branch_at, clone_at, retain_at, set_power_at, edit_at, request_at, verb_words, line_of, two_windings_of, three_windings_of, named_at, sided_at};
 ghost use Rattle.grid_json.specs.Network.{item_names};
 
 use crate::ends::{Three, Two};
@@ -40,6 +40,8 @@ pub enum Verb {
     Open,
     Close,
     Retain,
+    SetPower,
+    Totals,
     Connect,
     Disconnect,
     BusBreakerView,
@@ -62,6 +64,8 @@ fn verb_of(alloc: Global, value: &Value) -> Result<Verb, ReadError>
         "open" => Ok(Verb::Open),
         "close" => Ok(Verb::Close),
         "retain" => Ok(Verb::Retain),
+        "set_power" => Ok(Verb::SetPower),
+        "totals" => Ok(Verb::Totals),
         "connect" => Ok(Verb::Connect),
         "disconnect" => Ok(Verb::Disconnect),
         "bus_breaker_view" => Ok(Verb::BusBreakerView),
@@ -87,7 +91,10 @@ fn known(alloc: Global, format: Format, verb: Verb) -> Result<Verb, ReadError>
     ensures { Gives result (known_verb format verb) }
 {
     match (format, verb) {
-        (Format::One, Verb::Retain) => Err(ReadError::here(alloc, Reason::Unknown)),
+        (Format::One, Verb::Retain | Verb::SetPower | Verb::Totals)
+        | (Format::Two, Verb::SetPower | Verb::Totals) => {
+            Err(ReadError::here(alloc, Reason::Unknown))
+        }
         (_, verb) => Ok(verb),
     }
 }
@@ -137,6 +144,8 @@ fn names_of_command(verb: Verb) -> &'static [&'static str]
         Verb::Use | Verb::Remove => &["do", "variant"],
         Verb::Open | Verb::Close => &["do", "switch"],
         Verb::Retain => &["do", "switch", "retained"],
+        Verb::SetPower => &["do", "equipment", "watts"],
+        Verb::Totals => &["do"],
         Verb::Connect | Verb::Disconnect => &["do", "equipment", "side"],
         Verb::BusBreakerView | Verb::BusView | Verb::Components => &["do", "level"],
         Verb::Clone => &["do", "from", "to", "overwrite"],
@@ -255,7 +264,7 @@ fn names_of_injection(kind: InjectionKind) -> &'static [&'static str]
             "section_count",
             "max_sections",
         ],
-        InjectionKind::StaticVarCompensator => {
+        InjectionKind::StaticVarCompensator | InjectionKind::ConverterStation => {
             &["do", "kind", "id", "level", "node", "target_q"]
         }
     }
@@ -400,6 +409,15 @@ fn retain_of(alloc: Global, format: Format, value: &Value) -> Result<Request, Re
     Ok(Request::RetainSwitch { id, retained })
 }
 
+#[tactic(auto, unfolding(crate::specs::Command::set_power_at))]
+fn set_power_of(alloc: Global, format: Format, value: &Value) -> Result<Request, ReadError>
+    ensures { Gives result (set_power_at (view value.now)) }
+{
+    let id = member(alloc, format, value, "equipment")?;
+    let watts = member(alloc, format, value, "watts")?;
+    Ok(Request::SetPower { id, watts })
+}
+
 /// The edit of a verb.
 #[tactic(auto, unfolding(crate::specs::Command::edit_at, crate::specs::Command::named_at))]
 fn edit_of(alloc: Global, format: Format, verb: EditVerb, value: &Value) -> Result<Edit, ReadError>
@@ -497,6 +515,8 @@ fn request_of(
             id: member(alloc, format, value, "switch")?,
         }),
         Verb::Retain => retain_of(alloc, format, value),
+        Verb::SetPower => set_power_of(alloc, format, value),
+        Verb::Totals => Ok(Request::Totals),
         Verb::Connect => connect_of(alloc, format, value),
         Verb::Disconnect => disconnect_of(alloc, format, value),
         Verb::BusBreakerView => bus_breaker_view_of(alloc, format, value),

@@ -23,6 +23,12 @@ pub enum Reason {
     TooManyWorkers,
     /// Reason 67: there are more than 16 listeners.
     TooManyListeners,
+    /// Reason 70: the id of an HVDC line is that of a thing of the network or of an earlier line.
+    HvdcIdTaken,
+    /// Reason 71: no converter station of the network has the id of this side, 1 or 2.
+    NoStation { side: u8 },
+    /// Reason 72: an earlier line, or side 1 of this one, names the converter station of this side.
+    StationUsed { side: u8 },
     /// A text that must be an id is none.
     Name(IdFault),
     /// An edit that loads the network is refused.

@@ -10,6 +10,10 @@ pub enum Format {
     One,
     /// Has also the command `retain`.
     Two,
+    /// Has also the commands `set_power` and `totals`.
+    Three,
+    /// Has also the injection kind `CONVERTER_STATION`.
+    Four,
 }
 
 impl FromJson for Format {
@@ -21,6 +25,8 @@ impl FromJson for Format {
         match i64::from_json(alloc, format, value)? {
             1 => Ok(Format::One),
             2 => Ok(Format::Two),
+            3 => Ok(Format::Three),
+            4 => Ok(Format::Four),
             _ => Err(ReadError::here(alloc, Reason::Unknown)),
         }
     }

@@ -1,4 +1,9 @@
 // Kinds by their words.
+ghost use Rattle.serde_json.specs.View.{view};
+ghost use Rattle.grid_json.specs.Reading.{Gives, word_at};
+ghost use Rattle.grid_json.specs.Kinds as kinds;
+ghost use Rattle.grid_json.specs.Kinds.{injection_words};
+
 use crate::format::Format;
 use crate::{FromJson, ReadError, Reason};
 use grid_kinds::SwitchKind;
@@ -13,6 +18,7 @@ pub enum InjectionKind {
     Battery,
     ShuntCompensator,
     StaticVarCompensator,
+    ConverterStation,
 }
 
 /// The kinds of transformers.
@@ -59,27 +65,48 @@ impl FromJson for SwitchKind {
     }
 }
 
+// The kind of injections that a word of any format names.
+fn injection_kind_of(alloc: Global, value: &Value) -> Result<InjectionKind, ReadError>
+    ensures { Gives result (word_at injection_words (view value.now)) }
+{
+    let Some(word) = value.as_str() else {
+        return Err(ReadError::here(alloc, Reason::WrongKind));
+    };
+    match word {
+        "LOAD" => Ok(InjectionKind::Load),
+        "GENERATOR" => Ok(InjectionKind::Generator),
+        "BATTERY" => Ok(InjectionKind::Battery),
+        "SHUNT_COMPENSATOR" => Ok(InjectionKind::ShuntCompensator),
+        "STATIC_VAR_COMPENSATOR" => Ok(InjectionKind::StaticVarCompensator),
+        "CONVERTER_STATION" => Ok(InjectionKind::ConverterStation),
+        _ => Err(ReadError::here(alloc, Reason::Unknown)),
+    }
+}
+
+// The kind of injections, where the format has it.
+fn known_injection(
+    alloc: Global,
+    kind: InjectionKind,
+    format: Format,
+) -> Result<InjectionKind, ReadError>
+    ensures { Gives result (kinds.known_injection kind format) }
+{
+    match (kind, format) {
+        (InjectionKind::ConverterStation, Format::One | Format::Two | Format::Three) => {
+            Err(ReadError::here(alloc, Reason::Unknown))
+        }
+        (kind, _) => Ok(kind),
+    }
+}
+
 impl FromJson for InjectionKind {
     ghost use Rattle.grid_json.specs.Kinds.{injection_kind_at};
 
     ghost reads = { injection_kind_at };
 
-    fn from_json(
-        alloc: Global,
-        _format: Format,
-        value: &Value,
-    ) -> Result<InjectionKind, ReadError> {
-        let Some(word) = value.as_str() else {
-            return Err(ReadError::here(alloc, Reason::WrongKind));
-        };
-        match word {
-            "LOAD" => Ok(InjectionKind::Load),
-            "GENERATOR" => Ok(InjectionKind::Generator),
-            "BATTERY" => Ok(InjectionKind::Battery),
-            "SHUNT_COMPENSATOR" => Ok(InjectionKind::ShuntCompensator),
-            "STATIC_VAR_COMPENSATOR" => Ok(InjectionKind::StaticVarCompensator),
-            _ => Err(ReadError::here(alloc, Reason::Unknown)),
-        }
+    fn from_json(alloc: Global, format: Format, value: &Value) -> Result<InjectionKind, ReadError> {
+        let kind = injection_kind_of(alloc, value)?;
+        known_injection(alloc, kind, format)
     }
 }
 

@@ -21,4 +21,4 @@ pub use job::{JobDraft, Order, read_draft};
 pub use place::Place;
 pub use read::{FromJson, member, member_otherwise, object, only, optional};
 pub use value::{ByteFault, value_of};
-pub use whole::{Job, JobFault, read_job};
+pub use whole::{Job, JobFault, read_job, read_value};

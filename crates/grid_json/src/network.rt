@@ -187,7 +187,9 @@ fn names_of_injection(kind: InjectionKind) -> &'static [&'static str]
         InjectionKind::ShuntCompensator => {
             &["kind", "id", "node", "section_count", "max_sections"]
         }
-        InjectionKind::StaticVarCompensator => &["kind", "id", "node", "target_q"],
+        InjectionKind::StaticVarCompensator | InjectionKind::ConverterStation => {
+            &["kind", "id", "node", "target_q"]
+        }
     }
 }
 
@@ -265,6 +267,19 @@ fn static_var_compensator_of(
     Ok(Injection::StaticVarCompensator { target_q })
 }
 
+/// The record of a converter station.
+#[tactic(auto, unfolding(crate::specs::Network::item_at))]
+fn converter_station_of(
+    alloc: Global,
+    format: Format,
+    value: &Value,
+) -> Result<Injection, ReadError>
+    ensures { Gives result (item_at InjectionKind.ConverterStation (view value.now)) }
+{
+    let target_q = member(alloc, format, value, "target_q")?;
+    Ok(Injection::ConverterStation { target_q })
+}
+
 /// The record of an injection of a kind.
 pub fn item_of(
     alloc: Global,
@@ -280,6 +295,7 @@ pub fn item_of(
         InjectionKind::Battery => battery_of(alloc, format, value),
         InjectionKind::ShuntCompensator => shunt_compensator_of(alloc, format, value),
         InjectionKind::StaticVarCompensator => static_var_compensator_of(alloc, format, value),
+        InjectionKind::ConverterStation => converter_station_of(alloc, format, value),
     }
 }
 

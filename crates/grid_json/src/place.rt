@@ -34,6 +34,15 @@ impl Place {
         }
     }
 
+    /// The place with this text.
+    pub fn new(alloc: Global, text: &str) -> Result<Place, Memory>
+        ensures { IfOk result (λ p. p ≡ text.now) }
+    {
+        Ok(Place {
+            text: String::from_str(alloc, text)?,
+        })
+    }
+
     /// The place with one more step in front.
     pub fn under(self, alloc: Global, name: &str) -> Result<Place, Memory>
         ensures { IfOk result (λ p. p ≡ 47 ∷ (name.now ++ self)) }

@@ -1,8 +1,9 @@
 // Jobs from bytes.
-ghost use Rattle.std.specs.Prelude.{◌≡◌, ◌≤◌, IfOk};
-ghost use Rattle.grid_json.specs.Job.{command_total, max_commands};
+ghost use Rattle.std.specs.Prelude.{◌≡◌, ◌≢◌, ◌≤◌, IfOk, IfErr};
+ghost use Rattle.serde_json.specs.View.{view};
+ghost use Rattle.grid_json.specs.Job.{command_total, max_commands, draft_at};
 ghost use Rattle.grid_json.specs.Reading.{Gives};
-ghost use Rattle.grid_json.specs.Whole.{loaded, draft_of, job_of, JobGives};
+ghost use Rattle.grid_json.specs.Whole.{loaded, or_bad_job, draft_of, job_at, job_of, JobGives};
 
 use crate::job::{JobDraft, Order, read_draft};
 use crate::load::load_network;
@@ -11,6 +12,7 @@ use crate::{Place, ReadError, Reason};
 use grid_core::Scripts;
 use grid_events::Filters;
 use grid_structure::Structure;
+use serde_json::Value;
 use std::alloc::Global;
 
 /// A network with its listeners, the scripts of its workers, and the order of their steps, where one is given.
@@ -33,24 +35,32 @@ pub enum JobFault {
     Memory,
 }
 
-/// The first pass over the bytes. The value is given up then.
-#[tactic(auto, unfolding(crate::specs::Whole::draft_of))]
-fn read_bytes(alloc: Global, bytes: &[u8]) -> Result<JobDraft, JobFault>
-    ensures draft { JobGives result (draft_of bytes.now) }
+/// The first pass over a value.
+fn read_first(alloc: Global, value: &Value) -> Result<JobDraft, JobFault>
+    ensures draft { JobGives result (or_bad_job (draft_at (view value.now))) }
     ensures total { IfOk result (λ draft. command_total draft.scripts ≤ max_commands) }
+    ensures sure { IfErr result (λ fault. fault ≢ JobFault.BadJson) }
 {
-    let value = match value_of(alloc, bytes) {
-        Ok(value) => value,
-        Err(ByteFault::NotJson) => return Err(JobFault::BadJson),
-        Err(ByteFault::Memory) => return Err(JobFault::Memory),
-    };
-    match read_draft(alloc, &value) {
+    match read_draft(alloc, value) {
         Ok(draft) => Ok(draft),
         Err(ReadError::Memory) => Err(JobFault::Memory),
         Err(ReadError::Fault(fault)) => Err(JobFault::BadJob {
             place: fault.place,
             reason: fault.reason,
         }),
+    }
+}
+
+/// The first pass over the bytes. The value is given up then.
+#[tactic(auto, unfolding(crate::specs::Whole::draft_of))]
+fn read_bytes(alloc: Global, bytes: &[u8]) -> Result<JobDraft, JobFault>
+    ensures draft { JobGives result (draft_of bytes.now) }
+    ensures total { IfOk result (λ draft. command_total draft.scripts ≤ max_commands) }
+{
+    match value_of(alloc, bytes) {
+        Ok(value) => read_first(alloc, &value),
+        Err(ByteFault::NotJson) => Err(JobFault::BadJson),
+        Err(ByteFault::Memory) => Err(JobFault::Memory),
     }
 }
 
@@ -69,17 +79,12 @@ fn load(alloc: Global, draft: JobDraft) -> Result<Job, ReadError>
     })
 }
 
-/// The job of the bytes: BadJson exactly where `serde_json` has no reading of them, BadJob exactly where the job has a
-/// fault, with the first one.
-#[tactic(auto, unfolding(crate::specs::Whole::job_of))]
-pub fn read_job(alloc: Global, bytes: &[u8]) -> Result<Job, JobFault>
-    ensures job { JobGives result (job_of bytes.now) }
-    ensures total { IfOk result (λ job. command_total job.scripts ≤ max_commands) }
+/// The second pass, with the fault of a job.
+fn read_second(alloc: Global, draft: JobDraft) -> Result<Job, JobFault>
+    ensures job { JobGives result (or_bad_job (loaded draft)) }
+    ensures scripts { IfOk result (λ job. job.scripts ≡ draft.scripts) }
+    ensures sure { IfErr result (λ fault. fault ≢ JobFault.BadJson) }
 {
-    let draft = match read_bytes(alloc, bytes) {
-        Ok(draft) => draft,
-        Err(fault) => return Err(fault),
-    };
     match load(alloc, draft) {
         Ok(job) => Ok(job),
         Err(ReadError::Memory) => Err(JobFault::Memory),
@@ -87,5 +92,31 @@ pub fn read_job(alloc: Global, bytes: &[u8]) -> Result<Job, JobFault>
             place: fault.place,
             reason: fault.reason,
         }),
+    }
+}
+
+/// The job of a value: BadJob exactly where the job has a fault, with the first one. It never answers BadJson.
+#[tactic(auto, unfolding(crate::specs::Whole::job_at))]
+pub fn read_value(alloc: Global, value: &Value) -> Result<Job, JobFault>
+    ensures job { JobGives result (job_at (view value.now)) }
+    ensures total { IfOk result (λ job. command_total job.scripts ≤ max_commands) }
+    ensures sure { IfErr result (λ fault. fault ≢ JobFault.BadJson) }
+{
+    match read_first(alloc, value) {
+        Ok(draft) => read_second(alloc, draft),
+        Err(fault) => Err(fault),
+    }
+}
+
+/// The job of the bytes: BadJson exactly where `serde_json` has no reading of them, BadJob exactly where the job has a
+/// fault, with the first one.
+#[tactic(auto, unfolding(crate::specs::Whole::job_of))]
+pub fn read_job(alloc: Global, bytes: &[u8]) -> Result<Job, JobFault>
+    ensures job { JobGives result (job_of bytes.now) }
+    ensures total { IfOk result (λ job. command_total job.scripts ≤ max_commands) }
+{
+    match read_bytes(alloc, bytes) {
+        Ok(draft) => read_second(alloc, draft),
+        Err(fault) => Err(fault),
     }
 }

@@ -13,10 +13,12 @@ ghost use Rattle.grid_level.specs.Kept.{lists_of};
 
 mod parts;
 mod readers;
+mod shared;
 mod uses;
 
 use grid_ids::{Duplicate, Id, Memory, Seq};
 use grid_kinds::{Injection, SwitchKind};
+pub use shared::SharedLevel;
 use std::alloc::Global;
 use std::marker::Model;
 use uses::Uses;

@@ -1,13 +1,14 @@
 -- Each part that is written is read back.
-use Rattle.std.proofs.Common.{◌≡◌, ◌<◌, ◌^◌, ℕ, suc, ℤ, pos, negsuc, List, [], ◌∷◌, ◌++◌, map, Option, Some, None, Ok, refl}
-use Rattle.std.specs.List.{flat_map, AllByRecursion}
-use Rattle.std.specs.Prelude.{IfSome}
+use Rattle.std.proofs.Common.{◌≡◌, ◌<◌, ◌^◌, ℕ, suc, ℤ, pos, negsuc, Bool, true, false, List, [], ◌∷◌, ◌++◌, map, Option, Some, None, Ok, refl, sym, ◌∙◌}
+use Rattle.std.specs.List.{flat_map, list_any, AllByRecursion}
+use Rattle.std.specs.Prelude.{IfSome, ◌||◌, nat_le}
 use Rattle.grid_level.specs.VoltageLevel.{VoltageLevel}
 use Rattle.grid_level.specs.declared.Placed.{Placed}
 use Rattle.grid_level.specs.declared.Stand.{Stand}
 use Rattle.grid_level.specs.declared.Stand.TheVariants.{Busbar, Feeder, BranchEnd}
 use Rattle.std.proofs.lemmas.Bool.{lt-ltb}
 use Rattle.serde_json.specs.View.{items_of}
+use Rattle.grid_kinds.specs.declared.Injection.{Injection}
 use Rattle.grid_kinds.specs.declared.Injection.TheVariants as injections
 use Rattle.grid_kinds.specs.declared.SwitchKind.{SwitchKind}
 use Rattle.grid_kinds.specs.declared.SwitchKind.TheVariants.{Breaker, Disconnector, LoadBreakSwitch}
@@ -20,16 +21,24 @@ use Rattle.grid_json.specs.Network.{busbar_at, switch_at, internal_at, injection
 use Rattle.grid_print.specs.Objects.{members_from, whole}
 use Rattle.grid_print.specs.Network.{switch_value, internal_value, end_value, busbar_of, injection_of, busbars_value, injections_value, level_value, branch_value, named_branch_value, substation_value, network_value}
 use Rattle.grid_print.specs.Readable.{IsId, IsWhole, IsReadableSwitch, IsReadableInternal, IsReadableBusbar, IsReadableInjection, IsReadableLevel, IsReadableEnd, IsReadableShape, IsReadableBranch, IsTransformer, IsLine, IsReadableSubstation}
-use Rattle.grid_print.specs.Laws.{BusbarsAreRead, switch_draft, SwitchesAreRead, internal_draft, InternalsAreRead, InjectionsAreRead, EndsAreRead, busbar_draft_of, injection_draft_of, level_draft, LevelsAreRead, transformer_draft_of, line_draft_of, substation_draft, NetworksAreRead, NetworkJobsAreRead}
+use Rattle.grid_print.specs.Laws.{BusbarsAreRead, switch_draft, SwitchesAreRead, internal_draft, InternalsAreRead, InjectionsAreRead, EndsAreRead, busbar_draft_of, injection_draft_of, level_draft, LevelsAreRead, transformer_draft_of, line_draft_of, substation_draft, draft_alone, NetworksAreRead, NetworkJobsAreRead}
 use Rattle.grid_print.proofs.Each.{each_of}
-use Rattle.grid_print.specs.Job.{job_value, least_format}
+use Rattle.grid_print.specs.Formats.{number_of, item_format, stand_format, level_needs, network_needs, least_format}
+use Rattle.grid_print.specs.Job.{job_value}
+use Rattle.grid_structure.specs.Sites.{levels}
+use Rattle.grid_structure.proofs.Found.{any-flat_map, any_alike}
 use Rattle.grid_json.specs.Job.{draft_at, command_total}
-use Rattle.grid_json.specs.declared.format.Format.TheVariants.{One}
+use Rattle.grid_json.specs.declared.format.Format.TheVariants.{One, Two, Three, Four}
 use Rattle.grid_json.specs.declared.network.Windings.TheVariants as windings
-use Rattle.grid_structure.specs.Network.{Substation}
+use Rattle.grid_structure.specs.Network.{Network, Substation}
 use Rattle.grid_structure.specs.declared.NamedBranch.{NamedBranch}
 use Rattle.grid_structure.specs.declared.Branch.{Branch}
 use Rattle.grid_structure.specs.declared.Branch.TheVariants.{Line, TwoWindings, ThreeWindings}
+
+-- both are false
+neither : (a b : Bool) → a || b ≡ false → (a ≡ false) × (b ≡ false)
+neither true b h = cc
+neither false b h = (refl, h)
 
 -- a number
 whole_read : (z : ℤ) → IsWhole z → whole_at (whole z) ≡ Ok z
@@ -67,16 +76,21 @@ pub internals_are_read : InternalsAreRead
 internals_are_read internals fit = internals_from 0 internals (each_of IsReadableInternal internals fit)
 
 pub injections_are_read : InjectionsAreRead
-unfolding injection_at item_at members_from
-injections_are_read format id node (injections.Load p0 q0) valid small fits =
+unfolding injection_at item_at item_format members_from
+injections_are_read format id node (injections.Load p0 q0) valid small fits known =
     rw (valid, lt-ltb node (2 ^ 63) small, whole_read p0 fits.0, whole_read q0 fits.1) refl
-injections_are_read format id node (injections.Generator target_p target_v min_p max_p) valid small fits =
+injections_are_read format id node (injections.Generator target_p target_v min_p max_p) valid small fits known =
     rw (valid, lt-ltb node (2 ^ 63) small, whole_read target_p fits.0, whole_read target_v fits.1, whole_read min_p fits.2, whole_read max_p fits.3) refl
-injections_are_read format id node (injections.Battery target_p target_q min_p max_p) valid small fits =
+injections_are_read format id node (injections.Battery target_p target_q min_p max_p) valid small fits known =
     rw (valid, lt-ltb node (2 ^ 63) small, whole_read target_p fits.0, whole_read target_q fits.1, whole_read min_p fits.2, whole_read max_p fits.3) refl
-injections_are_read format id node (injections.ShuntCompensator section_count max_sections) valid small fits =
+injections_are_read format id node (injections.ShuntCompensator section_count max_sections) valid small fits known =
     rw (valid, lt-ltb node (2 ^ 63) small, whole_read section_count fits.0, whole_read max_sections fits.1) refl
-injections_are_read format id node (injections.StaticVarCompensator target_q) valid small fits =
+injections_are_read format id node (injections.StaticVarCompensator target_q) valid small fits known =
+    rw (valid, lt-ltb node (2 ^ 63) small, whole_read target_q fits) refl
+injections_are_read One id node (injections.ConverterStation target_q) valid small fits known = cc
+injections_are_read Two id node (injections.ConverterStation target_q) valid small fits known = cc
+injections_are_read Three id node (injections.ConverterStation target_q) valid small fits known = cc
+injections_are_read Four id node (injections.ConverterStation target_q) valid small fits known =
     rw (valid, lt-ltb node (2 ^ 63) small, whole_read target_q fits) refl
 
 busbars_from : (n : ℕ) (placed : List Placed) → AllByRecursion (λ p. IsReadableBusbar p.terminal.equipment p.node p.stand) placed
@@ -93,40 +107,48 @@ busbars_from n (p ∷ placed) fit = by p.stand fit.0 (λ m. busbars_from m place
     by (Feeder read) here again = again n
     by BranchEnd here again = again n
 
-injections_from : (format : Format) (n : ℕ) (placed : List Placed) → AllByRecursion (λ p. IsReadableInjection p.terminal.equipment p.node p.stand) placed
+-- of a format that has no later words than this one
+abbrev late : Format → Placed → Bool
+late format p = nat_le (suc (number_of format)) (stand_format p.stand)
+
+injections_from : (format : Format) (n : ℕ) (placed : List Placed) → AllByRecursion (λ p. IsReadableInjection p.terminal.equipment p.node p.stand) placed → list_any (late format) placed ≡ false
     → items_at (injection_at format) n (items_of (flat_map (λ p. injection_of p.terminal.equipment p.node p.stand) placed)) ≡ Ok (flat_map (λ p. injection_draft_of p.terminal.equipment p.node p.stand) placed)
-unfolding items_at
-injections_from format n [] fit = refl
-injections_from format n (p ∷ placed) fit = by p.stand fit.0 (λ m. injections_from format m placed fit.1)
+unfolding items_at stand_format
+injections_from format n [] fit known = refl
+injections_from format n (p ∷ placed) fit known =
+    let parts = neither (late format p) (list_any (late format) placed) known in
+    by p.stand fit.0 parts.0 (λ m. injections_from format m placed fit.1 parts.1)
   where
-    by : (stand : Stand) → IsReadableInjection p.terminal.equipment p.node stand
+    by : (stand : Stand) → IsReadableInjection p.terminal.equipment p.node stand → nat_le (suc (number_of format)) (stand_format stand) ≡ false
         → ((m : ℕ) → items_at (injection_at format) m (items_of (flat_map (λ p. injection_of p.terminal.equipment p.node p.stand) placed)) ≡ Ok (flat_map (λ p. injection_draft_of p.terminal.equipment p.node p.stand) placed))
         → items_at (injection_at format) n (items_of (injection_of p.terminal.equipment p.node stand ++ flat_map (λ p. injection_of p.terminal.equipment p.node p.stand) placed))
         ≡ Ok (injection_draft_of p.terminal.equipment p.node stand ++ flat_map (λ p. injection_draft_of p.terminal.equipment p.node p.stand) placed)
-    by Busbar here again = again n
-    by (Feeder read) here again = rw (injections_are_read format p.terminal.equipment p.node read here.0 here.1 here.2, again (suc n)) refl
-    by BranchEnd here again = again n
+    by Busbar here known again = again n
+    by (Feeder read) here known again = rw (injections_are_read format p.terminal.equipment p.node read here.0 here.1 here.2 known, again (suc n)) refl
+    by BranchEnd here known again = again n
 
 level_read : (format : Format) (l : VoltageLevel) (low high : Option ℤ) → l.low_v ≡ low → l.high_v ≡ high → IfSome low IsWhole → IfSome high IsWhole → IsReadableLevel l
     → AllByRecursion (λ p. IsReadableBusbar p.terminal.equipment p.node p.stand) l.placed → AllByRecursion IsReadableSwitch l.switches → AllByRecursion IsReadableInternal l.internals
-    → AllByRecursion (λ p. IsReadableInjection p.terminal.equipment p.node p.stand) l.placed → level_at format (level_value l) ≡ Ok (level_draft l)
+    → AllByRecursion (λ p. IsReadableInjection p.terminal.equipment p.node p.stand) l.placed → list_any (late format) l.placed ≡ false → level_at format (level_value l) ≡ Ok (level_draft l)
 unfolding level_at level_value busbars_value injections_value members_from
-level_read format l None None is1 is2 low high fits busbars switches internals injections =
-    rw (is1, is2, fits.id, whole_read l.nominal_v fits.nominal, busbars_from 0 l.placed busbars, switches_from format 0 l.switches switches, internals_from 0 l.internals internals, injections_from format 0 l.placed injections) refl
-level_read format l (Some a) None is1 is2 low high fits busbars switches internals injections =
-    rw (is1, is2, fits.id, whole_read l.nominal_v fits.nominal, whole_read a low, busbars_from 0 l.placed busbars, switches_from format 0 l.switches switches, internals_from 0 l.internals internals, injections_from format 0 l.placed injections) refl
-level_read format l None (Some b) is1 is2 low high fits busbars switches internals injections =
-    rw (is1, is2, fits.id, whole_read l.nominal_v fits.nominal, whole_read b high, busbars_from 0 l.placed busbars, switches_from format 0 l.switches switches, internals_from 0 l.internals internals, injections_from format 0 l.placed injections) refl
-level_read format l (Some a) (Some b) is1 is2 low high fits busbars switches internals injections =
-    rw (is1, is2, fits.id, whole_read l.nominal_v fits.nominal, whole_read a low, whole_read b high, busbars_from 0 l.placed busbars, switches_from format 0 l.switches switches, internals_from 0 l.internals internals, injections_from format 0 l.placed injections) refl
+level_read format l None None is1 is2 low high fits busbars switches internals injections known =
+    rw (is1, is2, fits.id, whole_read l.nominal_v fits.nominal, busbars_from 0 l.placed busbars, switches_from format 0 l.switches switches, internals_from 0 l.internals internals, injections_from format 0 l.placed injections known) refl
+level_read format l (Some a) None is1 is2 low high fits busbars switches internals injections known =
+    rw (is1, is2, fits.id, whole_read l.nominal_v fits.nominal, whole_read a low, busbars_from 0 l.placed busbars, switches_from format 0 l.switches switches, internals_from 0 l.internals internals, injections_from format 0 l.placed injections known) refl
+level_read format l None (Some b) is1 is2 low high fits busbars switches internals injections known =
+    rw (is1, is2, fits.id, whole_read l.nominal_v fits.nominal, whole_read b high, busbars_from 0 l.placed busbars, switches_from format 0 l.switches switches, internals_from 0 l.internals internals, injections_from format 0 l.placed injections known) refl
+level_read format l (Some a) (Some b) is1 is2 low high fits busbars switches internals injections known =
+    rw (is1, is2, fits.id, whole_read l.nominal_v fits.nominal, whole_read a low, whole_read b high, busbars_from 0 l.placed busbars, switches_from format 0 l.switches switches, internals_from 0 l.internals internals, injections_from format 0 l.placed injections known) refl
 
 pub levels_are_read : LevelsAreRead
-levels_are_read format l fits =
+unfolding level_needs
+levels_are_read format l fits known =
     level_read format l l.low_v l.high_v refl refl fits.low fits.high fits
     (each_of (λ p. IsReadableBusbar p.terminal.equipment p.node p.stand) l.placed fits.busbars)
     (each_of IsReadableSwitch l.switches fits.switches)
     (each_of IsReadableInternal l.internals fits.internals)
     (each_of (λ p. IsReadableInjection p.terminal.equipment p.node p.stand) l.placed fits.injections)
+    known
 
 pub ends_are_read : EndsAreRead
 unfolding end_at end_value members_from
@@ -185,34 +207,86 @@ lines_from n (b ∷ bs) fit kinds = by b.shape fit.0.1 kinds.0 (lines_from (suc 
 
 -- ---- networks
 
-levels_from : (format : Format) (n : ℕ) (ls : List VoltageLevel) → AllByRecursion IsReadableLevel ls → items_at (level_at format) n (items_of (map level_value ls)) ≡ Ok (map level_draft ls)
+levels_from : (format : Format) (n : ℕ) (ls : List VoltageLevel) → AllByRecursion IsReadableLevel ls → list_any (level_needs (suc (number_of format))) ls ≡ false → items_at (level_at format) n (items_of (map level_value ls)) ≡ Ok (map level_draft ls)
 unfolding items_at
-levels_from format n [] fit = refl
-levels_from format n (l ∷ ls) fit = rw (levels_are_read format l fit.0, levels_from format (suc n) ls fit.1) refl
+levels_from format n [] fit known = refl
+levels_from format n (l ∷ ls) fit known =
+    let parts = neither (level_needs (suc (number_of format)) l) (list_any (level_needs (suc (number_of format))) ls) known in
+    rw (levels_are_read format l fit.0 parts.0, levels_from format (suc n) ls fit.1 parts.1) refl
 
-substation_read : (format : Format) (s : Substation) → IsReadableSubstation s → substation_at format (substation_value s) ≡ Ok (substation_draft s)
+substation_read : (format : Format) (s : Substation) → IsReadableSubstation s → list_any (level_needs (suc (number_of format))) s.levels ≡ false → substation_at format (substation_value s) ≡ Ok (substation_draft s)
 unfolding substation_at substation_value members_from
-substation_read format s fits =
+substation_read format s fits known =
     rw (
       fits.id,
-      levels_from format 0 s.levels (each_of IsReadableLevel s.levels fits.levels),
+      levels_from format 0 s.levels (each_of IsReadableLevel s.levels fits.levels) known,
       transformers_from format 0 s.transformers (each_of IsReadableBranch s.transformers fits.transformers) (each_of (λ b. IsTransformer b.shape) s.transformers fits.are_transformers),
     ) refl
 
-substations_from : (format : Format) (n : ℕ) (ss : List Substation) → AllByRecursion IsReadableSubstation ss → items_at (substation_at format) n (items_of (map substation_value ss)) ≡ Ok (map substation_draft ss)
+substations_from : (format : Format) (n : ℕ) (ss : List Substation) → AllByRecursion IsReadableSubstation ss → list_any (λ s. list_any (level_needs (suc (number_of format))) s.levels) ss ≡ false → items_at (substation_at format) n (items_of (map substation_value ss)) ≡ Ok (map substation_draft ss)
 unfolding items_at
-substations_from format n [] fit = refl
-substations_from format n (s ∷ ss) fit = rw (substation_read format s fit.0, substations_from format (suc n) ss fit.1) refl
+substations_from format n [] fit known = refl
+substations_from format n (s ∷ ss) fit known =
+    let parts = neither (list_any (level_needs (suc (number_of format))) s.levels) (list_any (λ (t : Substation). list_any (level_needs (suc (number_of format))) t.levels) ss) known in
+    rw (substation_read format s fit.0 parts.0, substations_from format (suc n) ss fit.1 parts.1) refl
 
 pub networks_are_read : NetworksAreRead
-unfolding network_at network_value members_from
-networks_are_read format net fits =
+unfolding network_at network_value members_from network_needs levels
+networks_are_read format net fits known =
     rw (
       fits.id,
-      substations_from format 0 net.substations (each_of IsReadableSubstation net.substations fits.substations),
+      substations_from format 0 net.substations (each_of IsReadableSubstation net.substations fits.substations) (sym (any-flat_map (level_needs (suc (number_of format))) (λ (s : Substation). s.levels) net.substations) ∙ known),
       lines_from 0 net.lines (each_of IsReadableBranch net.lines fits.lines) (each_of (λ b. IsLine b.shape) net.lines fits.are_lines),
     ) refl
 
+-- nothing came with a fifth format
+no_fifth : (item : Injection) → nat_le 5 (item_format item) ≡ false
+unfolding item_format
+no_fifth (injections.Load p0 q0) = refl
+no_fifth (injections.Generator target_p target_v min_p max_p) = refl
+no_fifth (injections.Battery target_p target_q min_p max_p) = refl
+no_fifth (injections.ShuntCompensator section_count max_sections) = refl
+no_fifth (injections.StaticVarCompensator target_q) = refl
+no_fifth (injections.ConverterStation target_q) = refl
+
+-- nor with the second or the third
+no_second : (item : Injection) → nat_le 2 (item_format item) ≡ nat_le 4 (item_format item)
+unfolding item_format
+no_second (injections.Load p0 q0) = refl
+no_second (injections.Generator target_p target_v min_p max_p) = refl
+no_second (injections.Battery target_p target_q min_p max_p) = refl
+no_second (injections.ShuntCompensator section_count max_sections) = refl
+no_second (injections.StaticVarCompensator target_q) = refl
+no_second (injections.ConverterStation target_q) = refl
+
+stand_fifth : (stand : Stand) → nat_le 5 (stand_format stand) ≡ false
+unfolding stand_format
+stand_fifth Busbar = refl
+stand_fifth (Feeder item) = no_fifth item
+stand_fifth BranchEnd = refl
+
+stand_second : (stand : Stand) → nat_le 2 (stand_format stand) ≡ nat_le 4 (stand_format stand)
+unfolding stand_format
+stand_second Busbar = refl
+stand_second (Feeder item) = no_second item
+stand_second BranchEnd = refl
+
+none_of : {A : Type 0} (p : A → Bool) → ((x : A) → p x ≡ false) → (xs : List A) → list_any p xs ≡ false
+none_of p none [] = refl
+none_of p none (x ∷ xs) = rw (none x, none_of p none xs) refl
+
+fourth_knows : (net : Network) → network_needs 5 net ≡ false
+unfolding network_needs level_needs
+fourth_knows net = none_of (level_needs 5) (λ l. none_of (λ (p : Placed). nat_le 5 (stand_format p.stand)) (λ p. stand_fifth p.stand) l.placed) (levels net)
+
+first_knows : (net : Network) → network_needs 4 net ≡ false → network_needs 2 net ≡ false
+unfolding network_needs level_needs
+first_knows net none = any_alike (level_needs 2) (level_needs 4) (levels net) (λ l. any_alike (λ (p : Placed). nat_le 2 (stand_format p.stand)) (λ (p : Placed). nat_le 4 (stand_format p.stand)) l.placed (λ p. stand_second p.stand)) ∙ none
+
 pub network_jobs_are_read : NetworkJobsAreRead
 unfolding draft_at job_value least_format command_total items_at members_from
-network_jobs_are_read net fits = rw (networks_are_read One net fits) refl
+network_jobs_are_read net fits = by (network_needs 4 net) refl
+  where
+    by : (t : Bool) → network_needs 4 net ≡ t → draft_at (job_value net [] [] None) ≡ Ok (draft_alone net)
+    by true e = rw (e, networks_are_read Four net fits (fourth_knows net)) refl
+    by false e = rw (e, networks_are_read One net fits (first_knows net e)) refl

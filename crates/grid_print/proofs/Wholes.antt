@@ -10,7 +10,7 @@ use Rattle.serde_json.specs.View.{items_of}
 use Rattle.serde_json.specs.Read.{max_depth}
 use Rattle.serde_json.specs.Written.{has_float, items_have_float, members_have_float}
 use Rattle.grid_kinds.specs.declared.Injection.{Injection}
-use Rattle.grid_kinds.specs.declared.Injection.TheVariants.{Load, Generator, Battery, ShuntCompensator, StaticVarCompensator}
+use Rattle.grid_kinds.specs.declared.Injection.TheVariants.{Load, Generator, Battery, ShuntCompensator, StaticVarCompensator, ConverterStation}
 use Rattle.grid_level.specs.declared.Stand.{Stand}
 use Rattle.grid_level.specs.declared.Stand.TheVariants.{Busbar, Feeder, BranchEnd}
 use Rattle.grid_level.specs.declared.Placed.{Placed}
@@ -132,6 +132,7 @@ item_plain n (Generator target_p target_v min_p max_p) = (whole_plain n target_p
 item_plain n (Battery target_p target_q min_p max_p) = (whole_plain n target_p, (whole_plain n target_q, (whole_plain n min_p, (whole_plain n max_p, tt))))
 item_plain n (ShuntCompensator section_count max_sections) = (whole_plain n section_count, (whole_plain n max_sections, tt))
 item_plain n (StaticVarCompensator target_q) = (whole_plain n target_q, tt)
+item_plain n (ConverterStation target_q) = (whole_plain n target_q, tt)
 
 busbar_plain : (id : List ℕ) (node : ℕ) (stand : Stand) → ArePlain 1 (network.busbar_of id node stand)
 busbar_plain id node Busbar = (object_plain 0 _ (leaf refl, (leaf refl, tt)), tt)
@@ -224,6 +225,8 @@ request_plain (requests.UseVariant name) = object_plain 2 _ (leaf refl, (leaf re
 request_plain (requests.OpenSwitch id) = object_plain 2 _ (leaf refl, (leaf refl, tt))
 request_plain (requests.CloseSwitch id) = object_plain 2 _ (leaf refl, (leaf refl, tt))
 request_plain (requests.RetainSwitch id retained) = object_plain 2 _ (leaf refl, (leaf refl, (leaf refl, tt)))
+request_plain (requests.SetPower id watts) = object_plain 2 _ (leaf refl, (leaf refl, (whole_plain 2 watts, tt)))
+request_plain requests.Totals = object_plain 2 _ (leaf refl, tt)
 request_plain (requests.Connect id side) = object_plain 2 _ (leaf refl, (leaf refl, (whole_plain 2 side, tt)))
 request_plain (requests.Disconnect id side) = object_plain 2 _ (leaf refl, (leaf refl, (whole_plain 2 side, tt)))
 request_plain (requests.BusBreakerView level) = object_plain 2 _ (leaf refl, (leaf refl, tt))

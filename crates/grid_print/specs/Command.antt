@@ -78,6 +78,12 @@ edit_value (RemoveEquipment id) = one_id (codes "remove_equipment") (codes "id")
 abbrev pub sided : List ℕ → List ℕ → ℤ → Data
 sided verb id side = command_of verb ((codes "equipment", string id) ∷ (codes "side", whole side) ∷ [])
 
+abbrev pub set_power_value : List ℕ → ℤ → Data
+set_power_value id watts = command_of (codes "set_power") ((codes "equipment", string id) ∷ (codes "watts", whole watts) ∷ [])
+
+abbrev pub totals_value : Data
+totals_value = command_of (codes "totals") []
+
 abbrev pub retain_value : List ℕ → Bool → Data
 retain_value id retained = command_of (codes "retain") ((codes "switch", string id) ∷ (codes "retained", boolean retained) ∷ [])
 
@@ -89,6 +95,8 @@ request_value (requests.UseVariant name) = one_id (codes "use") (codes "variant"
 request_value (requests.OpenSwitch id) = one_id (codes "open") (codes "switch") id
 request_value (requests.CloseSwitch id) = one_id (codes "close") (codes "switch") id
 request_value (requests.RetainSwitch id retained) = retain_value id retained
+request_value (requests.SetPower id watts) = set_power_value id watts
+request_value requests.Totals = totals_value
 request_value (requests.Connect id side) = sided (codes "connect") id side
 request_value (requests.Disconnect id side) = sided (codes "disconnect") id side
 request_value (requests.BusBreakerView level) = one_id (codes "bus_breaker_view") (codes "level") level

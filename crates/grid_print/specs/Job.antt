@@ -1,17 +1,16 @@
 -- A job as JSON, and its text.
-use Rattle.std.specs.Prelude.{ℕ, List, [], ◌∷◌, ◌++◌, codes, Bool, true, false, if◌then◌else◌, Option, None}
-use Rattle.std.specs.List.{list_any}
+use Rattle.std.specs.Prelude.{ℕ, List, [], ◌∷◌, ◌++◌, codes, Option, None}
 use Rattle.serde_json.specs.Data.{Data, string, array}
 use Rattle.serde_json.specs.View.{items_of}
 use Rattle.serde_json.specs.Written.{compact_text}
 use Rattle.grid_core.specs.declared.request.Request.{Request}
-use Rattle.grid_core.specs.declared.request.Request.TheVariants as requests
 use Rattle.grid_events.specs.declared.filter.Filter.{Filter}
 use Rattle.grid_structure.specs.Network.{Network}
 use Rattle.grid_json.specs.declared.whole.Job.{Job}
 use Rattle.grid_print.specs.Objects.{object_of, array_of, natural, given, word_if}
 use Rattle.grid_print.specs.Network.{network_value}
 use Rattle.grid_print.specs.Command.{request_value}
+use Rattle.grid_print.specs.Formats.{least_format}
 
 -- ---- listeners
 
@@ -24,20 +23,6 @@ kinds_value f = array (items_of
 unfoldable pub listener_value : Filter → Data
 listener_value f = object_of ((codes "kinds", kinds_value f) ∷ given (codes "variant") string f.variant)
 
--- ---- the format
-
--- the word `retain` came with the second format
-abbrev pub is_retain : Request → Bool
-is_retain (requests.RetainSwitch id retained) = true
-is_retain request = false
-
-unfoldable pub retains : List Request → Bool
-retains script = list_any is_retain script
-
--- the least format that has the words of the job
-unfoldable pub least_format : List (List Request) → ℕ
-least_format scripts = if list_any retains scripts then 2 else 1
-
 -- ---- jobs
 
 abbrev pub script_value : List Request → Data
@@ -46,7 +31,7 @@ script_value script = array_of request_value script
 -- the order is written where it is given
 unfoldable pub job_value : Network → List Filter → List (List Request) → Option (List ℕ) → Data
 job_value net filters scripts order = object_of
-    ((codes "format", natural (least_format scripts)) ∷ (codes "network", network_value net) ∷ (codes "listeners", array_of listener_value filters)
+    ((codes "format", natural (least_format net scripts)) ∷ (codes "network", network_value net) ∷ (codes "listeners", array_of listener_value filters)
     ∷ (codes "workers", array_of script_value scripts) ∷ given (codes "order") (array_of natural) order)
 
 -- the text, with one newline after it

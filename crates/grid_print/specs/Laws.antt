@@ -1,5 +1,5 @@
 -- What is written is read back.
-use Rattle.std.specs.Prelude.{ℕ, pos, ◌^◌, ◌<◌, ◌≡◌, List, [], ◌∷◌, ◌++◌, map, flat_map, None, Ok, All}
+use Rattle.std.specs.Prelude.{ℕ, suc, pos, nat_le, false, ◌^◌, ◌<◌, ◌≡◌, List, [], ◌∷◌, ◌++◌, map, flat_map, None, Ok, All}
 use Rattle.json.specs.Token.{Token}
 use Rattle.json.specs.Lex.{tokens}
 use Rattle.json.specs.Print.{print, ArePrintable}
@@ -30,6 +30,7 @@ use Rattle.grid_json.specs.Network.{busbar_at, switch_at, internal_at, injection
 use Rattle.grid_json.specs.Job.{draft_at}
 use Rattle.grid_print.specs.Objects.{array_of}
 use Rattle.grid_print.specs.Network.{busbar_value, switch_value, internal_value, injection_value, level_value, end_value, network_value}
+use Rattle.grid_print.specs.Formats.{number_of, item_format, HasWordsOf, IsWrittenIn}
 use Rattle.grid_print.specs.Job.{job_value}
 use Rattle.grid_print.specs.Readable.{IsId, AreWhole, IsReadableSwitch, IsReadableInternal, IsReadableLevel, IsReadableEnd, IsReadable}
 
@@ -53,9 +54,9 @@ internal_draft i = record { node1 = pos i.node1; node2 = pos i.node2 }
 abbrev pub InternalsAreRead : Type 0
 InternalsAreRead = (internals : List Internal) → All IsReadableInternal internals → array_at internal_at (array_of internal_value internals) ≡ Ok (map internal_draft internals)
 
--- an injection at its node
+-- an injection at its node, of a kind that the format has
 abbrev pub InjectionsAreRead : Type 0
-InjectionsAreRead = (format : Format) (id : List ℕ) (node : ℕ) (read : Injection) → IsId id → node < 2 ^ 63 → AreWhole read
+InjectionsAreRead = (format : Format) (id : List ℕ) (node : ℕ) (read : Injection) → IsId id → node < 2 ^ 63 → AreWhole read → nat_le (suc (number_of format)) (item_format read) ≡ false
     → injection_at format (injection_value id node read) ≡ Ok (record { id = id; node = pos node; item = read })
 
 abbrev pub busbar_draft_of : List ℕ → ℕ → Stand → List BusbarDraft
@@ -82,7 +83,7 @@ level_draft l = record {
 
 -- a level with its parts
 abbrev pub LevelsAreRead : Type 0
-LevelsAreRead = (format : Format) (l : VoltageLevel) → IsReadableLevel l → level_at format (level_value l) ≡ Ok (level_draft l)
+LevelsAreRead = (format : Format) (l : VoltageLevel) → IsReadableLevel l → HasWordsOf format l → level_at format (level_value l) ≡ Ok (level_draft l)
 
 -- ---- branches
 
@@ -111,9 +112,9 @@ substation_draft s = record { id = s.id; levels = map level_draft s.levels; tran
 abbrev pub network_draft : Network → NetworkDraft
 network_draft net = record { id = net.id; substations = map substation_draft net.substations; lines = flat_map (λ b. line_draft_of b.id b.shape) net.lines }
 
--- the first pass over a network that was written gives the network again, as it is before it is loaded
+-- the first pass over a network that was written gives the network again, as it is before it is loaded, in every format that has its words
 abbrev pub NetworksAreRead : Type 0
-NetworksAreRead = (format : Format) (net : Network) → IsReadable net → network_at format (network_value net) ≡ Ok (network_draft net)
+NetworksAreRead = (format : Format) (net : Network) → IsReadable net → IsWrittenIn format net → network_at format (network_value net) ≡ Ok (network_draft net)
 
 -- the network alone, with no listeners, no workers and no order
 abbrev pub draft_alone : Network → JobDraft

@@ -2,6 +2,7 @@ pub mod Objects
 pub mod Network
 pub mod Cutting
 pub mod Command
+pub mod Formats
 pub mod Job
 pub mod Readable
 pub mod Laws

@@ -3,7 +3,7 @@ use Rattle.std.specs.Prelude.{ℕ, List, [], ◌∷◌, ◌++◌, codes, flat_ma
 use Rattle.serde_json.specs.Data.{Data, boolean, string, array}
 use Rattle.serde_json.specs.View.{items_of}
 use Rattle.grid_kinds.specs.declared.Injection.{Injection}
-use Rattle.grid_kinds.specs.declared.Injection.TheVariants.{Load, Generator, Battery, ShuntCompensator, StaticVarCompensator}
+use Rattle.grid_kinds.specs.declared.Injection.TheVariants.{Load, Generator, Battery, ShuntCompensator, StaticVarCompensator, ConverterStation}
 use Rattle.grid_kinds.specs.declared.SwitchKind.{SwitchKind}
 use Rattle.grid_kinds.specs.declared.SwitchKind.TheVariants.{Breaker, Disconnector, LoadBreakSwitch}
 use Rattle.grid_level.specs.declared.Stand.{Stand}
@@ -32,6 +32,7 @@ injection_word (Generator target_p target_v min_p max_p) = codes "GENERATOR"
 injection_word (Battery target_p target_q min_p max_p) = codes "BATTERY"
 injection_word (ShuntCompensator section_count max_sections) = codes "SHUNT_COMPENSATOR"
 injection_word (StaticVarCompensator target_q) = codes "STATIC_VAR_COMPENSATOR"
+injection_word (ConverterStation target_q) = codes "CONVERTER_STATION"
 
 -- the members of the kind
 abbrev pub injection_fields : Injection → List (List ℕ × Data)
@@ -42,6 +43,7 @@ injection_fields (Battery target_p target_q min_p max_p) =
     (codes "target_p", whole target_p) ∷ (codes "target_q", whole target_q) ∷ (codes "min_p", whole min_p) ∷ (codes "max_p", whole max_p) ∷ []
 injection_fields (ShuntCompensator section_count max_sections) = (codes "section_count", whole section_count) ∷ (codes "max_sections", whole max_sections) ∷ []
 injection_fields (StaticVarCompensator target_q) = (codes "target_q", whole target_q) ∷ []
+injection_fields (ConverterStation target_q) = (codes "target_q", whole target_q) ∷ []
 
 abbrev pub busbar_value : List ℕ → ℕ → Data
 busbar_value id node = object_of ((codes "id", string id) ∷ (codes "node", natural node) ∷ [])

@@ -38,6 +38,7 @@ AreWhole (injections.Generator target_p target_v min_p max_p) = IsWhole target_p
 AreWhole (injections.Battery target_p target_q min_p max_p) = IsWhole target_p × IsWhole target_q × IsWhole min_p × IsWhole max_p
 AreWhole (injections.ShuntCompensator section_count max_sections) = IsWhole section_count × IsWhole max_sections
 AreWhole (injections.StaticVarCompensator target_q) = IsWhole target_q
+AreWhole (injections.ConverterStation target_q) = IsWhole target_q
 
 -- the busbar section that stands at a node, where one does
 abbrev pub IsReadableBusbar : List ℕ → ℕ → Stand → Type 0

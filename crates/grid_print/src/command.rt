@@ -2,7 +2,7 @@
 ghost use Rattle.std.specs.Prelude.{◌≡◌, IfOk, OnOk};
 ghost use Rattle.serde_json.specs.View.{view, members_view};
 ghost use Rattle.grid_print.specs.Objects.{members_from};
-ghost use Rattle.grid_print.specs.Command.{one_id, sided, internal_edit, add_level_value, add_injection_value, add_branch_value, add_busbar_value, switch_fields, add_switch_value, line_edit, transformer_edit, retain_value, clone_value};
+ghost use Rattle.grid_print.specs.Command.{one_id, sided, internal_edit, add_level_value, add_injection_value, add_branch_value, add_busbar_value, switch_fields, add_switch_value, line_edit, transformer_edit, retain_value, set_power_value, totals_value, clone_value};
 
 use crate::level::{injection_word_of, put_item, word_of};
 use crate::object::{Members, ToJson, put, put_given, put_value, three, two};
@@ -261,6 +261,20 @@ fn retain(alloc: Global, id: &Id, retained: bool) -> Result<Value, Memory>
 }
 
 #[tactic(auto, unfolding(crate::specs::Objects::members_from))]
+fn set_power(alloc: Global, id: &Id, watts: i64) -> Result<Value, Memory>
+    ensures { IfOk result (λ v. view v ≡ set_power_value id.now watts) }
+{
+    Ok(json!(in alloc; {"do": "set_power", "equipment": id.text(), "watts": watts})?)
+}
+
+#[tactic(auto, unfolding(crate::specs::Objects::members_from))]
+fn totals(alloc: Global) -> Result<Value, Memory>
+    ensures { IfOk result (λ v. view v ≡ totals_value) }
+{
+    Ok(json!(in alloc; {"do": "totals"})?)
+}
+
+#[tactic(auto, unfolding(crate::specs::Objects::members_from))]
 fn clone(alloc: Global, from: &Id, to: &Id, overwrite: bool) -> Result<Value, Memory>
     ensures { IfOk result (λ v. view v ≡ clone_value from.now to.now overwrite) }
 {
@@ -281,6 +295,8 @@ impl ToJson for Request {
             Request::OpenSwitch { id } => one(alloc, "open", "switch", id),
             Request::CloseSwitch { id } => one(alloc, "close", "switch", id),
             Request::RetainSwitch { id, retained } => retain(alloc, id, *retained),
+            Request::SetPower { id, watts } => set_power(alloc, id, *watts),
+            Request::Totals => totals(alloc),
             Request::Connect { id, side } => side_command(alloc, "connect", id, side),
             Request::Disconnect { id, side } => side_command(alloc, "disconnect", id, side),
             Request::BusBreakerView { level } => one(alloc, "bus_breaker_view", "level", level),

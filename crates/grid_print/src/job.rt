@@ -1,6 +1,5 @@
 // Jobs as JSON text.
 ghost use Rattle.std.specs.Prelude.{◌≡◌, ◌≤◌, [], ◌++◌, false, Some, None, Ok, IfOk, OnOk, map};
-ghost use Rattle.std.specs.List.{list_any};
 ghost use Rattle.serde_json.specs.Data.{depth};
 ghost use Rattle.serde_json.specs.Read.{max_depth};
 ghost use Rattle.serde_json.specs.Written.{has_float};
@@ -10,10 +9,11 @@ ghost use Rattle.grid_json.specs.Whole.{job_of};
 ghost use Rattle.grid_print.specs.Readable.{IsReadable};
 ghost use Rattle.grid_print.specs.Loads.{job_alone};
 ghost use Rattle.grid_print.specs.Objects.{word_if, array_of as array};
-ghost use Rattle.grid_print.specs.Job.{is_retain, retains, least_format, kinds_value, job_value, line_of, job_text, network_text};
+ghost use Rattle.grid_print.specs.Job.{kinds_value, job_value, line_of, job_text, network_text};
 
+use crate::formats::format_of;
 use crate::object::{ToJson, array_of, put, put_given, put_value};
-use grid_core::{Request, Script};
+use grid_core::Script;
 use grid_events::Filter;
 use grid_ids::{Memory, Seq};
 use grid_json::{Job, Order};
@@ -73,33 +73,6 @@ impl<T: ToJson + Drop> ToJson for Seq<T> {
     }
 }
 
-fn retains_switch(request: &Request) -> bool
-    ensures { result ≡ is_retain request.now }
-{
-    matches!(request, Request::RetainSwitch { .. })
-}
-
-#[tactic(auto, unfolding(crate::specs::Job::retains))]
-fn script_retains(script: &Script) -> bool
-    ensures { result ≡ retains script.now }
-{
-    script.slice().iter().any(|request| retains_switch(request))
-}
-
-fn any_retains(scripts: &[Script]) -> bool
-    ensures { result ≡ list_any retains scripts.now }
-{
-    scripts.iter().any(|script| script_retains(script))
-}
-
-/// The least format that has the words of the scripts.
-#[tactic(auto, unfolding(crate::specs::Job::least_format))]
-fn format_of(scripts: &[Script]) -> u32
-    ensures { result ≡ least_format scripts.now }
-{
-    if any_retains(scripts) { 2 } else { 1 }
-}
-
 /// A job's value.
 #[tactic(auto, unfolding(crate::specs::Objects::members_from, crate::specs::Job::job_value))]
 fn value_of(
@@ -113,7 +86,7 @@ fn value_of(
     ensures readable { OnOk result (IsReadable network.now) }
 {
     let mut members = Map::new(alloc);
-    put(&mut members, alloc, "format", &format_of(scripts))?;
+    put(&mut members, alloc, "format", &format_of(network, scripts))?;
     put(&mut members, alloc, "network", network)?;
     put_value(&mut members, alloc, "listeners", array_of(alloc, filters)?)?;
     put_value(&mut members, alloc, "workers", array_of(alloc, scripts)?)?;

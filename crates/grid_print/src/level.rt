@@ -41,6 +41,7 @@ pub(crate) fn injection_word_of(item: &Injection) -> &'static str
         Injection::Battery { .. } => "BATTERY",
         Injection::ShuntCompensator { .. } => "SHUNT_COMPENSATOR",
         Injection::StaticVarCompensator { .. } => "STATIC_VAR_COMPENSATOR",
+        Injection::ConverterStation { .. } => "CONVERTER_STATION",
     }
 }
 
@@ -100,7 +101,9 @@ pub(crate) fn put_item(members: &mut Members, alloc: Global, item: &Injection) -
             "max_sections",
             max_sections,
         ),
-        Injection::StaticVarCompensator { target_q } => put(members, alloc, "target_q", target_q),
+        Injection::StaticVarCompensator { target_q } | Injection::ConverterStation { target_q } => {
+            put(members, alloc, "target_q", target_q)
+        }
     }
 }
 

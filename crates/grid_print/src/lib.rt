@@ -2,6 +2,7 @@
 #![tactic(auto)]
 
 mod command;
+mod formats;
 mod job;
 mod laws;
 mod level;

@@ -42,4 +42,5 @@ refusal_text refusals.NoLevel = codes "44 no level"
 refusal_text refusals.TargetExists = codes "45 target exists"
 refusal_text refusals.InitialStays = codes "46 initial stays"
 refusal_text refusals.TooManyVariants = codes "47 too many variants"
+refusal_text refusals.NoPower = codes "48 no power"
 refusal_text (refusals.Edit fault) = fault_text fault

@@ -11,6 +11,7 @@ use Rattle.grid_core.specs.declared.reply.Reply.{Reply}
 use Rattle.grid_core.specs.declared.reply.Reply.TheVariants as replies
 use Rattle.grid_report.specs.Lines.{bus_name, bus_text, bus_lines, count_text}
 use Rattle.grid_report.specs.Refusals.{refusal_text}
+use Rattle.grid_report.specs.Words.{signed}
 
 -- ids, with a comma and a space between them
 unfoldable pub ids_text : List (List ℕ) → List ℕ
@@ -33,6 +34,7 @@ answer_text (replies.NoBreaker terminal) = codes "no breaker before " ++ termina
 answer_text (replies.BusBreaker view) = counts_text view
 answer_text (replies.Bus view) = count_text view
 answer_text (replies.Components buses) = decimal (length buses) ++ codes " buses"
+answer_text (replies.Totals load generation) = codes "load " ++ signed load ++ codes " generation " ++ signed generation
 answer_text replies.Created = codes "created"
 answer_text replies.Overwritten = codes "overwritten"
 answer_text (replies.Refused refusal) = codes "refused " ++ refusal_text refusal

@@ -63,13 +63,13 @@ fn put_retained(out: &mut Text, id: &Id, retained: bool) -> Result<(), Memory>
     }
 }
 
-/// Puts the words of a command on one side of an equipment.
-fn put_side(out: &mut Text, word: &str, id: &Id, side: &i64) -> Result<(), Memory>
-    ensures ok { OnOk result (out.new ≡ out.old ++ (word.now ++ id.now ++ behind side.now)) }
+/// Puts the words of a command on an equipment with a number: its side, or its watts.
+fn put_numbered(out: &mut Text, word: &str, id: &Id, number: &i64) -> Result<(), Memory>
+    ensures ok { OnOk result (out.new ≡ out.old ++ (word.now ++ id.now ++ behind number.now)) }
     ensures err { OnErr result (out.new ≡ []) }
 {
     put_named(out, word, id)?;
-    put_behind(out, side)
+    put_behind(out, number)
 }
 
 #[tactic(auto, unfolding(crate::specs::Commands::overwrite_text))]
@@ -97,8 +97,10 @@ pub(crate) fn put_command(out: &mut Text, request: &Request) -> Result<(), Memor
         Request::OpenSwitch { id } => put_named(out, "open ", id),
         Request::CloseSwitch { id } => put_named(out, "close ", id),
         Request::RetainSwitch { id, retained } => put_retained(out, id, *retained),
-        Request::Connect { id, side } => put_side(out, "connect ", id, side),
-        Request::Disconnect { id, side } => put_side(out, "disconnect ", id, side),
+        Request::SetPower { id, watts } => put_numbered(out, "set_power ", id, watts),
+        Request::Totals => out.put("totals"),
+        Request::Connect { id, side } => put_numbered(out, "connect ", id, side),
+        Request::Disconnect { id, side } => put_numbered(out, "disconnect ", id, side),
         Request::BusBreakerView { level } => put_named(out, "bus_breaker_view ", level),
         Request::BusView { level } => put_named(out, "bus_view ", level),
         Request::Components { level } => put_named(out, "components ", level),

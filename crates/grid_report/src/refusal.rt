@@ -87,6 +87,7 @@ pub(crate) fn put_refusal(out: &mut Text, refusal: &Refusal) -> Result<(), Memor
         Refusal::TargetExists => out.put("45 target exists"),
         Refusal::InitialStays => out.put("46 initial stays"),
         Refusal::TooManyVariants => out.put("47 too many variants"),
+        Refusal::NoPower => out.put("48 no power"),
         Refusal::Edit(fault) => put_fault(out, fault),
     }
 }

@@ -3,6 +3,7 @@ ghost use Rattle.std.specs.Prelude.{◌≡◌, ◌++◌, OnOk, length, codes, de
 ghost use Rattle.std.specs.List.{flat_map};
 ghost use Rattle.grid_report.specs.Lines.{bus_name};
 ghost use Rattle.grid_report.specs.Refusals.{refusal_text};
+ghost use Rattle.grid_report.specs.Words.{signed};
 ghost use Rattle.grid_report.specs.Replies.{ids_text, counts_text, answer_text, plain_line, position_text, switch_line, breaker_lines, component_line, component_lines, detail_lines};
 
 use crate::bus::{put_bus, put_bus_name, put_buses, put_count};
@@ -74,6 +75,16 @@ fn put_refused(out: &mut Text, refusal: &Refusal) -> Result<(), Memory>
     put_refusal(out, refusal)
 }
 
+fn put_totals(out: &mut Text, load: &i128, generation: &i128) -> Result<(), Memory>
+    ensures ok { OnOk result (out.new ≡ out.old ++ (codes "load " ++ signed load.now ++ codes " generation " ++ signed generation.now)) }
+    ensures err { OnErr result (out.new ≡ []) }
+{
+    out.put("load ")?;
+    out.put_signed(load)?;
+    out.put(" generation ")?;
+    out.put_signed(generation)
+}
+
 /// Puts the answer on a command's line.
 #[tactic(auto, unfolding(crate::specs::Replies::answer_text))]
 pub(crate) fn put_answer(out: &mut Text, reply: &Reply) -> Result<(), Memory>
@@ -92,6 +103,7 @@ pub(crate) fn put_answer(out: &mut Text, reply: &Reply) -> Result<(), Memory>
         Reply::BusBreaker(view) => put_counts(out, view),
         Reply::Bus(view) => put_count(out, view),
         Reply::Components(buses) => put_bus_count(out, buses.slice()),
+        Reply::Totals { load, generation } => put_totals(out, load, generation),
         Reply::Created => out.put("created"),
         Reply::Overwritten => out.put("overwritten"),
         Reply::Refused(refusal) => put_refused(out, refusal),

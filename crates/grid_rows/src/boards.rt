@@ -78,7 +78,7 @@ impl Both {
     }
 
     /// The positions in the first level of the present base.
-    fn positions(&self, alloc: Global, worker: u32, request: &Request) -> Result<Flags, Fail>
+    fn positions(&mut self, alloc: Global, worker: u32, request: &Request) -> Result<Flags, Fail>
         requires { worker < 2 }
     {
         match self.board.snapshot(worker, request)? {

@@ -1,7 +1,7 @@
 // Worlds that tell listeners what happens, and copies of what a job is made of.
 use crate::boards::read;
 use crate::jobs::{FOUR, duo_with};
-use grid_core::{Request, Script, World};
+use grid_core::{Journal, Request, Script, World};
 use grid_events::{Event, Events, Filter, Listener, Subscriptions};
 use grid_ids::{Duplicate, Id, Memory, Same};
 use grid_json::Job;
@@ -41,22 +41,20 @@ fn updates_of(alloc: Global, variant: &str) -> Result<Filter, Fail> {
 const OPENS: &str =
     r#"{"do":"open","switch":"BC"},{"do":"clone","from":"InitialState","to":"VA"},{"do":"use","variant":"VA"},{"do":"close","switch":"BC"},{"do":"open","switch":"ZZ"},{"do":"close","switch":"BC"}"#;
 
-/// Makes the steps of a script in a world of one worker, and tells them: how many were made.
+/// Makes the steps of a script in a world of one worker, and tells them: the journal of those that were made.
 fn tell<L: Listener>(
     alloc: Global,
     job: &Job,
     script: &Script,
     listeners: &mut Subscriptions<L>,
-) -> Result<usize, Fail> {
+) -> Result<Journal, Fail> {
     let mut world = World::start(alloc, job.network.copy()?, 1)?;
-    let mut made = 0usize;
     for request in script.slice() {
         if world.step_told(0, request, listeners).is_err() {
-            return Ok(made);
+            break;
         }
-        made = made.saturating_add(1);
     }
-    Ok(made)
+    Ok(world.into_journal())
 }
 
 #[test]
@@ -76,7 +74,9 @@ fn a_recorder_hears_the_one_event(rt: HostRuntime) -> Result<(), Fail> {
             .subscribe(updates_of(alloc, "VA")?, recorder)
             .is_ok()
     );
-    assert_eq!(rt; tell(alloc, &job, script, &mut listeners)?, 6);
+    let journal = tell(alloc, &job, script, &mut listeners)?;
+    assert_eq!(rt; journal.len(), 6);
+    assert!(rt; journal.copy()?.same(&journal));
     let closed = Event::Updated {
         variant: Id::new(alloc, "VA")?,
         switch: Id::new(alloc, "BC")?,
@@ -98,7 +98,7 @@ fn a_recorder_hears_the_one_event(rt: HostRuntime) -> Result<(), Fail> {
         },
     )?;
     assert!(rt; boxed.subscribe(updates_of(alloc, "VA")?, recorder).is_ok());
-    assert_eq!(rt; tell(alloc, &job, script, &mut boxed)?, 6);
+    assert_eq!(rt; tell(alloc, &job, script, &mut boxed)?.len(), 6);
     Ok(())
 }
 

@@ -1,7 +1,7 @@
 -- The watts under a list that is empty are those of the records.
 use Rattle.std.proofs.Common.{◌≡◌, refl, ℕ, true, List, [], ◌∷◌}
 use Rattle.std.specs.Prelude.{map, unwrap_or}
-use Rattle.grid_kinds.specs.declared.Injection.TheVariants.{Load, Generator, Battery, ShuntCompensator, StaticVarCompensator}
+use Rattle.grid_kinds.specs.declared.Injection.TheVariants.{Load, Generator, Battery, ShuntCompensator, StaticVarCompensator, ConverterStation}
 use Rattle.grid_level.specs.declared.Placed.{Placed}
 use Rattle.grid_level.specs.declared.Stand.{Stand}
 use Rattle.grid_level.specs.declared.Stand.TheVariants.{Busbar, Feeder, BranchEnd}
@@ -22,6 +22,7 @@ of_record id (Feeder (Generator target_p target_v min_p max_p)) = refl
 of_record id (Feeder (Battery target_p target_q min_p max_p)) = refl
 of_record id (Feeder (ShuntCompensator section_count max_sections)) = refl
 of_record id (Feeder (StaticVarCompensator target_q)) = refl
+of_record id (Feeder (ConverterStation target_q)) = refl
 of_record id BranchEnd = refl
 
 each_of_record : (ps : List Placed) → map (λ (p : Placed). stand_watts p.stand) ps ≡ map (watts_at []) ps

@@ -1,0 +1,89 @@
+// Levels of the present structure that bases share.
+ghost use Rattle.std.specs.Prelude.{◌≡◌, ◌<◌, [], length, slice_get, Some, IfOk, OnOk, OnErr};
+ghost use Rattle.std.specs.Option.{option_copied};
+ghost use Rattle.grid_structure.specs.Network.{Network};
+ghost use Rattle.grid_structure.specs.Sites.{levels};
+ghost use Rattle.grid_core.specs.History.{structure_after};
+ghost use Rattle.grid_board.specs.Copied.{AreCopies, copy_at, with_copy};
+
+use grid_core::Request;
+use grid_ids::{Duplicate, Memory};
+use grid_level::SharedLevel;
+use grid_structure::Structure;
+use std::alloc::Global;
+use std::collections::BTreeMap;
+use std::marker::Model;
+
+/// Levels of a structure by their places, each copied when it was first asked for, so that it can be read while the
+/// structure is not. It is seen as the list of the pairs of a place and the level there, by rising place.
+#[derive(Drop)]
+pub(crate) struct Copies {
+    levels: BTreeMap<u32, SharedLevel>,
+}
+
+impl Model for Copies {
+    ghost use Rattle.grid_board.specs.Copied.{Copied};
+
+    ghost Value = { Copied };
+
+    ghost view = { λ copies. copies.levels.entries };
+}
+
+impl Copies {
+    /// No level. It takes no memory.
+    pub(crate) fn none(alloc: Global) -> Copies
+        ensures { result ≡ [] }
+    {
+        Copies {
+            levels: BTreeMap::new(alloc),
+        }
+    }
+
+    // The copy that is kept of a place; None exactly where none is.
+    fn find(&self, place: u32) -> Option<&SharedLevel>
+        ensures { option_copied result ≡ copy_at self.now place }
+    {
+        self.levels.get(&place)
+    }
+
+    // Keeps a level under its place.
+    fn keep(&mut self, place: u32, level: SharedLevel) -> Result<(), Memory>
+        ensures ok { OnOk result (self.new ≡ with_copy place level self.old) }
+        ensures err { OnErr result (self.new ≡ self.old) }
+    {
+        match self.levels.insert(place, level) {
+            Ok(_) => Ok(()),
+            Err(_) => Err(Memory),
+        }
+    }
+
+    /// The level at a place of the structure that the levels are of: the one that is kept, or else a copy, which is kept
+    /// from then on.
+    pub(crate) fn level(
+        &mut self,
+        alloc: Global,
+        structure: &Structure,
+        place: u32,
+    ) -> Result<SharedLevel, Memory>
+        requires place { place < length (levels structure.now) }
+        requires copies { AreCopies structure.now self.old }
+        ensures level { IfOk result (λ level. slice_get (levels structure.now) place ≡ Some level) }
+        ensures copies { AreCopies structure.now self.new }
+    {
+        if let Some(level) = self.find(place) {
+            return level.copy();
+        }
+        let level = SharedLevel::new(alloc, structure.level(place).copy()?)?;
+        self.keep(place, level.copy()?)?;
+        Ok(level)
+    }
+
+    /// Forgets every level where the request is an edit, since those that are kept may not be the structure's any more.
+    pub(crate) fn follow(&mut self, request: &Request)
+        ensures { (net : Network) → AreCopies net self.old → AreCopies (structure_after net request.now) self.new }
+    {
+        if let Request::Change { .. } = request {
+            self.levels.clear();
+        }
+    }
+}

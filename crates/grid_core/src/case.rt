@@ -1,0 +1,38 @@
+// What a variant stands at, apart from its world.
+ghost use Rattle.std.specs.Prelude.{◌≡◌, IfOk};
+ghost use Rattle.grid_core.specs.Cases.{case_of};
+
+use crate::World;
+use grid_ids::{Duplicate, Id, Memory};
+use grid_powers::Powers;
+use grid_states::States;
+use grid_structure::Structure;
+
+/// What a variant stands at: the structure, the positions of its switches, true for open, one row per level and one flag
+/// per switch, and the watts that it lists, with the sums over the structure.
+#[derive(Drop)]
+pub struct Case {
+    pub structure: Structure,
+    pub states: States,
+    pub powers: Powers,
+}
+
+impl World {
+    /// What a variant stands at, in copies of its own; None exactly where the name is not live.
+    #[tactic(auto, unfolding(crate::specs::Cases::case_of, crate::specs::Cases::case_seen))]
+    pub fn case(&self, name: &Id) -> Result<Option<Case>, Memory>
+        ensures { IfOk result (λ case. case ≡ case_of self.now.origin self.now.steps name.now) }
+    {
+        if !self.is_live(name) {
+            return Ok(None);
+        }
+        let states = self.opened_in(name).copy()?;
+        let powers = self.powers_in(name).copy()?;
+        let structure = self.structure().copy()?;
+        Ok(Some(Case {
+            structure,
+            states,
+            powers,
+        }))
+    }
+}

@@ -1,0 +1,68 @@
+// Watts in one variant, and the lists of all slots through the edits that change them.
+ghost use Rattle.std.specs.Prelude.{◌≡◌, length, OnErr, IfOk};
+ghost use Rattle.grid_core.specs.Machines.{IsMachine, IsSame, IsDead, StandsAt, Steps, WorksOn};
+
+use crate::machine::{Machine, Made, answer};
+use crate::{Refusal, Reply, Request};
+use grid_ids::{Duplicate, Id, Memory};
+use grid_watts::{powered, set, watts_at};
+use std::alloc::Global;
+
+impl Machine {
+    /// The watts of all loads, and of all generators and batteries, in the worker's variant.
+    pub(crate) fn ask_totals(
+        &self,
+        alloc: Global,
+        worker: u32,
+        variant: &Id,
+    ) -> Result<Made, Memory>
+        requires held { IsMachine self.now }
+        requires works { WorksOn self.now worker variant.now }
+        ensures { IfOk result (Steps self.now self.now worker Request.Totals) }
+    {
+        let slot = match self.slot_of(variant) {
+            Some(slot) => slot,
+            None => return answer(alloc, Reply::Refused(Refusal::NoVariant)),
+        };
+        let powers = &self.powers[slot as usize];
+        let load = powers.load();
+        let generation = powers.generation();
+        answer(alloc, Reply::Totals { load, generation })
+    }
+
+    /// Gives a load, a generator or a battery these watts in the worker's variant.
+    pub(crate) fn set_power(
+        &mut self,
+        alloc: Global,
+        worker: u32,
+        variant: &Id,
+        id: &Id,
+        watts: i64,
+    ) -> Result<Made, Memory>
+        requires held { IsMachine self.old }
+        requires works { WorksOn self.old worker variant.now }
+        ensures made { IfOk result (Steps self.old self.new worker (Request.SetPower id.now watts)) }
+        ensures same { OnErr result (IsSame self.old self.new) }
+        ensures count { length self.new.working.items ≡ length self.old.working.items }
+    {
+        self.slots.keeps();
+        let slot = match self.slot_of(variant) {
+            Some(slot) => slot,
+            None => return answer(alloc, Reply::Refused(Refusal::NoVariant)),
+        };
+        if self.structure.sides(id).is_none() {
+            return answer(alloc, Reply::Refused(Refusal::NoEquipment));
+        }
+        let placed = match powered(&self.structure, id) {
+            Some(placed) => placed,
+            None => return answer(alloc, Reply::Refused(Refusal::NoPower)),
+        };
+        if watts_at(&self.powers[slot as usize], placed) == watts {
+            return answer(alloc, Reply::Unchanged);
+        }
+        let made = answer(alloc, Reply::Done)?;
+        let id = id.copy()?;
+        set(&mut self.powers[slot as usize], id, placed, watts)?;
+        Ok(made)
+    }
+}
