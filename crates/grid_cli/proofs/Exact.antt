@@ -5,11 +5,10 @@ use Rattle.std.specs.Io.KnownBytes.{Consumes, IsAtEnd}
 use Rattle.std.proofs.lemmas.Bool.{le-ltb, lt-ltb}
 use Rattle.grid_source.specs.declared.whole.TheConstants.{MOST}
 use Rattle.grid_cli.specs.declared.words.Form.{Form}
-use Rattle.grid_cli.specs.declared.words.Form.TheVariants.{Check, Replay, Run, Print, Make, Trial}
+use Rattle.grid_cli.specs.declared.words.Form.TheVariants.{Check, Replay, Run, Print, Hvdc, Make, Trial}
 use Rattle.grid_cli.specs.declared.once.Status.{Status}
 use Rattle.grid_cli.specs.declared.once.Status.TheVariants as statuses
-use Rattle.grid_json.specs.Whole.{job_of}
-use Rattle.grid_cli.specs.Once.{ReadsWhole, Outcome, OutcomeOf, WritesAlone, IsOutput, status_for, status_within, wanted, IsWanted, Exact, made_text}
+use Rattle.grid_cli.specs.Once.{ReadsWhole, Outcome, OutcomeOf, WritesAlone, IsOutput, fault_in, fault_of, status_for, status_within, wanted, IsWanted, Exact, made_text}
 use Rattle.grid_cli.specs.Trials.{trial_text}
 
 all_of : (bytes b : List ℕ) (left' : Option (List ℕ)) → Consumes (Some bytes) left' b → IsAtEnd left' → bytes ≡ b
@@ -17,8 +16,8 @@ all_of bytes b None p q = absurd p
 all_of bytes b (Some r) p q = p ∙ ap (λ l. b ++ l) q ∙ append-nil b
 
 -- the bytes that were read whole decide
-decided : (bytes b : List ℕ) (left' : Option (List ℕ)) → ReadsWhole (Some bytes) left' b → status_within bytes ≡ status_for (job_of b)
-decided bytes b left' r =
+decided : (form : Form) (bytes b : List ℕ) (left' : Option (List ℕ)) → ReadsWhole (Some bytes) left' b → status_within form bytes ≡ status_for (fault_of form b)
+decided form bytes b left' r =
     let e : bytes ≡ b = all_of bytes b left' r.read.consumed r.read.end in
     let small = le-ltb MOST (length b) r.within in
     rw (e, small) refl
@@ -29,15 +28,17 @@ Reads Check = ⊤
 Reads Replay = ⊤
 Reads Run = ⊤
 Reads Print = ⊤
+Reads Hvdc = ⊤
 Reads (Make seed size) = ⊥
 Reads (Trial seed size) = ⊥
 
--- where it has an output, there is a job
-job_there : (form : Form) (b text : List ℕ) → Reads form → IsOutput form b text → status_for (job_of b) ≡ statuses.Done
-job_there Check b text r o = ap status_for o.1
-job_there Replay b text r o = ap status_for o.1
-job_there Run b text r o = ap status_for o.1
-job_there Print b text r o = ap status_for o.1
+-- where it has an output, the bytes have no fault
+job_there : (form : Form) (b text : List ℕ) → Reads form → IsOutput form b text → status_for (fault_of form b) ≡ statuses.Done
+job_there Check b text r o = ap (λ read. status_for (fault_in read)) o.1
+job_there Replay b text r o = ap (λ read. status_for (fault_in read)) o.1
+job_there Run b text r o = ap (λ read. status_for (fault_in read)) o.1
+job_there Print b text r o = ap (λ read. status_for (fault_in read)) o.1
+job_there Hvdc b text r o = ap (λ read. status_for (fault_in read)) o.1
 job_there (Make seed size) b text r o = absurd r
 job_there (Trial seed size) b text r o = absurd r
 
@@ -45,14 +46,14 @@ front_long : (bytes b : List ℕ) (left' : Option (List ℕ)) → MOST < length 
 front_long bytes b None long p = absurd p
 front_long bytes b (Some r) long p = omega (arith, ap length p, length-append b r)
 
-exact_some : (form : Form) (bytes : List ℕ) (left' old new : Option (List ℕ)) (s : Status) → Reads form → OutcomeOf form (Some bytes) left' old new s → IsWanted (status_within bytes) s
-exact_some form bytes left' old new statuses.Done r o = sym (decided bytes o.0 left' o.2 ∙ job_there form o.0 o.1 r o.3)
+exact_some : (form : Form) (bytes : List ℕ) (left' old new : Option (List ℕ)) (s : Status) → Reads form → OutcomeOf form (Some bytes) left' old new s → IsWanted (status_within form bytes) s
+exact_some form bytes left' old new statuses.Done r o = sym (decided form bytes o.0 left' o.2 ∙ job_there form o.0 o.1 r o.3)
 exact_some form bytes left' old new statuses.Usage r o = absurd o
 exact_some form bytes left' old new statuses.ReadFault r o = tt
 exact_some form bytes left' old new statuses.TooLong r o = rw (lt-ltb MOST (length bytes) (front_long bytes o.0.bytes left' o.0.more o.0.consumed)) refl
-exact_some form bytes left' old new statuses.BadJson r o = sym (decided bytes o.0.0 left' o.0.1 ∙ ap status_for o.0.2)
-exact_some form bytes left' old new (statuses.BadJob place reason) r o = sym (decided bytes o.0.0 left' o.0.1 ∙ ap status_for o.0.2)
-exact_some form bytes left' old new statuses.WriteFault r o = decided bytes o.0 left' o.2 ∙ job_there form o.0 o.1 r o.3
+exact_some form bytes left' old new statuses.BadJson r o = sym (decided form bytes o.0.0 left' o.0.1 ∙ ap status_for o.0.2)
+exact_some form bytes left' old new (statuses.BadJob place reason) r o = sym (decided form bytes o.0.0 left' o.0.1 ∙ ap status_for o.0.2)
+exact_some form bytes left' old new statuses.WriteFault r o = decided form bytes o.0 left' o.2 ∙ job_there form o.0 o.1 r o.3
 exact_some form bytes left' old new statuses.NoMemory r o = tt
 
 -- of a form that reads nothing
@@ -71,6 +72,7 @@ exact_form Check bytes left' old new s o = exact_some Check bytes left' old new 
 exact_form Replay bytes left' old new s o = exact_some Replay bytes left' old new s tt o
 exact_form Run bytes left' old new s o = exact_some Run bytes left' old new s tt o
 exact_form Print bytes left' old new s o = exact_some Print bytes left' old new s tt o
+exact_form Hvdc bytes left' old new s o = exact_some Hvdc bytes left' old new s tt o
 exact_form (Make seed size) bytes left' old new s o = written (made_text seed size) (Some bytes) left' old new s o
 exact_form (Trial seed size) bytes left' old new s o = written (trial_text seed size) (Some bytes) left' old new s o
 

@@ -4,5 +4,6 @@ pub mod Showing
 pub mod Written
 pub mod Exact
 pub mod Numbers
+pub mod Numbering
 pub mod Trialled
 pub mod Threading

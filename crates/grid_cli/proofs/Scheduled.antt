@@ -20,7 +20,7 @@ use Rattle.grid_json.specs.declared.job.JobDraft.{JobDraft}
 use Rattle.grid_json.specs.declared.network.NetworkDraft.{NetworkDraft}
 use Rattle.grid_json.specs.declared.whole.Job.{Job}
 use Rattle.grid_json.specs.declared.whole.JobFault.{JobFault}
-use Rattle.grid_json.specs.Reading.{◌>>=◌, or_fault, here, under, items_at, items_len, array_at, member_at, member_or, present_or, optional_at, only_at, some_of, whole_at}
+use Rattle.grid_json.specs.Reading.{◌>>=◌, or_fault, here, under, items_at, items_len, array_at, present, member_at, member_or, present_or, optional_at, only_at, some_of, whole_at}
 use Rattle.grid_json.specs.Bytes.{reading}
 use Rattle.grid_json.specs.Network.{network_at}
 use Rattle.grid_json.specs.Command.{command_at}
@@ -29,6 +29,11 @@ use Rattle.grid_json.specs.Job.{max_workers, max_commands, command_total, few_at
 use Rattle.grid_json.specs.Whole.{loaded, or_bad_job, draft_in, draft_of, job_in, job_of}
 use Rattle.grid_report.specs.Histories.{IsOrder, chosen_order}
 use Rattle.grid_report.proofs.Turns.{turns_are_order}
+use Rattle.grid_hvdc.specs.declared.HvdcJob.{HvdcJob}
+use Rattle.grid_hvdc.specs.declared.HvdcLine.{HvdcLine}
+use Rattle.grid_hvdc.specs.Checks.{lines_check}
+use Rattle.grid_hvdc.specs.Jobs as jobs
+use Rattle.grid_hvdc.specs.Jobs.{line_at, hvdc_at, hvdc_job_in, hvdc_job_of}
 use Rattle.grid_cli.specs.Orders.{order_of, IsScheduled}
 use Rattle.grid_cli.proofs.Stepping.{script_at}
 
@@ -258,3 +263,44 @@ unfolding job_of draft_of
 scheduled bytes job is =
     let a = of_draft (draft_in (reading bytes)) job is in
     of_loaded a.0 job (no_fault (loaded a.0) job a.2) (of_data (reading bytes) a.0 a.1)
+
+-- ---- the job with HVDC lines
+
+whole_scheduled : (d : Data) (job : Job) → jobs.whole_at d ≡ Ok job → IsScheduled job
+unfolding jobs.whole_at
+whole_scheduled d job is = let a = bound (draft_at d) loaded job is in of_loaded a.0 job a.2 (drafted d a.0 a.1)
+
+member_scheduled : (found : Option Data) (job : Job) → present jobs.whole_at (codes "job") found ≡ Ok job → IsScheduled job
+member_scheduled None job is = cc
+member_scheduled (Some d) job is = whole_scheduled d job (inside (codes "job") (jobs.whole_at d) job is)
+
+hvdc_made : Job → List HvdcLine → ⊤ → Result HvdcJob Fault
+hvdc_made job lines done = Ok (record { job = job; lines = lines })
+
+hvdc_checked : Job → List HvdcLine → Result HvdcJob Fault
+hvdc_checked job lines = under (codes "hvdc") (lines_check job.network [] 0 lines) >>= hvdc_made job lines
+
+hvdc_lined : Data → Job → Result HvdcJob Fault
+hvdc_lined d job = member_at (array_at line_at) (codes "hvdc") d >>= hvdc_checked job
+
+hvdc_known : Data → ⊤ → Result HvdcJob Fault
+hvdc_known d done = member_at jobs.whole_at (codes "job") d >>= hvdc_lined d
+
+hvdc_read : (d : Data) (hvdc : HvdcJob) → hvdc_at d ≡ Ok hvdc → IsScheduled hvdc.job
+unfolding hvdc_at hvdc_known hvdc_lined hvdc_checked hvdc_made
+hvdc_read d hvdc is =
+    let a = bound (only_at (codes "job" ∷ codes "hvdc" ∷ []) d) (hvdc_known d) hvdc is in
+    let b = bound (member_at jobs.whole_at (codes "job") d) (hvdc_lined d) hvdc a.2 in
+    let c = bound (member_at (array_at line_at) (codes "hvdc") d) (hvdc_checked b.0) hvdc b.2 in
+    let e = bound (under (codes "hvdc") (lines_check b.0.network [] 0 c.0)) (hvdc_made b.0 c.0) hvdc c.2 in
+    let made : HvdcJob = record { job = b.0; lines = c.0 } in
+    let same : made ≡ hvdc = cc in
+    subst (λ (h : HvdcJob). IsScheduled h.job) same (member_scheduled (get (codes "job") d) b.0 b.1)
+
+hvdc_of_data : (data_read : Option Data) (hvdc : HvdcJob) → hvdc_job_in data_read ≡ Ok hvdc → IsScheduled hvdc.job
+hvdc_of_data None hvdc is = cc
+hvdc_of_data (Some d) hvdc is = hvdc_read d hvdc (no_fault (hvdc_at d) hvdc is)
+
+pub hvdc_scheduled : (bytes : List ℕ) (hvdc : HvdcJob) → hvdc_job_of bytes ≡ Ok hvdc → IsScheduled hvdc.job
+unfolding hvdc_job_of
+hvdc_scheduled bytes hvdc is = hvdc_of_data (reading bytes) hvdc is

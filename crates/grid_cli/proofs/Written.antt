@@ -9,15 +9,19 @@ use Rattle.grid_report.specs.declared.outcome.Outcome.{Outcome}
 use Rattle.grid_report.specs.Outcomes.{report_of}
 use Rattle.grid_report.specs.Histories.{history_of, outcome_of, report_text}
 use Rattle.grid_json.specs.declared.whole.Job.{Job}
-use Rattle.grid_json.specs.Whole.{job_of}
+use Rattle.grid_json.specs.declared.whole.JobFault.{JobFault}
+use Rattle.grid_json.specs.declared.whole.JobFault.TheVariants as jobs
+use Rattle.grid_json.specs.Whole.{job_of, JobGives}
+use Rattle.grid_hvdc.specs.declared.HvdcJob.{HvdcJob}
 use Rattle.grid_cli.specs.declared.words.Form.{Form}
-use Rattle.grid_cli.specs.declared.words.Form.TheVariants.{Run}
+use Rattle.grid_cli.specs.declared.words.Form.TheVariants.{Check, Replay, Run, Print, Hvdc}
 use Rattle.grid_cli.specs.declared.once.Answer.{Answer}
 use Rattle.grid_cli.specs.declared.once.Answer.TheVariants as answers
 use Rattle.grid_cli.specs.declared.once.Status.{Status}
 use Rattle.grid_cli.specs.declared.once.Status.TheVariants as statuses
 use Rattle.grid_cli.specs.Orders.{order_of, replay_text}
-use Rattle.grid_cli.specs.Once.{ReadsJob, ReadsNoJob, Writes, WritesReport, OutcomeOf, IsOutput, form_for, text_of, status_after}
+use Rattle.grid_cli.specs.Hvdc.{hvdc_text}
+use Rattle.grid_cli.specs.Once.{ReadsWhole, ReadsJob, ReadsHvdc, ReadsNone, ReadsPart, Writes, WritesReport, OutcomeOf, IsOutput, fault_in, fault_of, job_fault, form_for, text_of, status_after, status_for}
 
 pub handed : (written : Result (Unit {0}) ReportFault) (text : List ℕ) (old new : Option (List ℕ)) → OnOk written (Appends old new text) → OnErr written (IsBegun old text new) → Writes text old new (status_after written)
 handed (Ok done) text old new ok err = ok
@@ -45,27 +49,32 @@ told answers.Counts bytes job read = (job, read, refl)
 told answers.Report bytes job read = (job, read, refl)
 told answers.Network bytes job read = (job, read, refl)
 
--- what a form writes for the job that was read
-wrote : (form : Form) (left left' old new : Option (List ℕ)) (job : Job) (text : List ℕ) (status : Status) → (r : ReadsJob left left' job) → IsOutput form r.0 text → Writes text old new status
+-- what a form writes for the bytes that were read
+wrote : (form : Form) (left left' old new : Option (List ℕ)) (bytes text : List ℕ) (status : Status) → ReadsWhole left left' bytes → IsOutput form bytes text → Writes text old new status
     → OutcomeOf form left left' old new status
-wrote form left left' old new job text statuses.Done r o w = (r.0, text, r.1, o, w)
-wrote form left left' old new job text statuses.WriteFault r o w = (r.0, text, r.1, o, w)
-wrote form left left' old new job text statuses.NoMemory r o w = inr (r.0, text, r.1, o, w)
-wrote form left left' old new job text statuses.Usage r o w = absurd w
-wrote form left left' old new job text statuses.ReadFault r o w = absurd w
-wrote form left left' old new job text statuses.TooLong r o w = absurd w
-wrote form left left' old new job text statuses.BadJson r o w = absurd w
-wrote form left left' old new job text (statuses.BadJob place reason) r o w = absurd w
+wrote form left left' old new bytes text statuses.Done r o w = (bytes, text, r, o, w)
+wrote form left left' old new bytes text statuses.WriteFault r o w = (bytes, text, r, o, w)
+wrote form left left' old new bytes text statuses.NoMemory r o w = inr (bytes, text, r, o, w)
+wrote form left left' old new bytes text statuses.Usage r o w = absurd w
+wrote form left left' old new bytes text statuses.ReadFault r o w = absurd w
+wrote form left left' old new bytes text statuses.TooLong r o w = absurd w
+wrote form left left' old new bytes text statuses.BadJson r o w = absurd w
+wrote form left left' old new bytes text (statuses.BadJob place reason) r o w = absurd w
 
 pub answered : (answer : Answer) (left left' old new : Option (List ℕ)) (job : Job) (status : Status) → ReadsJob left left' job → Writes (text_of answer job) old new status
     → OutcomeOf (form_for answer) left left' old new status
-answered answer left left' old new job status r w = wrote (form_for answer) left left' old new job (text_of answer job) status r (told answer r.0 job r.2) w
+answered answer left left' old new job status r w = wrote (form_for answer) left left' old new r.0 (text_of answer job) status r.1 (told answer r.0 job r.2) w
 
 -- the report of some order was written of a job that was read
 pub ran : (left left' old new : Option (List ℕ)) (job : Job) (status : Status) → ReadsJob left left' job → WritesReport job old new status → OutcomeOf Run left left' old new status
-ran left left' old new job status r w = wrote Run left left' old new job w.0 status r (job, r.2, w.1) w.2
+ran left left' old new job status r w = wrote Run left left' old new r.0 w.0 status r.1 (job, r.2, w.1) w.2
 
-pub unread : (form : Form) (left left' old new : Option (List ℕ)) (status : Status) → ReadsNoJob left left' status → Keeps old new → OutcomeOf form left left' old new status
+-- the components were written of a job with HVDC lines that was read
+pub numbered : (left left' old new : Option (List ℕ)) (job : HvdcJob) (status : Status) → ReadsHvdc left left' job → Writes (hvdc_text job) old new status → OutcomeOf Hvdc left left' old new status
+numbered left left' old new job status r w = wrote Hvdc left left' old new r.0 (hvdc_text job) status r.1 (job, r.2, refl) w
+
+-- nothing was read, and nothing written
+pub unread : (form : Form) (left left' old new : Option (List ℕ)) (status : Status) → ReadsNone (fault_of form) left left' status → Keeps old new → OutcomeOf form left left' old new status
 unread form left left' old new statuses.Done r w = absurd r
 unread form left left' old new statuses.Usage r w = absurd r
 unread form left left' old new statuses.ReadFault r w = (r, w)
@@ -74,6 +83,34 @@ unread form left left' old new statuses.BadJson r w = (r, w)
 unread form left left' old new (statuses.BadJob place reason) r w = (r, w)
 unread form left left' old new statuses.WriteFault r w = absurd r
 unread form left left' old new statuses.NoMemory r w = inl (r, w)
+
+pub unanswered : (answer : Answer) (left left' old new : Option (List ℕ)) (status : Status) → ReadsNone job_fault left left' status → Keeps old new → OutcomeOf (form_for answer) left left' old new status
+unanswered answers.Counts left left' old new status r w = unread Check left left' old new status r w
+unanswered answers.Report left left' old new status r w = unread Replay left left' old new status r w
+unanswered answers.Network left left' old new status r w = unread Print left left' old new status r w
+
+-- ---- what was read
+
+-- the input was not read whole
+pub partly : (fault : List ℕ → Option JobFault) (left left' : Option (List ℕ)) (status : Status) → ReadsPart left left' status → ReadsNone fault left left' status
+partly fault left left' statuses.ReadFault r = r
+partly fault left left' statuses.TooLong r = r
+partly fault left left' statuses.NoMemory r = r
+partly fault left left' statuses.Done r = absurd r
+partly fault left left' statuses.Usage r = absurd r
+partly fault left left' statuses.BadJson r = absurd r
+partly fault left left' (statuses.BadJob place reason) r = absurd r
+partly fault left left' statuses.WriteFault r = absurd r
+
+-- it was, and has a fault
+pub faulty : {A : Type 0} (read : List ℕ → Result A JobFault) (left left' : Option (List ℕ)) (bytes : List ℕ) (result : Result A JobFault) (fault : JobFault) → ReadsWhole left left' bytes → result ≡ Err fault → JobGives result (read bytes)
+    → ReadsNone (λ b. fault_in (read b)) left left' (status_for (Some fault))
+faulty {A} read left left' bytes result fault whole is gives = by fault (subst (λ r. JobGives r (read bytes)) is gives)
+  where
+    by : (f : JobFault) → JobGives {A = A} (Err f) (read bytes) → ReadsNone (λ b. fault_in (read b)) left left' (status_for (Some f))
+    by jobs.BadJson given = (bytes, whole, ap fault_in given)
+    by (jobs.BadJob place reason) given = (bytes, whole, ap fault_in given)
+    by jobs.Memory given = record { bytes = bytes; consumed = whole.read.consumed; few = whole.within }
 
 -- ---- bytes that are handed over
 

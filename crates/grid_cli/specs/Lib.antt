@@ -2,5 +2,6 @@ pub mod Words
 pub mod Counts
 pub mod Orders
 pub mod Trials
+pub mod Hvdc
 pub mod Once
 pub mod Threaded

@@ -9,10 +9,13 @@ use Rattle.grid_json.specs.declared.whole.Job.{Job}
 use Rattle.grid_json.specs.declared.whole.JobFault.{JobFault}
 use Rattle.grid_json.specs.declared.whole.JobFault.TheVariants as jobs
 use Rattle.grid_json.specs.Whole.{job_of}
+use Rattle.grid_hvdc.specs.declared.HvdcJob.{HvdcJob}
+use Rattle.grid_hvdc.specs.Jobs.{hvdc_job_of}
+use Rattle.grid_cli.specs.Hvdc.{hvdc_text}
 use Rattle.grid_print.specs.Job.{job_text, network_text}
 use Rattle.grid_make.specs.MadeJob.{made_job}
 use Rattle.grid_cli.specs.declared.words.Form.{Form}
-use Rattle.grid_cli.specs.declared.words.Form.TheVariants.{Check, Replay, Run, Print, Make, Trial}
+use Rattle.grid_cli.specs.declared.words.Form.TheVariants.{Check, Replay, Run, Print, Hvdc, Make, Trial}
 use Rattle.grid_cli.specs.declared.once.Answer.{Answer}
 use Rattle.grid_cli.specs.declared.once.Answer.TheVariants as answers
 use Rattle.grid_cli.specs.declared.once.Status.{Status}
@@ -55,6 +58,7 @@ IsOutput Check bytes text = IsOfJob (λ job. text ≡ check_text job) bytes
 IsOutput Replay bytes text = IsOfJob (λ job. text ≡ replay_text job) bytes
 IsOutput Run bytes text = IsOfJob (λ job. IsReport job text) bytes
 IsOutput Print bytes text = IsOfJob (λ job. text ≡ network_text job.network) bytes
+IsOutput Hvdc bytes text = (job : HvdcJob) × (hvdc_job_of bytes ≡ Ok job) × (text ≡ hvdc_text job)
 IsOutput (Make seed size) bytes text = text ≡ made_text seed size
 IsOutput (Trial seed size) bytes text = text ≡ trial_text seed size
 
@@ -71,18 +75,50 @@ pub record ReadsWhole (before after : Option (List ℕ)) (bytes : List ℕ) : Ty
   pub read : ReadsToEnd before after bytes
   pub within : length bytes ≤ MOST
 
+-- why the bytes are none of what a form reads, where they are not
+abbrev pub fault_in : {A : Type 0} → Result A JobFault → Option JobFault
+fault_in (Ok x) = None
+fault_in (Err fault) = Some fault
+
+abbrev pub job_fault : List ℕ → Option JobFault
+job_fault bytes = fault_in (job_of bytes)
+
+abbrev pub hvdc_fault : List ℕ → Option JobFault
+hvdc_fault bytes = fault_in (hvdc_job_of bytes)
+
+-- of a form; `make` and `trial` read nothing
+abbrev pub fault_of : Form → List ℕ → Option JobFault
+fault_of Check bytes = job_fault bytes
+fault_of Replay bytes = job_fault bytes
+fault_of Run bytes = job_fault bytes
+fault_of Print bytes = job_fault bytes
+fault_of Hvdc bytes = hvdc_fault bytes
+fault_of (Make seed size) bytes = None
+fault_of (Trial seed size) bytes = None
+
 -- the job that was read
 abbrev pub ReadsJob : Option (List ℕ) → Option (List ℕ) → Job → Type 0
 ReadsJob left left' job = (bytes : List ℕ) × ReadsWhole left left' bytes × (job_of bytes ≡ Ok job)
 
--- why no job was read, and what was read of the input
-abbrev pub ReadsNoJob : Option (List ℕ) → Option (List ℕ) → Status → Type 0
-ReadsNoJob left left' statuses.ReadFault = ReadsUpTo MOST left left'
-ReadsNoJob left left' statuses.TooLong = ReadsMoreThan MOST left left'
-ReadsNoJob left left' statuses.BadJson = (bytes : List ℕ) × ReadsWhole left left' bytes × (job_of bytes ≡ Err jobs.BadJson)
-ReadsNoJob left left' (statuses.BadJob place reason) = (bytes : List ℕ) × ReadsWhole left left' bytes × (job_of bytes ≡ Err (jobs.BadJob place reason))
-ReadsNoJob left left' statuses.NoMemory = ReadsUpTo MOST left left'
-ReadsNoJob left left' other = ⊥
+-- the same with HVDC lines
+abbrev pub ReadsHvdc : Option (List ℕ) → Option (List ℕ) → HvdcJob → Type 0
+ReadsHvdc left left' job = (bytes : List ℕ) × ReadsWhole left left' bytes × (hvdc_job_of bytes ≡ Ok job)
+
+-- why nothing of what bytes may be was read, and what was read of the input
+abbrev pub ReadsNone : (List ℕ → Option JobFault) → Option (List ℕ) → Option (List ℕ) → Status → Type 0
+ReadsNone fault left left' statuses.ReadFault = ReadsUpTo MOST left left'
+ReadsNone fault left left' statuses.TooLong = ReadsMoreThan MOST left left'
+ReadsNone fault left left' statuses.BadJson = (bytes : List ℕ) × ReadsWhole left left' bytes × (fault bytes ≡ Some jobs.BadJson)
+ReadsNone fault left left' (statuses.BadJob place reason) = (bytes : List ℕ) × ReadsWhole left left' bytes × (fault bytes ≡ Some (jobs.BadJob place reason))
+ReadsNone fault left left' statuses.NoMemory = ReadsUpTo MOST left left'
+ReadsNone fault left left' other = ⊥
+
+-- why the input was not read whole
+abbrev pub ReadsPart : Option (List ℕ) → Option (List ℕ) → Status → Type 0
+ReadsPart left left' statuses.ReadFault = ReadsUpTo MOST left left'
+ReadsPart left left' statuses.TooLong = ReadsMoreThan MOST left left'
+ReadsPart left left' statuses.NoMemory = ReadsUpTo MOST left left'
+ReadsPart left left' other = ⊥
 
 -- for the input, whole, there is an output, of which this holds
 abbrev pub HasOutput : Form → (List ℕ → Type 0) → Option (List ℕ) → Option (List ℕ) → Type 0
@@ -109,13 +145,13 @@ status_after (Err Memory) = statuses.NoMemory
 abbrev pub OutcomeOf : Form → Option (List ℕ) → Option (List ℕ) → Option (List ℕ) → Option (List ℕ) → Status → Type 0
 OutcomeOf form left left' old new statuses.Done = HasOutput form (λ text. Appends old new text) left left'
 OutcomeOf form left left' old new statuses.Usage = ⊥
-OutcomeOf form left left' old new statuses.ReadFault = ReadsNoJob left left' statuses.ReadFault × Keeps old new
-OutcomeOf form left left' old new statuses.TooLong = ReadsNoJob left left' statuses.TooLong × Keeps old new
-OutcomeOf form left left' old new statuses.BadJson = ReadsNoJob left left' statuses.BadJson × Keeps old new
-OutcomeOf form left left' old new (statuses.BadJob place reason) = ReadsNoJob left left' (statuses.BadJob place reason) × Keeps old new
+OutcomeOf form left left' old new statuses.ReadFault = ReadsNone (fault_of form) left left' statuses.ReadFault × Keeps old new
+OutcomeOf form left left' old new statuses.TooLong = ReadsNone (fault_of form) left left' statuses.TooLong × Keeps old new
+OutcomeOf form left left' old new statuses.BadJson = ReadsNone (fault_of form) left left' statuses.BadJson × Keeps old new
+OutcomeOf form left left' old new (statuses.BadJob place reason) = ReadsNone (fault_of form) left left' (statuses.BadJob place reason) × Keeps old new
 OutcomeOf form left left' old new statuses.WriteFault = HasOutput form (λ text. IsBegun old text new) left left'
 OutcomeOf form left left' old new statuses.NoMemory =
-    (ReadsNoJob left left' statuses.NoMemory × Keeps old new) ⊎ HasOutput form (λ text. IsBegun old text new) left left'
+    (ReadsNone (fault_of form) left left' statuses.NoMemory × Keeps old new) ⊎ HasOutput form (λ text. IsBegun old text new) left left'
 
 -- what a form that reads nothing has written
 abbrev pub WritesAlone : List ℕ → Option (List ℕ) → Option (List ℕ) → Option (List ℕ) → Option (List ℕ) → Status → Type 0
@@ -130,28 +166,30 @@ Outcome (Some Check) left left' old new status = OutcomeOf Check left left' old 
 Outcome (Some Replay) left left' old new status = OutcomeOf Replay left left' old new status
 Outcome (Some Run) left left' old new status = OutcomeOf Run left left' old new status
 Outcome (Some Print) left left' old new status = OutcomeOf Print left left' old new status
+Outcome (Some Hvdc) left left' old new status = OutcomeOf Hvdc left left' old new status
 
 -- ---- the status that is wanted
 
--- a job is done with, and where there is none the status says why
-abbrev pub status_for : Result Job JobFault → Status
-status_for (Ok job) = statuses.Done
-status_for (Err jobs.BadJson) = statuses.BadJson
-status_for (Err (jobs.BadJob place reason)) = statuses.BadJob place reason
-status_for (Err jobs.Memory) = statuses.NoMemory
+-- bytes without a fault are done with, and else the status says why they are not
+abbrev pub status_for : Option JobFault → Status
+status_for None = statuses.Done
+status_for (Some jobs.BadJson) = statuses.BadJson
+status_for (Some (jobs.BadJob place reason)) = statuses.BadJob place reason
+status_for (Some jobs.Memory) = statuses.NoMemory
 
 -- of a form that reads: the input may have so many bytes
-abbrev pub status_within : List ℕ → Status
-status_within bytes = if nat_lt MOST (length bytes) then statuses.TooLong else status_for (job_of bytes)
+abbrev pub status_within : Form → List ℕ → Status
+status_within form bytes = if nat_lt MOST (length bytes) then statuses.TooLong else status_for (fault_of form bytes)
 
 -- the status that a form and the bytes ask for
 abbrev pub wanted : Form → List ℕ → Status
 wanted (Make seed size) bytes = statuses.Done
 wanted (Trial seed size) bytes = statuses.Done
-wanted Check bytes = status_within bytes
-wanted Replay bytes = status_within bytes
-wanted Run bytes = status_within bytes
-wanted Print bytes = status_within bytes
+wanted Check bytes = status_within Check bytes
+wanted Replay bytes = status_within Replay bytes
+wanted Run bytes = status_within Run bytes
+wanted Print bytes = status_within Print bytes
+wanted Hvdc bytes = status_within Hvdc bytes
 
 -- A fault of the source or the sink may come in place of the status that is wanted, and so may want of memory.
 abbrev pub IsWanted : Status → Status → Type 0

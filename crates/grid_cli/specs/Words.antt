@@ -4,7 +4,7 @@ use Rattle.std.specs.List.{range_with_len}
 use Rattle.std.specs.Str.{bytes_eq}
 use Rattle.grid_cli.specs.declared.words.TheConstants.{MOST_SEED, MOST_SIZE}
 use Rattle.grid_cli.specs.declared.words.Form.{Form}
-use Rattle.grid_cli.specs.declared.words.Form.TheVariants.{Check, Replay, Run, Print, Make, Trial}
+use Rattle.grid_cli.specs.declared.words.Form.TheVariants.{Check, Replay, Run, Print, Hvdc, Make, Trial}
 
 -- the number from the least to the most whose decimal digits are the text
 unfoldable pub number_among : ℕ → ℕ → List ℕ → Option ℕ
@@ -21,7 +21,8 @@ form_by_name word =
     if bytes_eq word (codes "check") then Some Check
     else (if bytes_eq word (codes "replay") then Some Replay
     else (if bytes_eq word (codes "run") then Some Run
-    else (if bytes_eq word (codes "print") then Some Print else None)))
+    else (if bytes_eq word (codes "print") then Some Print
+    else (if bytes_eq word (codes "hvdc") then Some Hvdc else None))))
 
 -- the form of a seed and a size, where both are there
 abbrev pub with_numbers : (ℕ → ℕ → Form) → Option ℕ → Option ℕ → Option Form
@@ -54,6 +55,7 @@ IsWithin Check = ⊤
 IsWithin Replay = ⊤
 IsWithin Run = ⊤
 IsWithin Print = ⊤
+IsWithin Hvdc = ⊤
 IsWithin (Make seed size) = (seed ≤ MOST_SEED) × (1 ≤ size) × (size ≤ MOST_SIZE)
 IsWithin (Trial seed size) = (seed ≤ MOST_SEED) × (1 ≤ size) × (size ≤ MOST_SIZE)
 
@@ -64,6 +66,7 @@ on_one_thread (Some Run) = None
 on_one_thread (Some Check) = Some Check
 on_one_thread (Some Replay) = Some Replay
 on_one_thread (Some Print) = Some Print
+on_one_thread (Some Hvdc) = Some Hvdc
 on_one_thread (Some (Make seed size)) = Some (Make seed size)
 on_one_thread (Some (Trial seed size)) = Some (Trial seed size)
 
@@ -80,3 +83,4 @@ ReadsNothing (Some Check) = ⊥
 ReadsNothing (Some Replay) = ⊥
 ReadsNothing (Some Run) = ⊥
 ReadsNothing (Some Print) = ⊥
+ReadsNothing (Some Hvdc) = ⊥

@@ -2,6 +2,7 @@
 #![tactic(auto)]
 
 mod counts;
+mod hvdc;
 mod once;
 mod running;
 mod threaded;

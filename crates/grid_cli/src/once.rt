@@ -1,14 +1,16 @@
 // The top call on one thread.
-ghost use Rattle.std.specs.Prelude.{◌≡◌, ◌≢◌, ◌↔◌, ◌≤◌, None, Err, IfOk, IfErr, map, string_bytes};
+ghost use Rattle.std.specs.Prelude.{◌≡◌, ◌≢◌, ◌↔◌, ◌≤◌, None, Some, Err, IfOk, IfErr, map, string_bytes};
 ghost use Rattle.grid_source.specs.Causes.{Rose};
 ghost use Rattle.grid_json.specs.Job.{command_total};
 ghost use Rattle.grid_print.specs.Job.{network_text};
 ghost use Rattle.grid_cli.specs.declared.words.TheConstants.{MOST_SEED, MOST_SIZE};
 ghost use Rattle.grid_cli.specs.Words.{form_alone, ReadsNothing};
 ghost use Rattle.grid_cli.specs.Orders.{IsScheduled, replay_text};
-ghost use Rattle.grid_cli.specs.Once.{Outcome, OutcomeOf, form_for, Exact, Writes, ReadsNoJob, ReadsJob, status_after, text_of, made_text, exit_number};
+ghost use Rattle.grid_cli.specs.Once as once;
+ghost use Rattle.grid_cli.specs.Once.{Outcome, OutcomeOf, form_for, Exact, Writes, ReadsWhole, ReadsPart, ReadsNone, ReadsJob, job_fault, status_after, text_of, made_text, exit_number};
 
 use crate::counts::write_counts;
+use crate::hvdc::read_and_number;
 use crate::running::run_job;
 use crate::trial::write_trial;
 use crate::words::{Form, read_words};
@@ -105,6 +107,7 @@ fn run<S: Source, K: Sink>(alloc: Global, words: &[String], source: &mut S, sink
         Form::Replay => read_and_answer(alloc, Answer::Report, source, sink),
         Form::Run => Status::Usage,
         Form::Print => read_and_answer(alloc, Answer::Network, source, sink),
+        Form::Hvdc => read_and_number(alloc, source, sink),
         Form::Make { seed, size } => make(alloc, seed, size, sink),
         Form::Trial { seed, size } => status_of(write_trial(alloc, seed, size, sink)),
     }
@@ -119,7 +122,7 @@ enum Answer {
 }
 
 // Reads a job, and writes what is written for it.
-#[tactic(auto, using(crate::proofs::Written::answered, crate::proofs::Written::unread))]
+#[tactic(auto, using(crate::proofs::Written::answered, crate::proofs::Written::unanswered))]
 fn read_and_answer<S: Source, K: Sink>(
     alloc: Global,
     wanted: Answer,
@@ -138,26 +141,49 @@ fn read_and_answer<S: Source, K: Sink>(
     }
 }
 
+/// The source's bytes, read to their end, or why they were not.
+pub(crate) fn read_source<S: Source>(alloc: Global, source: &mut S) -> Result<Vec<u8>, Status>
+    ensures whole { IfOk result (λ bytes. ReadsWhole (S.left source.old) (S.left source.new) bytes.items) }
+    ensures part { IfErr result (ReadsPart (S.left source.old) (S.left source.new)) }
+    ensures fault { result ≡ Err Status.ReadFault → Rose (S.faults source.old) (S.faults source.new) }
+    ensures stays { result ≢ Err Status.ReadFault → S.faults source.new ≡ S.faults source.old }
+{
+    match read_all(alloc, source) {
+        Ok(bytes) => Ok(bytes),
+        Err(ReadAllFault::Fault) => Err(Status::ReadFault),
+        Err(ReadAllFault::TooLong) => Err(Status::TooLong),
+        Err(ReadAllFault::Memory) => Err(Status::NoMemory),
+    }
+}
+
+/// The status that tells a fault of what was read.
+pub(crate) fn status_for(fault: JobFault) -> Status
+    ensures { result ≡ once.status_for (Some fault) }
+{
+    match fault {
+        JobFault::BadJson => Status::BadJson,
+        JobFault::BadJob { place, reason } => Status::BadJob { place, reason },
+        JobFault::Memory => Status::NoMemory,
+    }
+}
+
 /// The job of the source's bytes, which are given up then, or why there is none.
+#[tactic(auto, using(crate::proofs::Written::partly, crate::proofs::Written::faulty))]
 pub(crate) fn read_from<S: Source>(alloc: Global, source: &mut S) -> Result<Job, Status>
     ensures job { IfOk result (ReadsJob (S.left source.old) (S.left source.new)) }
     ensures few { IfOk result (λ job. command_total job.scripts ≤ 20000) }
     ensures scheduled { IfOk result IsScheduled }
-    ensures none { IfErr result (ReadsNoJob (S.left source.old) (S.left source.new)) }
+    ensures none { IfErr result (ReadsNone job_fault (S.left source.old) (S.left source.new)) }
     ensures fault { result ≡ Err Status.ReadFault → Rose (S.faults source.old) (S.faults source.new) }
     ensures stays { result ≢ Err Status.ReadFault → S.faults source.new ≡ S.faults source.old }
 {
-    let bytes = match read_all(alloc, source) {
+    let bytes = match read_source(alloc, source) {
         Ok(bytes) => bytes,
-        Err(ReadAllFault::Fault) => return Err(Status::ReadFault),
-        Err(ReadAllFault::TooLong) => return Err(Status::TooLong),
-        Err(ReadAllFault::Memory) => return Err(Status::NoMemory),
+        Err(status) => return Err(status),
     };
     match read_job(alloc, bytes.as_slice()) {
         Ok(job) => Ok(job),
-        Err(JobFault::BadJson) => Err(Status::BadJson),
-        Err(JobFault::BadJob { place, reason }) => Err(Status::BadJob { place, reason }),
-        Err(JobFault::Memory) => Err(Status::NoMemory),
+        Err(fault) => Err(status_for(fault)),
     }
 }
 

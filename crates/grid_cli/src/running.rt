@@ -2,6 +2,7 @@
 ghost use Rattle.std.specs.Prelude.{◌≡◌, ◌++◌, ◌≤◌, ◌<◌, ◌^◌, All, length, map, IsTrue, IfOk, OnOk, Some, slice_get, option_map};
 ghost use Rattle.grid_core.specs.History.{live, is_live};
 ghost use Rattle.grid_json.specs.Job.{max_workers};
+ghost use Rattle.grid_report.specs.Histories as histories;
 ghost use Rattle.grid_report.specs.Histories.{variant_view, variant_views, history_of, outcome_of, in_turn, chosen_order, IsOrder};
 ghost use Rattle.grid_cli.specs.Orders.{IsScheduled, order_of};
 
@@ -131,14 +132,35 @@ pub(crate) fn outcome(
     })
 }
 
+/// The world after the steps of all scripts, in the order that is given or else the workers in turn.
+pub(crate) fn replayed(
+    alloc: Global,
+    network: Structure,
+    scripts: &[Script],
+    order: Option<Order>,
+) -> Result<World, Memory>
+    requires few { length scripts.now ≤ max_workers }
+    requires order { IsOrder scripts.now (histories.chosen_order scripts.now order) }
+    ensures { IfOk result (λ world. world ≡ history_of network scripts.now (histories.chosen_order scripts.now order)) }
+{
+    let order = chosen_order(alloc, order, scripts)?;
+    run(alloc, network, scripts, order.slice())
+}
+
 /// What comes of a job that is run in its order.
+#[tactic(auto, unfolding(crate::specs::Orders::order_of))]
 pub fn run_job(alloc: Global, job: Job) -> Result<Outcome, Memory>
     requires { IsScheduled job }
     ensures outcome { IfOk result (λ outcome. outcome ≡ outcome_of (history_of job.network job.scripts (order_of job)) job.filters) }
     ensures few { IfOk result (λ outcome. length outcome.views < 2 ^ 32) }
     ensures each { IfOk result (λ outcome. All (λ v. length v.views < 2 ^ 32) outcome.views) }
 {
-    let order = chosen_order(alloc, job.order, job.scripts.slice())?;
-    let world = run(alloc, job.network, job.scripts.slice(), order.slice())?;
-    outcome(alloc, world, job.scripts.len() as u32, job.filters)
+    let Job {
+        network,
+        filters,
+        scripts,
+        order,
+    } = job;
+    let world = replayed(alloc, network, scripts.slice(), order)?;
+    outcome(alloc, world, scripts.len() as u32, filters)
 }

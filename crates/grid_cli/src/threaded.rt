@@ -60,7 +60,14 @@ fn is_run(form: Option<Form>) -> bool
 {
     match form {
         Some(Form::Run) => true,
-        Some(Form::Check | Form::Replay | Form::Print | Form::Make { .. } | Form::Trial { .. })
+        Some(
+            Form::Check
+            | Form::Replay
+            | Form::Print
+            | Form::Hvdc
+            | Form::Make { .. }
+            | Form::Trial { .. },
+        )
         | None => false,
     }
 }

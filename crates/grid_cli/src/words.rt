@@ -22,15 +22,18 @@ pub enum Form {
     Run,
     /// Reads a job, and writes its network as a job of the network alone.
     Print,
+    /// Reads a job with HVDC lines, runs its commands in order, and writes the components of each live variant's buses, over
+    /// the branches alone and over the lines too.
+    Hvdc,
     /// Writes the made job of a seed and a size. It reads nothing.
     Make { seed: u32, size: u32 },
     /// Runs the made job of a seed and a size, and writes a line that counts what came of it. It reads nothing.
     Trial { seed: u32, size: u32 },
 }
 
-/// What the words ask for; None exactly where they are no form. The forms are `check`, `replay`, `run`,
-/// `print`, `make SEED SIZE` and `trial SEED SIZE`. A number is written in decimal digits without a leading zero; a seed is from
-/// 0 to `MOST_SEED`, a size from 1 to `MOST_SIZE`. The program's name is not among the words. It takes no memory.
+/// What the words ask for; None exactly where they are no form. The forms are `check`, `replay`, `run`, `print`, `hvdc`,
+/// `make SEED SIZE` and `trial SEED SIZE`. A number is written in decimal digits without a leading zero; a seed is from 0 to
+/// `MOST_SEED`, a size from 1 to `MOST_SIZE`. The program's name is not among the words. It takes no memory.
 pub fn read_words(words: &[String]) -> Option<Form>
     ensures form { result ≡ form_of (map string_bytes words.now) }
     ensures within { IfSome result IsWithin }
@@ -51,6 +54,7 @@ fn form_named(word: &str) -> Option<Form>
         "replay" => Some(Form::Replay),
         "run" => Some(Form::Run),
         "print" => Some(Form::Print),
+        "hvdc" => Some(Form::Hvdc),
         _ => None,
     }
 }

@@ -12,6 +12,7 @@ const FORMS: &str = "grid check < JOB
        grid replay < JOB > REPORT
        grid run < JOB > REPORT
        grid print < JOB > JOB
+       grid hvdc < JOB > COMPONENTS
        grid make SEED SIZE > JOB
        grid trial SEED SIZE";
 
@@ -55,6 +56,11 @@ fn with_forms<'a>(alloc: Global, command: Command<'a>) -> Result<Command<'a>, Al
             alloc,
             "print",
             "Reads a job and writes its network, as a job of the network alone",
+        ))?
+        .subcommand(form(
+            alloc,
+            "hvdc",
+            "Reads a job with HVDC lines, runs its commands in order and writes the components of the buses of each variant",
         ))?
         .subcommand(form(alloc, "make", "Writes the job made of a seed and a size"))?
         .subcommand(form(

@@ -26,6 +26,12 @@ pub enum Why {
     TooManyWorkers,
     #[error("there are more than 16 listeners (67)")]
     TooManyListeners,
+    #[error("something in the network or an earlier HVDC line has this line's id (70)")]
+    HvdcIdTaken,
+    #[error("no converter station has the id of side {side} (71)")]
+    NoStation { side: u8 },
+    #[error("an HVDC line has the converter station of side {side} already (72)")]
+    StationUsed { side: u8 },
     #[error("the id is empty (1)")]
     EmptyId,
     #[error("the id has {length} bytes, and 128 are the most (2)")]
@@ -124,6 +130,9 @@ pub fn why_of(reason: Reason) -> Why {
         Reason::TooManyCommands => Why::TooManyCommands,
         Reason::TooManyWorkers => Why::TooManyWorkers,
         Reason::TooManyListeners => Why::TooManyListeners,
+        Reason::HvdcIdTaken => Why::HvdcIdTaken,
+        Reason::NoStation { side } => Why::NoStation { side },
+        Reason::StationUsed { side } => Why::StationUsed { side },
         Reason::Name(fault) => of_name(fault),
         Reason::Load(fault) => of_edit(fault),
     }

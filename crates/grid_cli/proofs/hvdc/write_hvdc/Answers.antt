@@ -1,0 +1,24 @@
+use Rattle.std.proofs.Common.{sym, ap, ◌∙◌, subst}
+use Rattle.grid_report.specs.Histories.{IsOrder, chosen_order, history_of}
+use Rattle.grid_cli.specs.Orders.{order_of}
+use Rattle.grid_cli.specs.Hvdc.{numbers_text, hvdc_text}
+use Rattle.grid_cli.specs.Once.{Writes, status_after}
+use Rattle.grid_cli.proofs.Written.{handed}
+use Rattle.grid_cli.proofs.hvdc.write_hvdc.Goals as goal
+
+pub replayed-requires-clause-order : goal.replayed-requires-clause-order
+unfolding order_of
+replayed-requires-clause-order g c = subst (λ s. IsOrder s (chosen_order s c.args.hvdc.job.order)) (sym c.slice.ensures) c.requires.ordered
+
+pub returns-in-Ok-clause-written : goal.returns-in-Ok-clause-written
+unfolding hvdc_text order_of
+returns-in-Ok-clause-written g c =
+    let job = c.args.hvdc.job in
+    let world = c.in-Ok.ensures ∙ ap (λ s. history_of job.network s (chosen_order s job.order)) c.slice.ensures in
+    let text =
+    ap (λ h. numbers_text h c.slice-in-Ok.result.now) world
+    ∙ ap (numbers_text (history_of job.network job.scripts (chosen_order job.scripts job.order))) c.slice-in-Ok.ensures
+    in
+    rw c.status_of.ensures
+    (subst (λ t. Writes t (g.K.Sink.written c.args.sink.now) (g.K.Sink.written c.write_numbers.new.sink) (status_after c.write_numbers.result)) text
+    (handed c.write_numbers.result _ _ _ c.write_numbers.ensures.ok c.write_numbers.ensures.err))

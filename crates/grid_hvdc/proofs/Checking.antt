@@ -1,0 +1,63 @@
+-- Checking lines one after the other, as a loop does.
+use Rattle.std.proofs.Common.{◌≡◌, refl, sym, ap, ◌∙◌, ℕ, suc, ◌+◌, ◌<◌, ◌≤◌, List, [], ◌∷◌, ◌++◌, length, get_or, take, drop, Result, Ok, Err, add-one, drop-cons}
+use Rattle.std.specs.Prelude.{decimal, ⊤}
+use Rattle.std.proofs.lemmas.List.{take_more, drop_all, map-append}
+use Rattle.std.proofs.lemmas.Grind.{flat_map-append}
+use Rattle.grid_json.specs.declared.fault.Fault.{Fault}
+use Rattle.grid_json.specs.declared.fault.ReadError.{ReadError}
+use Rattle.grid_json.specs.declared.fault.ReadError.TheVariants as errors
+use Rattle.grid_json.specs.Reading.{Fails, IsUnder, placed}
+use Rattle.grid_structure.specs.Network.{Network}
+use Rattle.grid_hvdc.specs.declared.HvdcLine.{HvdcLine}
+use Rattle.grid_hvdc.specs.Checks.{line_check, line_ids, line_stations, lines_check}
+
+-- one line more
+next_line : (lines : List HvdcLine) (i : ℕ) (line : HvdcLine) → i < length lines → line ≡ get_or lines i line → take (i + 1) lines ≡ take i lines ++ line ∷ []
+next_line lines i line lt is = take_more lines i line lt ∙ ap (λ z. take i lines ++ z ∷ []) (sym is)
+
+pub ids_next : (lines : List HvdcLine) (i : ℕ) (line : HvdcLine) (ids now : List (List ℕ)) → i < length lines → line ≡ get_or lines i line → ids ≡ line_ids (take i lines) → now ≡ ids ++ line.id ∷ [] → now ≡ line_ids (take (i + 1) lines)
+ids_next lines i line ids now lt is so_far e =
+    e ∙ ap (λ z. z ++ line.id ∷ []) so_far ∙ sym (ap line_ids (next_line lines i line lt is) ∙ map-append (λ (l : HvdcLine). l.id) (take i lines) (line ∷ []))
+
+both_names : (used : List (List ℕ)) (first second : List ℕ) → (used ++ first ∷ []) ++ second ∷ [] ≡ used ++ first ∷ second ∷ []
+both_names [] first second = refl
+both_names (id ∷ used) first second = ap (λ z. id ∷ z) (both_names used first second)
+
+pub stations_next : (lines : List HvdcLine) (i : ℕ) (line : HvdcLine) (used now : List (List ℕ)) → i < length lines → line ≡ get_or lines i line → used ≡ line_stations (take i lines)
+    → now ≡ (used ++ line.station1 ∷ []) ++ line.station2 ∷ [] → now ≡ line_stations (take (i + 1) lines)
+stations_next lines i line used now lt is so_far e =
+    e ∙ both_names used line.station1 line.station2 ∙ ap (λ z. z ++ line.station1 ∷ line.station2 ∷ []) so_far
+    ∙ sym (ap line_stations (next_line lines i line lt is) ∙ flat_map-append (λ (l : HvdcLine). l.station1 ∷ l.station2 ∷ []) (take i lines) (line ∷ []))
+
+module _ (net : Network) (lines : List HvdcLine) (i : ℕ) (line : HvdcLine) (ids used : List (List ℕ)) (total : Result ⊤ Fault) (lt : i < length lines) (is : line ≡ get_or lines i line)
+    (same_ids : ids ≡ line_ids (take i lines)) (same_used : used ≡ line_stations (take i lines)) (so_far : lines_check net (take i lines) i (drop i lines) ≡ total) where
+  cut : drop i lines ≡ line ∷ drop (suc i) lines
+  cut = drop-cons lines i line lt ∙ ap (λ w. w ∷ drop (suc i) lines) (sym is)
+
+  checked : line_check net (line_ids (take i lines)) (line_stations (take i lines)) line ≡ line_check net ids used line
+  checked = ap (λ z. line_check net z (line_stations (take i lines)) line) (sym same_ids) ∙ ap (λ z. line_check net ids z line) (sym same_used)
+
+  -- a line that is right
+  pub goes_on : line_check net ids used line ≡ Ok tt → lines_check net (take (i + 1) lines) (i + 1) (drop (i + 1) lines) ≡ total
+  unfolding lines_check
+  goes_on h =
+      let right : line_check net (line_ids (take i lines)) (line_stations (take i lines)) line ≡ Ok tt = checked ∙ h in
+      let one : lines_check net (take i lines) i (drop i lines) ≡ lines_check net (take i lines ++ line ∷ []) (suc i) (drop (suc i) lines) = rw (cut, right) refl in
+      rw (next_line lines i line lt is) (rw add-one (sym one ∙ so_far))
+
+  -- a line that is wrong
+  pub ends : (e r : ReadError) → Fails e (line_check net ids used line) → IsUnder (decimal i) e r → Fails r total
+  unfolding lines_check
+  ends e errors.Memory h u = tt
+  ends errors.Memory (errors.Fault g) h u = absurd u
+  ends (errors.Fault f) (errors.Fault g) h u =
+      let wrong : line_check net (line_ids (take i lines)) (line_stations (take i lines)) line ≡ Err f = checked ∙ h in
+      let one : lines_check net (take i lines) i (drop i lines) ≡ Err (placed (decimal i) f) = rw (cut, wrong) refl in
+      sym so_far ∙ one ∙ ap Err (sym u)
+
+pub is_done : (net : Network) (lines : List HvdcLine) (i : ℕ) (total : Result ⊤ Fault) → length lines ≤ i → lines_check net (take i lines) i (drop i lines) ≡ total → total ≡ Ok tt
+unfolding lines_check
+is_done net lines i total le so_far =
+    let none : drop i lines ≡ [] = drop_all i lines le in
+    let one : lines_check net (take i lines) i (drop i lines) ≡ Ok tt = rw none refl in
+    sym so_far ∙ one

@@ -1,0 +1,5 @@
+use Rattle.grid_hvdc.proofs.Numbering.{told}
+use Rattle.grid_hvdc.proofs.laws.synchronous_is_told.Goals as goal
+
+pub returns : goal.returns
+returns c = told

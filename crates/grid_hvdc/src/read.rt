@@ -1,0 +1,112 @@
+// Jobs with HVDC lines from JSON.
+ghost use Rattle.std.specs.Prelude.{◌≤◌, [], IfOk, codes};
+ghost use Rattle.serde_json.specs.View.{view};
+ghost use Rattle.grid_json.specs.Job.{command_total, max_commands};
+ghost use Rattle.grid_json.specs.Reading.{Gives, member_at, under};
+ghost use Rattle.grid_json.specs.Whole.{JobGives};
+ghost use Rattle.grid_hvdc.specs.Checks.{lines_check};
+ghost use Rattle.grid_hvdc.specs.Jobs.{whole_at, hvdc_at, hvdc_job_of};
+
+use crate::checks::check_lines;
+use crate::{HvdcJob, HvdcLine, HvdcLines};
+use grid_json::{
+    ByteFault, Fault, Format, FromJson, Job, JobFault, ReadError, Reason, member, only, read_value,
+    value_of,
+};
+use grid_structure::Structure;
+use serde_json::Value;
+use std::alloc::Global;
+
+impl FromJson for HvdcLine {
+    ghost use Rattle.grid_hvdc.specs.Jobs.{line_at};
+
+    ghost reads = { λ _. line_at };
+
+    #[tactic(auto, unfolding(crate::specs::Jobs::line_at))]
+    fn from_json(alloc: Global, format: Format, value: &Value) -> Result<HvdcLine, ReadError> {
+        only(alloc, value, &["id", "station1", "station2"])?;
+        let id = member(alloc, format, value, "id")?;
+        let station1 = member(alloc, format, value, "station1")?;
+        let station2 = member(alloc, format, value, "station2")?;
+        Ok(HvdcLine {
+            id,
+            station1,
+            station2,
+        })
+    }
+}
+
+// The whole job of a value: both passes.
+fn read_whole(alloc: Global, value: &Value) -> Result<Job, ReadError>
+    ensures job { Gives result (whole_at (view value.now)) }
+    ensures total { IfOk result (λ job. command_total job.scripts ≤ max_commands) }
+{
+    match read_value(alloc, value) {
+        Ok(job) => Ok(job),
+        Err(JobFault::BadJson) => unreachable!(),
+        Err(JobFault::BadJob { place, reason }) => Err(ReadError::Fault(Fault { place, reason })),
+        Err(JobFault::Memory) => Err(ReadError::Memory),
+    }
+}
+
+// The member `job`, which must be there.
+fn job_of(alloc: Global, value: &Value) -> Result<Job, ReadError>
+    ensures job { Gives result (member_at whole_at (codes "job") (view value.now)) }
+    ensures total { IfOk result (λ job. command_total job.scripts ≤ max_commands) }
+{
+    match value.get("job") {
+        None => Err(ReadError::here(alloc, Reason::Missing).under(alloc, "job")),
+        Some(found) => match read_whole(alloc, found) {
+            Ok(job) => Ok(job),
+            Err(e) => Err(e.under(alloc, "job")),
+        },
+    }
+}
+
+// The lines fit the loaded network and each other.
+fn check_member(alloc: Global, structure: &Structure, lines: &[HvdcLine]) -> Result<(), ReadError>
+    ensures { Gives result (under (codes "hvdc") (lines_check structure.now [] 0 lines.now)) }
+{
+    match check_lines(alloc, structure, lines) {
+        Ok(()) => Ok(()),
+        Err(e) => Err(e.under(alloc, "hvdc")),
+    }
+}
+
+// The job of a value, with its HVDC lines.
+#[tactic(auto, unfolding(crate::specs::Jobs::hvdc_at))]
+fn read_root(alloc: Global, value: &Value) -> Result<HvdcJob, ReadError>
+    ensures job { Gives result (hvdc_at (view value.now)) }
+    ensures total { IfOk result (λ hvdc. command_total hvdc.job.scripts ≤ max_commands) }
+{
+    only(alloc, value, &["job", "hvdc"])?;
+    let job = job_of(alloc, value)?;
+    let lines: HvdcLines = member(alloc, Format::One, value, "hvdc")?;
+    check_member(alloc, &job.network, lines.slice())?;
+    Ok(HvdcJob { job, lines })
+}
+
+/// The job of the bytes with its HVDC lines: BadJson exactly where `serde_json` has no reading of them, BadJob exactly
+/// where there is a fault, with the first one. The root's member `job` is read whole, with its loading, before `hvdc`;
+/// after all are read, each line in order is held against the loaded network and the lines before it: its id is new,
+/// then the ids of side 1 and of side 2 are each that of a converter station that no line or side before names. The rules
+/// and their order are this project's own.
+#[tactic(auto, unfolding(crate::specs::Jobs::hvdc_job_of))]
+pub fn read_hvdc(alloc: Global, bytes: &[u8]) -> Result<HvdcJob, JobFault>
+    ensures job { JobGives result (hvdc_job_of bytes.now) }
+    ensures total { IfOk result (λ hvdc. command_total hvdc.job.scripts ≤ max_commands) }
+{
+    let value = match value_of(alloc, bytes) {
+        Ok(value) => value,
+        Err(ByteFault::NotJson) => return Err(JobFault::BadJson),
+        Err(ByteFault::Memory) => return Err(JobFault::Memory),
+    };
+    match read_root(alloc, &value) {
+        Ok(hvdc) => Ok(hvdc),
+        Err(ReadError::Memory) => Err(JobFault::Memory),
+        Err(ReadError::Fault(fault)) => Err(JobFault::BadJob {
+            place: fault.place,
+            reason: fault.reason,
+        }),
+    }
+}
