@@ -29,6 +29,14 @@ pub enum Reason {
     NoStation { side: u8 },
     /// Reason 72: an earlier line, or side 1 of this one, names the converter station of this side.
     StationUsed { side: u8 },
+    /// Reason 73: there are more than 20,000 contingencies.
+    TooManyContingencies,
+    /// Reason 74: an id of a job with configured buses has the byte `!` or more than 100 bytes.
+    Reserved,
+    /// Reason 75: the level has no configured bus of this id.
+    NoBus,
+    /// Reason 76: both ends of a switch are one configured bus.
+    SameBus,
     /// A text that must be an id is none.
     Name(IdFault),
     /// An edit that loads the network is refused.

@@ -33,14 +33,14 @@ pub struct JobDraft {
 const MOST_LISTENERS: usize = 16;
 
 /// The most workers that a job may have.
-const MOST_WORKERS: usize = 32;
+pub const MOST_WORKERS: usize = 32;
 
 /// The most commands that all scripts of a job may have.
 const MOST_COMMANDS: usize = 20_000;
 
 /// An array of at most so many items; the limit is looked at before them.
 #[tactic(auto, using(crate::proofs::Items::items_len_is))]
-fn few<T: FromJson>(
+pub fn few<T: FromJson>(
     alloc: Global,
     format: Format,
     value: &Value,
@@ -127,9 +127,9 @@ impl FromJson for Listeners {
     }
 }
 
-// How many commands the scripts have, where they are at most 32.
+/// Whether the scripts together have more than 20,000 commands.
 #[tactic(auto, unfolding(crate::specs::Job::command_total))]
-fn are_too_many(scripts: &[Script]) -> bool
+pub fn are_too_many(scripts: &[Script]) -> bool
     ensures many { result ≡ nat_lt max_commands (command_total scripts.now) }
     ensures few { result ≡ false → command_total scripts.now ≤ max_commands }
 {
@@ -173,8 +173,8 @@ impl FromJson for Workers {
     }
 }
 
-/// The order, where there is one.
-fn optional_order(
+/// The order of these scripts, where the object has one.
+pub fn optional_order(
     alloc: Global,
     format: Format,
     value: &Value,

@@ -15,9 +15,12 @@ mod read;
 mod value;
 mod whole;
 
+pub use ends::Two;
 pub use fault::{Fault, ReadError, Reason};
 pub use format::Format;
-pub use job::{JobDraft, Order, read_draft};
+pub use job::{JobDraft, MOST_WORKERS, Order, are_too_many, few, optional_order, read_draft};
+pub use kinds::InjectionKind;
+pub use network::item_of;
 pub use place::Place;
 pub use read::{FromJson, member, member_otherwise, object, only, optional};
 pub use value::{ByteFault, value_of};

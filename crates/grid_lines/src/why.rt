@@ -32,6 +32,14 @@ pub enum Why {
     NoStation { side: u8 },
     #[error("an HVDC line has the converter station of side {side} already (72)")]
     StationUsed { side: u8 },
+    #[error("there are more than 20,000 contingencies (73)")]
+    TooManyContingencies,
+    #[error("an id here may have 100 bytes at most and no exclamation mark, since such ids are the program's own (74)")]
+    Reserved,
+    #[error("the level has no bus of the id that is named (75)")]
+    NoBus,
+    #[error("both ends of the switch are one bus (76)")]
+    SameBus,
     #[error("the id is empty (1)")]
     EmptyId,
     #[error("the id has {length} bytes, and 128 are the most (2)")]
@@ -133,6 +141,10 @@ pub fn why_of(reason: Reason) -> Why {
         Reason::HvdcIdTaken => Why::HvdcIdTaken,
         Reason::NoStation { side } => Why::NoStation { side },
         Reason::StationUsed { side } => Why::StationUsed { side },
+        Reason::TooManyContingencies => Why::TooManyContingencies,
+        Reason::Reserved => Why::Reserved,
+        Reason::NoBus => Why::NoBus,
+        Reason::SameBus => Why::SameBus,
         Reason::Name(fault) => of_name(fault),
         Reason::Load(fault) => of_edit(fault),
     }
