@@ -1,0 +1,4 @@
+pub mod Linked
+pub mod Removed
+pub mod Shown
+pub mod Stands
