@@ -1,3 +1,7 @@
+pub mod Buses
+pub mod Changing
+pub mod Counted
+pub mod Grouped
 pub mod Linked
 pub mod Removed
 pub mod Shown

@@ -123,8 +123,8 @@ put_stands listed before flags old new ls rows k l level opened s p at stay fit 
       long = ap length p.is ∙ length-slice_set old k (Some p.box) ∙ s.long;
       rows_long = s.rows_long;
       looked = λ j. subst (λ z. IsLookedAt listed (change_at z j)) (sym p.is) (elim (cases_eq k j) [
-        | inl e ↦ (let lt : k < length old = omega (arith, inside, s.long) in subst (IsLookedAt listed) (sym (ap (λ z. get_or (slice_set old k (Some p.box)) z None) (sym e) ∙ at_same old k (Some p.box) lt)) p.looked)
-        | inr ne ↦ subst (IsLookedAt listed) (sym (at_other old k j (Some p.box) ne)) (s.looked j)
+        | inl e ↦ (let lt : k < length old = omega (arith, inside, s.long) in subst (IsLookedAt listed) (sym (ap (λ z. get_or (slice_set old k (Some p.box)) z None) (sym e) ∙ at_same None old k (Some p.box) lt)) p.looked)
+        | inr ne ↦ subst (IsLookedAt listed) (sym (at_other None old k j (Some p.box) ne)) (s.looked j)
       ]);
       levels_are = ap (λ z. shown_levels z before) p.is ∙ levels_put old before k p.box s.long ∙ ap (λ z. slice_set z k p.box.value.level) s.levels_are ∙ ap (slice_set ls k) p.level_is;
       rows_are = ap (λ z. shown_rows z flags) p.is ∙ rows_put old flags k p.box (s.long ∙ sym s.rows_long) ∙ ap (λ z. slice_set z k p.box.value.opened) s.rows_are ∙ ap (slice_set rows k) p.opened_is;
@@ -135,22 +135,46 @@ put_stands listed before flags old new ls rows k l level opened s p at stay fit 
       ];
       flags_fit = λ j a e. elim (cases_eq k j) [
         | inl q ↦ (let first : l ≡ a = some_same (sym at ∙ ap (slice_get before) q ∙ e) in
-            ap (λ z. length (get_or (slice_set rows k opened) z [])) (sym q) ∙ ap length (at_same rows k opened (omega (arith, inside, rows_long))) ∙ fit ∙ ap (λ z. length z.switches) first)
-        | inr ne ↦ ap length (at_other rows k j opened ne) ∙ s.flags_fit j a e
+            ap (λ z. length (get_or (slice_set rows k opened) z [])) (sym q) ∙ ap length (at_same [] rows k opened (omega (arith, inside, rows_long))) ∙ fit ∙ ap (λ z. length z.switches) first)
+        | inr ne ↦ ap length (at_other [] rows k j opened ne) ∙ s.flags_fit j a e
       ];
     }
   where
     some_same : {X : Type 0} {x y : X} → ◌≡◌ {A = Option X} (Some x) (Some y) → x ≡ y
     some_same e = cc
 
-    at_same : {X : Type 0} {d : X} (xs : List X) (k : ℕ) (y : X) → k < length xs → get_or (slice_set xs k y) k d ≡ y
-    at_same [] k y lt = absurd (omega arith)
-    at_same (x ∷ xs) zero y lt = refl
-    at_same (x ∷ xs) (suc k) y lt = at_same xs k y (omega arith)
+    at_same : {X : Type 0} (d : X) (xs : List X) (k : ℕ) (y : X) → k < length xs → get_or (slice_set xs k y) k d ≡ y
+    at_same d [] k y lt = absurd (omega arith)
+    at_same d (x ∷ xs) zero y lt = refl
+    at_same d (x ∷ xs) (suc k) y lt = at_same d xs k y (omega arith)
 
-    at_other : {X : Type 0} {d : X} (xs : List X) (k j : ℕ) (y : X) → (k ≡ j → ⊥) → get_or (slice_set xs k y) j d ≡ get_or xs j d
-    at_other [] k j y ne = refl
-    at_other (x ∷ xs) zero zero y ne = absurd (ne refl)
-    at_other (x ∷ xs) zero (suc j) y ne = refl
-    at_other (x ∷ xs) (suc k) zero y ne = refl
-    at_other (x ∷ xs) (suc k) (suc j) y ne = at_other xs k j y (λ e. ne (omega (arith, e)))
+    at_other : {X : Type 0} (d : X) (xs : List X) (k j : ℕ) (y : X) → (k ≡ j → ⊥) → get_or (slice_set xs k y) j d ≡ get_or xs j d
+    at_other d [] k j y ne = refl
+    at_other d (x ∷ xs) zero zero y ne = absurd (ne refl)
+    at_other d (x ∷ xs) zero (suc j) y ne = refl
+    at_other d (x ∷ xs) (suc k) zero y ne = refl
+    at_other d (x ∷ xs) (suc k) (suc j) y ne = at_other d xs k j y (λ e. ne (omega (arith, e)))
+
+-- ---- a place that is looked at
+
+pub changed_at : (changes : Changes) (k : ℕ) (o : Change) → k < length changes → o ≡ get_or changes k o → change_at changes k ≡ o
+changed_at [] k o lt e = absurd (omega arith)
+changed_at (x ∷ changes) zero o lt e = sym e
+changed_at (x ∷ changes) (suc k) o lt e = changed_at changes k o (omega arith) e
+
+pub some_got : {X : Type 0} (xs : List X) (n : ℕ) → n < length xs → (x : X) × (slice_get xs n ≡ Some x)
+some_got [] n l = absurd (omega arith)
+some_got (x ∷ xs) zero l = (x, refl)
+some_got (x ∷ xs) (suc n) l = some_got xs n (omega arith)
+
+pub level_changed : (changes : Changes) (ls : List VoltageLevel) (k : ℕ) (c : Box Changed Global) → length changes ≡ length ls → k < length ls → change_at changes k ≡ Some c → slice_get (shown_levels changes ls) k ≡ Some c.value.level
+level_changed changes ls k c long lt e = let l = some_got ls k lt in get_shown changes ls k l.0 long l.1 ∙ ap (λ z. Some (level_by z l.0)) e
+
+pub level_kept : (changes : Changes) (ls : List VoltageLevel) (k : ℕ) (l : VoltageLevel) → length changes ≡ length ls → slice_get ls k ≡ Some l → change_at changes k ≡ None → slice_get (shown_levels changes ls) k ≡ Some l
+level_kept changes ls k l long at e = get_shown changes ls k l long at ∙ ap (λ z. Some (level_by z l)) e
+
+pub row_changed : (changes : Changes) (rows : List (List Bool)) (k : ℕ) (c : Box Changed Global) → length changes ≡ length rows → change_at changes k ≡ Some c → row_at (shown_rows changes rows) k ≡ c.value.opened
+row_changed changes rows k c long e = row_shown changes rows k long ∙ ap (λ z. row_by z (row_at rows k)) e
+
+pub row_kept : (changes : Changes) (rows : List (List Bool)) (k : ℕ) → length changes ≡ length rows → change_at changes k ≡ None → row_at (shown_rows changes rows) k ≡ row_at rows k
+row_kept changes rows k long e = row_shown changes rows k long ∙ ap (λ z. row_by z (row_at rows k)) e

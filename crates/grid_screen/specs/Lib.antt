@@ -1,3 +1,4 @@
 pub mod Figures
+pub mod Counting
 pub mod Screened
 pub mod Steps

@@ -1,7 +1,9 @@
 //! Contingency screening: what an outage of switches and equipment changes in the figures of a network.
 #![tactic(auto)]
 
+mod counting;
 mod outage;
+mod present;
 mod screening;
 
 /// The figures of a network: how many buses and components it has, and what stands in the main component, which is

@@ -2,5 +2,5 @@ use Rattle.std.proofs.Common.{◌≡◌, ℕ, length, None}
 use Rattle.std.specs.Prelude.{slice_index_or}
 use Rattle.grid_screen.proofs.outage.unchanged.Given as goal
 
-abbrev pub invariant-loop-_place : goal.invariant-loop-_place
-invariant-loop-_place l = (length l.changes.items ≡ l._place) × ((k : ℕ) → slice_index_or l.changes.items k None ≡ None)
+abbrev pub invariant-loop-place : goal.invariant-loop-place
+invariant-loop-place l = (length l.changes.items ≡ l._place) × ((k : ℕ) → slice_index_or l.changes.items k None ≡ None)
