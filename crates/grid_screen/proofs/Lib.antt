@@ -1,8 +1,10 @@
 pub mod Buses
 pub mod Changing
 pub mod Counted
+pub mod Figured
 pub mod Grouped
 pub mod Linked
+pub mod Outed
 pub mod Removed
 pub mod Shown
 pub mod Stands

@@ -1,4 +1,4 @@
-use Rattle.std.proofs.Common.{◌≡◌, ℕ, sym, ap, ◌∙◌, ◌++◌, [], ◌∷◌, length, map, arith}
+use Rattle.std.proofs.Common.{◌≡◌, ℕ, sym, ap, ◌∙◌, ◌++◌, [], ◌∷◌, length, map, arith, rules}
 use Rattle.std.proofs.lemmas.List.{map-append}
 use Rattle.grid_graph.specs.Components.{places}
 use Rattle.grid_groups.proofs.Steps.{places_more}
@@ -16,9 +16,10 @@ loop-place-preserved c =
     let kept = c.args.kept.now in
     let changes = c.args.changes.now in
     let n = c.loop-place.place in
+    let many : c.len.result ≡ length c.loop-place.sums.items = search rules in
     let before = λ (place : ℕ). length (sums_before kept changes place) in
     record {
-      firsts = c.in_ok-push.ensures.items ∙ ap (λ z. z ++ c.in_ok-narrow.field-0 ∷ []) c.loop-place.invariant.firsts ∙ ap (λ z. map before (places n) ++ z ∷ []) (c.in_ok-narrow.ensures.value ∙ c.len.ensures ∙ ap length c.loop-place.invariant.sums)
+      firsts = c.in_ok-push.ensures.items ∙ ap (λ z. z ++ c.in_ok-narrow.field-0 ∷ []) c.loop-place.invariant.firsts ∙ ap (λ z. map before (places n) ++ z ∷ []) (c.in_ok-narrow.ensures.value ∙ many ∙ ap length c.loop-place.invariant.sums)
           ∙ sym (ap (map before) (places_more n) ∙ map-append before (places n) (n ∷ []));
       sums = c.in_ok-extend_from_slice.ensures.items ∙ ap (λ z. z ++ c.sums_at.result.now) c.loop-place.invariant.sums ∙ ap (λ z. sums_before kept changes n ++ z) c.sums_at.ensures ∙ sym (gathered_places (present_sums kept changes) n);
     }
