@@ -41,9 +41,7 @@ front_alone g k (suc m) =
     ap (λ z. list_any p (places z)) same ∙ ap (list_any p) (places_more (k + m)) ∙ list_any-append p (places (k + m)) ((k + m) ∷ [])
     ∙ ap (λ t. list_any p (places (k + m)) || ((t && g (k + m)) || false)) (le-ltb (k + m) k (omega arith)) ∙ or_false (list_any p (places (k + m))) ∙ front_alone g k m
 
-
 module _ (count : ℕ) (pairs : List (ℕ × ℕ)) (ends : EndsBelow pairs count) where
-
   pub numbers_long : (numbers : List ℕ) → numbers ≡ component_numbers count pairs → length numbers ≡ count
   unfolding component_numbers
   numbers_long numbers e = long_places count (component_number count pairs) numbers e

@@ -4,7 +4,11 @@ pub mod Counted
 pub mod Figured
 pub mod Grouped
 pub mod Linked
+pub mod Outcomes
 pub mod Outed
 pub mod Removed
 pub mod Shown
 pub mod Stands
+pub mod Stepped
+pub mod Whole
+pub mod Written

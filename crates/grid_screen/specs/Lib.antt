@@ -1,4 +1,9 @@
 pub mod Figures
+pub mod Outages
+pub mod Findings
 pub mod Counting
 pub mod Screened
 pub mod Steps
+pub mod Kept
+pub mod Texts
+pub mod Jobs
