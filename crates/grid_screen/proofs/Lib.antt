@@ -10,5 +10,6 @@ pub mod Removed
 pub mod Shown
 pub mod Stands
 pub mod Stepped
+pub mod Threaded
 pub mod Whole
 pub mod Written
