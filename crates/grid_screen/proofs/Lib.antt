@@ -1,4 +1,5 @@
 pub mod Buses
+pub mod Cases
 pub mod Changing
 pub mod Counted
 pub mod Figured

@@ -5,5 +5,6 @@ pub mod Counting
 pub mod Screened
 pub mod Steps
 pub mod Kept
+pub mod Laws
 pub mod Texts
 pub mod Jobs

@@ -4,6 +4,7 @@
 
 mod counting;
 pub mod find;
+pub mod laws;
 mod outage;
 mod parallel;
 mod present;
@@ -68,3 +69,6 @@ pub enum Finding {
 
 /// Findings in the order of their contingencies.
 pub type Findings = Seq<Finding>;
+
+#[cfg(test)]
+mod tests;

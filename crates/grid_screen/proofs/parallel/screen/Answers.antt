@@ -21,13 +21,22 @@ use Rattle.grid_screen.proofs.parallel.screen.Goals as goal
 
 pub collect-requires : goal.collect-requires
 unfolding state_without
-collect-requires g c κs =
-    (search (sendable, crosses, case.the_sync, kept.the_sync, figures.the_sync, contingency.the_sync) depth 60,
-    (search (sendable, crosses, finding.the_send, memory.the_send) depth 40,
-    (search (sendable, crosses, finding.the_send, memory.the_send) depth 40,
-    (search (sendable, crosses) depth 40,
-    (search (sendable, crosses) depth 40,
-    (frees, rw c.map.ensures.f (λ k d lt x e. ((c.requires, (c.in_ok-kept.ensures, c.in_ok-before.ensures)), λ y p. tt))))))))
+collect-requires g c κs = (
+  search (sendable, crosses, case.the_sync, kept.the_sync, figures.the_sync, contingency.the_sync) depth 60,
+  (
+    search (sendable, crosses, finding.the_send, memory.the_send) depth 40,
+    (
+      search (sendable, crosses, finding.the_send, memory.the_send) depth 40,
+      (
+        search (sendable, crosses) depth 40,
+        (
+          search (sendable, crosses) depth 40,
+          (frees, rw c.map.ensures.f (λ k d lt x e. ((c.requires, (c.in_ok-kept.ensures, c.in_ok-before.ensures)), λ y p. tt))),
+        ),
+      ),
+    ),
+  ),
+)
 
 pub returns : goal.returns
 returns g c retained =
