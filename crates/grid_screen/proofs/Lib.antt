@@ -1,0 +1,16 @@
+pub mod Buses
+pub mod Cases
+pub mod Changing
+pub mod Counted
+pub mod Figured
+pub mod Grouped
+pub mod Linked
+pub mod Outcomes
+pub mod Outed
+pub mod Removed
+pub mod Shown
+pub mod Stands
+pub mod Stepped
+pub mod Threaded
+pub mod Whole
+pub mod Written

@@ -1,0 +1,86 @@
+-- What the removal of equipment leaves of a network's levels and branches.
+use Rattle.std.proofs.Common.{◌≡◌, refl, sym, ap, ◌∙◌, subst, ℕ, zero, suc, Bool, true, false, cond, not, ◌||◌, List, [], ◌∷◌, ◌++◌, length, map, arith, Option, Some, None}
+use Rattle.std.specs.Prelude.{filter, find, flat_map, slice_get, is_some, Ok}
+use Rattle.std.specs.Option.{option_map}
+use Rattle.std.specs.List.{list_any}
+use Rattle.std.proofs.lemmas.Bool.{or_cases, or_left, or_right, false≢true}
+use Rattle.std.proofs.lemmas.List.Elements.{filter-append}
+use Rattle.std.proofs.lemmas.List.Folds.{list_any-append}
+use Rattle.grid_ids.specs.Name.{same_id, has_id}
+use Rattle.grid_ids.specs.Refusing.{refuse_if}
+use Rattle.grid_level.specs.declared.Placed.{Placed}
+use Rattle.grid_level.specs.VoltageLevel.{VoltageLevel}
+use Rattle.grid_level.specs.Passing.{is_branch_end}
+use Rattle.grid_level.specs.LevelEdits.{level_without_equipment}
+use Rattle.grid_level.proofs.Editing as on_level
+use Rattle.grid_structure.specs.declared.NamedBranch.{NamedBranch}
+use Rattle.grid_structure.specs.declared.Edit.TheVariants.{RemoveEquipment}
+use Rattle.grid_structure.specs.declared.EditFault.TheVariants as faults
+use Rattle.grid_structure.specs.Network.{Network, Substation}
+use Rattle.grid_structure.specs.Sites.{levels, branches, single_ids, branch_ids, equipment_ids}
+use Rattle.grid_structure.specs.Editing.{apply, with_levels, substation_without, without_branch}
+use Rattle.grid_structure.proofs.Counts.{not_there}
+use Rattle.grid_structure.proofs.Dropping.{none_out}
+use Rattle.grid_structure.proofs.Framing.{frame-with_levels, same_branches}
+use Rattle.grid_structure.proofs.Levels.{levels-with_levels}
+use Rattle.grid_structure.proofs.Removing.{dropped}
+
+-- ---- an equipment that is removed
+
+levels-dropped : (id : List ℕ) (subs : List Substation) → flat_map (λ (s : Substation). s.levels) (map (substation_without id) subs) ≡ flat_map (λ (s : Substation). s.levels) subs
+unfolding substation_without
+levels-dropped id [] = refl
+levels-dropped id (s ∷ subs) = ap (λ z. s.levels ++ z) (levels-dropped id subs)
+
+transformers-dropped : (id : List ℕ) (subs : List Substation) → flat_map (λ (s : Substation). s.transformers) (map (substation_without id) subs) ≡ without_branch id (flat_map (λ (s : Substation). s.transformers) subs)
+unfolding substation_without without_branch
+transformers-dropped id [] = refl
+transformers-dropped id (s ∷ subs) =
+    ap (λ z. filter (λ (b : NamedBranch). not (same_id id b.id)) s.transformers ++ z) (transformers-dropped id subs)
+    ∙ sym (filter-append (λ (b : NamedBranch). not (same_id id b.id)) s.transformers (flat_map (λ (s : Substation). s.transformers) subs))
+
+levels_left : (id : List ℕ) (net : Network) → levels (dropped id net) ≡ levels net
+unfolding levels
+levels_left id net = levels-dropped id net.substations
+
+branches_left : (id : List ℕ) (net : Network) → branches (dropped id net) ≡ without_branch id (branches net)
+unfolding branches without_branch
+branches_left id net =
+    ap (λ z. z ++ filter (λ (b : NamedBranch). not (same_id id b.id)) net.lines) (transformers-dropped id net.substations)
+    ∙ sym (filter-append (λ (b : NamedBranch). not (same_id id b.id)) (flat_map (λ (s : Substation). s.transformers) net.substations) net.lines)
+
+cleared_branches : (id : List ℕ) (net : Network) → branches (with_levels (level_without_equipment id) net) ≡ branches net
+unfolding with_levels level_without_equipment
+cleared_branches id net = same_branches (with_levels (level_without_equipment id) net) net (frame-with_levels (level_without_equipment id) (λ l. refl) net) refl
+
+-- the levels without its terminals, and the branches without it
+pub record Lessened (net new : Network) (id : List ℕ) : Type 0 where
+  pub levels_left : levels new ≡ map (level_without_equipment id) (levels net)
+  pub branches_left : branches new ≡ without_branch id (branches net)
+
+pub lessened : (net new : Network) (id : List ℕ) → apply net (RemoveEquipment id) ≡ Ok new → Lessened net new id
+unfolding apply
+lessened net new id h =
+    let t = on_level.went (refuse_if (not (has_id (equipment_ids net) id)) faults.NoSuchId) _ new h in
+    let cleared = with_levels (level_without_equipment id) net in
+    let is : dropped id cleared ≡ new = cc (t.next) in
+    subst (λ (z : Network). Lessened net z id) is (record {
+      levels_left = levels_left id cleared ∙ levels-with_levels (level_without_equipment id) net;
+      branches_left = branches_left id cleared ∙ ap (without_branch id) (cleared_branches id net);
+    })
+
+-- ---- no equipment of the id
+
+any_both : (id : List ℕ) (xs ys : List (List ℕ)) → has_id (xs ++ ys) id ≡ false → (has_id xs id ≡ false) × (has_id ys id ≡ false)
+unfolding has_id
+any_both id xs ys h = by (list_any (same_id id) xs) (list_any (same_id id) ys) (sym (list_any-append (same_id id) xs ys) ∙ h)
+  where
+    by : (a b : Bool) → a || b ≡ false → (a ≡ false) × (b ≡ false)
+    by true b e = absurd (false≢true (sym e))
+    by false b e = (refl, e)
+
+-- no branch has it
+pub no_branch : (net : Network) (id : List ℕ) → has_id (equipment_ids net) id ≡ false → without_branch id (branches net) ≡ branches net
+unfolding equipment_ids branch_ids without_branch
+no_branch net id h =
+    none_out (λ (b : NamedBranch). b.id) id (branches net) (not_there id (map (λ (b : NamedBranch). b.id) (branches net)) (any_both id (single_ids net) (map (λ (b : NamedBranch). b.id) (branches net)) h).1)

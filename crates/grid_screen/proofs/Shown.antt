@@ -1,0 +1,180 @@
+-- Levels and rows as the changes show them.
+use Rattle.std.proofs.Common.{◌≡◌, refl, sym, ap, ◌∙◌, subst, ℕ, zero, suc, ◌<◌, Bool, List, [], ◌∷◌, length, get_or, arith, inl, inr, ◌⊎◌, Option, Some, None}
+use Rattle.std.specs.Prelude.{slice_get, slice_set, Box}
+use Rattle.std.specs.declared.alloc.Global.{Global}
+use Rattle.std.proofs.lemmas.Bool.{cases_eq}
+use Rattle.grid_level.specs.VoltageLevel.{VoltageLevel}
+use Rattle.grid_powers.specs.Listed.{Listed}
+use Rattle.grid_states.specs.Rows.{row_at}
+use Rattle.grid_structure.proofs.Places.{length-slice_set, got_below, set_itself}
+use Rattle.grid_screen.specs.declared.outage.Changed.{Changed}
+use Rattle.grid_screen.specs.Screened.{Changes, change_at, shown_levels, shown_rows, IsLookedAt}
+use Rattle.grid_screen.specs.Steps.{IsPut, Stands}
+
+abbrev pub Change : Type 0
+Change = Option (Box Changed Global)
+
+-- ---- one change
+
+abbrev pub level_by : Change → VoltageLevel → VoltageLevel
+level_by None l = l
+level_by (Some c) l = c.value.level
+
+abbrev pub row_by : Change → List Bool → List Bool
+row_by None row = row
+row_by (Some c) row = c.value.opened
+
+levels-cons : (o : Change) (changes : Changes) (l : VoltageLevel) (ls : List VoltageLevel) → shown_levels (o ∷ changes) (l ∷ ls) ≡ level_by o l ∷ shown_levels changes ls
+unfolding shown_levels
+levels-cons None changes l ls = refl
+levels-cons (Some c) changes l ls = refl
+
+rows-cons : (o : Change) (changes : Changes) (row : List Bool) (rows : List (List Bool)) → shown_rows (o ∷ changes) (row ∷ rows) ≡ row_by o row ∷ shown_rows changes rows
+unfolding shown_rows
+rows-cons None changes row rows = refl
+rows-cons (Some c) changes row rows = refl
+
+-- ---- what is shown at a place
+
+pub get_shown : (changes : Changes) (ls : List VoltageLevel) (k : ℕ) (l : VoltageLevel) → length changes ≡ length ls → slice_get ls k ≡ Some l → slice_get (shown_levels changes ls) k ≡ Some (level_by (change_at changes k) l)
+get_shown changes [] k l long at = absurd (cc)
+get_shown [] (x ∷ ls) k l long at = absurd (omega (arith, long))
+get_shown (o ∷ changes) (x ∷ ls) zero l long at = let same : x ≡ l = cc in rw (levels-cons o changes x ls) (ap (λ z. Some (level_by o z)) same)
+get_shown (o ∷ changes) (x ∷ ls) (suc k) l long at = rw (levels-cons o changes x ls) (get_shown changes ls k l (omega (arith, long)) at)
+
+pub row_shown : (changes : Changes) (rows : List (List Bool)) (k : ℕ) → length changes ≡ length rows → row_at (shown_rows changes rows) k ≡ row_by (change_at changes k) (row_at rows k)
+unfolding row_at shown_rows
+row_shown [] [] k long = refl
+row_shown [] (x ∷ rows) k long = absurd (omega (arith, long))
+row_shown (o ∷ changes) [] k long = absurd (omega (arith, long))
+row_shown (o ∷ changes) (x ∷ rows) zero long = rw (rows-cons o changes x rows) refl
+row_shown (o ∷ changes) (x ∷ rows) (suc k) long = rw (rows-cons o changes x rows) (row_shown changes rows k (omega (arith, long)))
+
+pub length-shown_levels : (changes : Changes) (ls : List VoltageLevel) → length changes ≡ length ls → length (shown_levels changes ls) ≡ length ls
+unfolding shown_levels
+length-shown_levels [] ls long = refl
+length-shown_levels (o ∷ changes) [] long = absurd (omega (arith, long))
+length-shown_levels (o ∷ changes) (l ∷ ls) long = rw (levels-cons o changes l ls) (ap suc (length-shown_levels changes ls (omega (arith, long))))
+
+pub length-shown_rows : (changes : Changes) (rows : List (List Bool)) → length changes ≡ length rows → length (shown_rows changes rows) ≡ length rows
+unfolding shown_rows
+length-shown_rows [] rows long = refl
+length-shown_rows (o ∷ changes) [] long = absurd (omega (arith, long))
+length-shown_rows (o ∷ changes) (r ∷ rows) long = rw (rows-cons o changes r rows) (ap suc (length-shown_rows changes rows (omega (arith, long))))
+
+-- ---- no change
+
+pub levels_unchanged : (changes : Changes) (ls : List VoltageLevel) → length changes ≡ length ls → ((k : ℕ) → change_at changes k ≡ None) → shown_levels changes ls ≡ ls
+unfolding shown_levels
+levels_unchanged [] ls long none = refl
+levels_unchanged (o ∷ changes) [] long none = absurd (omega (arith, long))
+levels_unchanged (o ∷ changes) (l ∷ ls) long none = levels-cons o changes l ls ∙ ap (λ z. level_by z l ∷ shown_levels changes ls) (none 0) ∙ ap (λ z. l ∷ z) (levels_unchanged changes ls (omega (arith, long)) (λ k. none (suc k)))
+
+pub rows_unchanged : (changes : Changes) (rows : List (List Bool)) → length changes ≡ length rows → ((k : ℕ) → change_at changes k ≡ None) → shown_rows changes rows ≡ rows
+unfolding shown_rows
+rows_unchanged [] rows long none = refl
+rows_unchanged (o ∷ changes) [] long none = absurd (omega (arith, long))
+rows_unchanged (o ∷ changes) (r ∷ rows) long none = rows-cons o changes r rows ∙ ap (λ z. row_by z r ∷ shown_rows changes rows) (none 0) ∙ ap (λ z. r ∷ z) (rows_unchanged changes rows (omega (arith, long)) (λ k. none (suc k)))
+
+-- ---- one change more
+
+pub levels_put : (changes : Changes) (ls : List VoltageLevel) (k : ℕ) (c : Box Changed Global) → length changes ≡ length ls → shown_levels (slice_set changes k (Some c)) ls ≡ slice_set (shown_levels changes ls) k c.value.level
+unfolding shown_levels
+levels_put [] [] k c long = refl
+levels_put [] (l ∷ ls) k c long = absurd (omega (arith, long))
+levels_put (o ∷ changes) [] k c long = absurd (omega (arith, long))
+levels_put (o ∷ changes) (l ∷ ls) zero c long = rw (levels-cons o changes l ls) refl
+levels_put (o ∷ changes) (l ∷ ls) (suc k) c long =
+    levels-cons o (slice_set changes k (Some c)) l ls ∙ ap (λ z. level_by o l ∷ z) (levels_put changes ls k c (omega (arith, long)))
+    ∙ ap (λ z. slice_set z (suc k) c.value.level) (sym (levels-cons o changes l ls))
+
+pub rows_put : (changes : Changes) (rows : List (List Bool)) (k : ℕ) (c : Box Changed Global) → length changes ≡ length rows → shown_rows (slice_set changes k (Some c)) rows ≡ slice_set (shown_rows changes rows) k c.value.opened
+unfolding shown_rows
+rows_put [] [] k c long = refl
+rows_put [] (r ∷ rows) k c long = absurd (omega (arith, long))
+rows_put (o ∷ changes) [] k c long = absurd (omega (arith, long))
+rows_put (o ∷ changes) (r ∷ rows) zero c long = rw (rows-cons o changes r rows) refl
+rows_put (o ∷ changes) (r ∷ rows) (suc k) c long =
+    rows-cons o (slice_set changes k (Some c)) r rows ∙ ap (λ z. row_by o r ∷ z) (rows_put changes rows k c (omega (arith, long)))
+    ∙ ap (λ z. slice_set z (suc k) c.value.opened) (sym (rows-cons o changes r rows))
+
+get_set : {X : Type 0} (xs : List X) (k : ℕ) (y : X) → k < length xs → slice_get (slice_set xs k y) k ≡ Some y
+get_set [] k y lt = absurd (omega arith)
+get_set (x ∷ xs) zero y lt = refl
+get_set (x ∷ xs) (suc k) y lt = get_set xs k y (omega arith)
+
+get_other : {X : Type 0} (xs : List X) (k j : ℕ) (y : X) → (k ≡ j → ⊥) → slice_get (slice_set xs k y) j ≡ slice_get xs j
+get_other [] k j y ne = refl
+get_other (x ∷ xs) zero zero y ne = absurd (ne refl)
+get_other (x ∷ xs) zero (suc j) y ne = refl
+get_other (x ∷ xs) (suc k) zero y ne = refl
+get_other (x ∷ xs) (suc k) (suc j) y ne = get_other xs k j y (λ e. ne (omega (arith, e)))
+
+-- another level at a place, where its switches stay and its flags are as many
+pub put_stands : (listed : Listed) (before : List VoltageLevel) (flags : List (List Bool)) (old new : Changes) (ls : List VoltageLevel) (rows : List (List Bool)) (k : ℕ) (l level : VoltageLevel) (opened : List Bool)
+    → Stands listed before flags old ls rows → IsPut listed k level opened old new → slice_get before k ≡ Some l → level.switches ≡ l.switches → length opened ≡ length l.switches
+    → Stands listed before flags new (slice_set ls k level) (slice_set rows k opened)
+unfolding row_at
+put_stands listed before flags old new ls rows k l level opened s p at stay fit =
+    let inside : k < length before = got_below before k l at in
+    let rows_long : length rows ≡ length before = ap length (sym s.rows_are) ∙ length-shown_rows old flags (s.long ∙ sym s.rows_long) ∙ s.rows_long in
+    let levels_long : length ls ≡ length before = ap length (sym s.levels_are) ∙ length-shown_levels old before s.long in
+    record {
+      long = ap length p.is ∙ length-slice_set old k (Some p.box) ∙ s.long;
+      rows_long = s.rows_long;
+      looked = λ j. subst (λ z. IsLookedAt listed (change_at z j)) (sym p.is) (elim (cases_eq k j) [
+        | inl e ↦ (let lt : k < length old = omega (arith, inside, s.long) in subst (IsLookedAt listed) (sym (ap (λ z. get_or (slice_set old k (Some p.box)) z None) (sym e) ∙ at_same None old k (Some p.box) lt)) p.looked)
+        | inr ne ↦ subst (IsLookedAt listed) (sym (at_other None old k j (Some p.box) ne)) (s.looked j)
+      ]);
+      levels_are = ap (λ z. shown_levels z before) p.is ∙ levels_put old before k p.box s.long ∙ ap (λ z. slice_set z k p.box.value.level) s.levels_are ∙ ap (slice_set ls k) p.level_is;
+      rows_are = ap (λ z. shown_rows z flags) p.is ∙ rows_put old flags k p.box (s.long ∙ sym s.rows_long) ∙ ap (λ z. slice_set z k p.box.value.opened) s.rows_are ∙ ap (slice_set rows k) p.opened_is;
+      switches_stay = λ j a b e f. elim (cases_eq k j) [
+        | inl q ↦ (let same : level ≡ b = some_same (sym (get_set ls k level (omega (arith, inside, levels_long))) ∙ ap (slice_get (slice_set ls k level)) q ∙ f) in
+            let first : l ≡ a = some_same (sym at ∙ ap (slice_get before) q ∙ e) in ap (λ z. z.switches) (sym same) ∙ stay ∙ ap (λ z. z.switches) first)
+        | inr ne ↦ s.switches_stay j a b e (sym (get_other ls k j level ne) ∙ f)
+      ];
+      flags_fit = λ j a e. elim (cases_eq k j) [
+        | inl q ↦ (let first : l ≡ a = some_same (sym at ∙ ap (slice_get before) q ∙ e) in
+            ap (λ z. length (get_or (slice_set rows k opened) z [])) (sym q) ∙ ap length (at_same [] rows k opened (omega (arith, inside, rows_long))) ∙ fit ∙ ap (λ z. length z.switches) first)
+        | inr ne ↦ ap length (at_other [] rows k j opened ne) ∙ s.flags_fit j a e
+      ];
+    }
+  where
+    some_same : {X : Type 0} {x y : X} → ◌≡◌ {A = Option X} (Some x) (Some y) → x ≡ y
+    some_same e = cc
+
+    at_same : {X : Type 0} (d : X) (xs : List X) (k : ℕ) (y : X) → k < length xs → get_or (slice_set xs k y) k d ≡ y
+    at_same d [] k y lt = absurd (omega arith)
+    at_same d (x ∷ xs) zero y lt = refl
+    at_same d (x ∷ xs) (suc k) y lt = at_same d xs k y (omega arith)
+
+    at_other : {X : Type 0} (d : X) (xs : List X) (k j : ℕ) (y : X) → (k ≡ j → ⊥) → get_or (slice_set xs k y) j d ≡ get_or xs j d
+    at_other d [] k j y ne = refl
+    at_other d (x ∷ xs) zero zero y ne = absurd (ne refl)
+    at_other d (x ∷ xs) zero (suc j) y ne = refl
+    at_other d (x ∷ xs) (suc k) zero y ne = refl
+    at_other d (x ∷ xs) (suc k) (suc j) y ne = at_other d xs k j y (λ e. ne (omega (arith, e)))
+
+-- ---- a place that is looked at
+
+pub changed_at : (changes : Changes) (k : ℕ) (o : Change) → k < length changes → o ≡ get_or changes k o → change_at changes k ≡ o
+changed_at [] k o lt e = absurd (omega arith)
+changed_at (x ∷ changes) zero o lt e = sym e
+changed_at (x ∷ changes) (suc k) o lt e = changed_at changes k o (omega arith) e
+
+pub some_got : {X : Type 0} (xs : List X) (n : ℕ) → n < length xs → (x : X) × (slice_get xs n ≡ Some x)
+some_got [] n l = absurd (omega arith)
+some_got (x ∷ xs) zero l = (x, refl)
+some_got (x ∷ xs) (suc n) l = some_got xs n (omega arith)
+
+pub level_changed : (changes : Changes) (ls : List VoltageLevel) (k : ℕ) (c : Box Changed Global) → length changes ≡ length ls → k < length ls → change_at changes k ≡ Some c → slice_get (shown_levels changes ls) k ≡ Some c.value.level
+level_changed changes ls k c long lt e = let l = some_got ls k lt in get_shown changes ls k l.0 long l.1 ∙ ap (λ z. Some (level_by z l.0)) e
+
+pub level_kept : (changes : Changes) (ls : List VoltageLevel) (k : ℕ) (l : VoltageLevel) → length changes ≡ length ls → slice_get ls k ≡ Some l → change_at changes k ≡ None → slice_get (shown_levels changes ls) k ≡ Some l
+level_kept changes ls k l long at e = get_shown changes ls k l long at ∙ ap (λ z. Some (level_by z l)) e
+
+pub row_changed : (changes : Changes) (rows : List (List Bool)) (k : ℕ) (c : Box Changed Global) → length changes ≡ length rows → change_at changes k ≡ Some c → row_at (shown_rows changes rows) k ≡ c.value.opened
+row_changed changes rows k c long e = row_shown changes rows k long ∙ ap (λ z. row_by z (row_at rows k)) e
+
+pub row_kept : (changes : Changes) (rows : List (List Bool)) (k : ℕ) → length changes ≡ length rows → change_at changes k ≡ None → row_at (shown_rows changes rows) k ≡ row_at rows k
+row_kept changes rows k long e = row_shown changes rows k long ∙ ap (λ z. row_by z (row_at rows k)) e

@@ -1,0 +1,20 @@
+-- What is said of a case and of what is kept of it.
+use Rattle.std.specs.Prelude.{◌≡◌, ℕ, Bool, List, map}
+use Rattle.grid_structure.specs.Sites.{levels}
+use Rattle.grid_core.specs.declared.case.Case.{Case}
+use Rattle.grid_screen.specs.declared.Contingency.{Contingency}
+use Rattle.grid_screen.specs.declared.Figures.{Figures}
+use Rattle.grid_screen.specs.declared.Finding.{Finding}
+use Rattle.grid_screen.specs.declared.screening.Screening.{Screening}
+use Rattle.grid_screen.specs.Findings.{state_in, figures_of, finding_of}
+use Rattle.grid_screen.specs.Outages.{state_without}
+use Rattle.grid_screen.specs.Screened.{level_sums, level_places, network_links}
+
+-- it is the case's
+pub record IsKeptOf (case : Case) (kept : Screening) : Type 0 where
+  pub sums : kept.sums ≡ level_sums case.powers.listed (levels case.structure) case.states
+  pub links : kept.links ≡ network_links case.structure (level_places (levels case.structure) case.states)
+
+-- the figures after these ids are out
+abbrev pub AreFiguresWithout : Case → List (List ℕ) → Figures → Type 0
+AreFiguresWithout case ids figures = (retained : List (List Bool)) → figures ≡ figures_of (state_without (state_in case retained) ids)

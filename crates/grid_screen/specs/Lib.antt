@@ -1,0 +1,10 @@
+pub mod Figures
+pub mod Outages
+pub mod Findings
+pub mod Counting
+pub mod Screened
+pub mod Steps
+pub mod Kept
+pub mod Laws
+pub mod Texts
+pub mod Jobs

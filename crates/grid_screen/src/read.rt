@@ -1,0 +1,121 @@
+// Jobs with contingencies from JSON.
+ghost use Rattle.std.specs.Prelude.{◌≤◌, IfOk, codes};
+ghost use Rattle.serde_json.specs.View.{view};
+ghost use Rattle.grid_json.specs.Job.{command_total, max_commands};
+ghost use Rattle.grid_json.specs.Reading.{Gives, member_at};
+ghost use Rattle.grid_json.specs.Whole.{JobGives};
+ghost use Rattle.grid_screen.specs.Jobs.{contingencies_at, whole_at, screen_at, screen_job_of};
+
+use crate::{Contingencies, Contingency, ScreenJob};
+use grid_json::{
+    ByteFault, Fault, Format, FromJson, Job, JobFault, ReadError, Reason, few, member, only,
+    read_value, value_of,
+};
+use serde_json::Value;
+use std::alloc::Global;
+
+/// The most contingencies that are screened at once.
+const MOST_CONTINGENCIES: usize = 20_000;
+
+impl FromJson for Contingency {
+    ghost use Rattle.grid_screen.specs.Jobs.{contingency_at};
+
+    ghost reads = { λ _. contingency_at };
+
+    #[tactic(auto, unfolding(crate::specs::Jobs::contingency_at))]
+    fn from_json(alloc: Global, format: Format, value: &Value) -> Result<Contingency, ReadError> {
+        only(alloc, value, &["name", "out"])?;
+        let name = member(alloc, format, value, "name")?;
+        let ids = member(alloc, format, value, "out")?;
+        Ok(Contingency { name, ids })
+    }
+}
+
+// The whole job of a value: both passes.
+fn read_whole(alloc: Global, value: &Value) -> Result<Job, ReadError>
+    ensures job { Gives result (whole_at (view value.now)) }
+    ensures total { IfOk result (λ job. command_total job.scripts ≤ max_commands) }
+{
+    match read_value(alloc, value) {
+        Ok(job) => Ok(job),
+        Err(JobFault::BadJson) => unreachable!(),
+        Err(JobFault::BadJob { place, reason }) => Err(ReadError::Fault(Fault { place, reason })),
+        Err(JobFault::Memory) => Err(ReadError::Memory),
+    }
+}
+
+// The member `job`, which must be there.
+fn job_of(alloc: Global, value: &Value) -> Result<Job, ReadError>
+    ensures job { Gives result (member_at whole_at (codes "job") (view value.now)) }
+    ensures total { IfOk result (λ job. command_total job.scripts ≤ max_commands) }
+{
+    match value.get("job") {
+        None => Err(ReadError::here(alloc, Reason::Missing).under(alloc, "job")),
+        Some(found) => match read_whole(alloc, found) {
+            Ok(job) => Ok(job),
+            Err(e) => Err(e.under(alloc, "job")),
+        },
+    }
+}
+
+// The contingencies, of which there are few enough.
+fn read_list(alloc: Global, value: &Value) -> Result<Contingencies, ReadError>
+    ensures { Gives result (contingencies_at (view value.now)) }
+{
+    few(
+        alloc,
+        Format::One,
+        value,
+        MOST_CONTINGENCIES,
+        Reason::TooManyContingencies,
+    )
+}
+
+// The member `contingencies`, which must be there.
+fn contingencies_of(alloc: Global, value: &Value) -> Result<Contingencies, ReadError>
+    ensures { Gives result (member_at contingencies_at (codes "contingencies") (view value.now)) }
+{
+    match value.get("contingencies") {
+        None => Err(ReadError::here(alloc, Reason::Missing).under(alloc, "contingencies")),
+        Some(found) => match read_list(alloc, found) {
+            Ok(contingencies) => Ok(contingencies),
+            Err(e) => Err(e.under(alloc, "contingencies")),
+        },
+    }
+}
+
+// The job of a value, with its contingencies.
+#[tactic(auto, unfolding(crate::specs::Jobs::screen_at))]
+fn read_root(alloc: Global, value: &Value) -> Result<ScreenJob, ReadError>
+    ensures job { Gives result (screen_at (view value.now)) }
+    ensures total { IfOk result (λ screen. command_total screen.job.scripts ≤ max_commands) }
+{
+    only(alloc, value, &["job", "contingencies"])?;
+    let job = job_of(alloc, value)?;
+    let contingencies = contingencies_of(alloc, value)?;
+    Ok(ScreenJob { job, contingencies })
+}
+
+/// The job of the bytes with its contingencies: BadJson exactly where `serde_json` has no reading of them, BadJob exactly
+/// where there is a fault, with the first one. The root's member `job` is read whole, with its loading, before
+/// `contingencies`, an array of objects with `name` and `out`, an array of ids. More than 20,000 items are
+/// TooManyContingencies (73), before the items are looked at. The rules and their order are this project's own.
+#[tactic(auto, unfolding(crate::specs::Jobs::screen_job_of))]
+pub fn read_screen(alloc: Global, bytes: &[u8]) -> Result<ScreenJob, JobFault>
+    ensures job { JobGives result (screen_job_of bytes.now) }
+    ensures total { IfOk result (λ screen. command_total screen.job.scripts ≤ max_commands) }
+{
+    let value = match value_of(alloc, bytes) {
+        Ok(value) => value,
+        Err(ByteFault::NotJson) => return Err(JobFault::BadJson),
+        Err(ByteFault::Memory) => return Err(JobFault::Memory),
+    };
+    match read_root(alloc, &value) {
+        Ok(screen) => Ok(screen),
+        Err(ReadError::Memory) => Err(JobFault::Memory),
+        Err(ReadError::Fault(fault)) => Err(JobFault::BadJob {
+            place: fault.place,
+            reason: fault.reason,
+        }),
+    }
+}

@@ -1,0 +1,68 @@
+ghost use Rattle.std.specs.Prelude.{IfOk};
+ghost use Rattle.grid_screen.specs.Findings.{CaseFits};
+
+use super::*;
+use grid_core::{Case, World};
+use grid_ids::Id;
+use grid_report::Text;
+use grid_structure::Structure;
+use std::test::Fail;
+
+// Four levels in a row, of which two are joined by a transformer, with four contingencies.
+const FOUR: &str =
+    r#"{"job":{"format":1,"network":{"id":"FOUR","substations":[{"id":"S1","levels":[{"id":"A","nominal_v":400000,"busbars":[{"id":"BBA","node":0}],"switches":[{"id":"A1","kind":"BREAKER","node1":0,"node2":1},{"id":"A2","kind":"BREAKER","node1":0,"node2":2}],"internal":[],"injections":[]},{"id":"B","nominal_v":225000,"busbars":[{"id":"BBB","node":0}],"switches":[{"id":"B1","kind":"BREAKER","node1":0,"node2":1},{"id":"B2","kind":"BREAKER","node1":0,"node2":2}],"internal":[],"injections":[{"kind":"LOAD","id":"LB","node":2,"p0":80000000,"q0":0}]}],"transformers":[{"kind":"TWO_WINDINGS","id":"TR","ends":[{"level":"A","node":2},{"level":"B","node":1}],"rated_u":[400000,225000]}]},{"id":"S2","levels":[{"id":"C","nominal_v":400000,"busbars":[{"id":"BBC","node":0}],"switches":[{"id":"C1","kind":"BREAKER","node1":0,"node2":1},{"id":"C2","kind":"BREAKER","node1":0,"node2":2},{"id":"C3","kind":"BREAKER","node1":0,"node2":3}],"internal":[],"injections":[{"kind":"LOAD","id":"LC","node":3,"p0":30000000,"q0":0}]}]},{"id":"S3","levels":[{"id":"D","nominal_v":400000,"busbars":[{"id":"BBD","node":0}],"switches":[{"id":"D1","kind":"BREAKER","node1":0,"node2":1},{"id":"D2","kind":"BREAKER","node1":0,"node2":2}],"internal":[],"injections":[{"kind":"GENERATOR","id":"GD","node":2,"target_p":120000000,"target_v":400000,"min_p":0,"max_p":200000000}]}]}],"lines":[{"id":"L1","ends":[{"level":"A","node":1},{"level":"C","node":1}]},{"id":"L2","ends":[{"level":"C","node":2},{"level":"D","node":1}]}]}},"contingencies":[{"name":"E0","out":[]},{"name":"E1","out":["L1"]},{"name":"E2","out":["B2"]},{"name":"E3","out":["ZZ"]}]}"#;
+
+const LINES: &str = "contingency E0: 4 buses, 1 components, main 4, lost load 0, lost generation 0
+contingency E1: 4 buses, 2 components, main 2, lost load 30000000, lost generation 120000000
+contingency E2: 4 buses, 1 components, main 4, lost load 80000000, lost generation 0
+contingency E3: unknown ZZ
+";
+
+// What the first variant of a network stands at.
+#[tactic(auto)]
+fn first_case(rt: HostRuntime, network: Structure) -> Result<Case, Fail>
+    ensures { IfOk result CaseFits }
+{
+    network.keeps();
+    let world = World::start(rt.alloc(), network, 0)?;
+    let name = Id::new(rt.alloc(), "InitialState")?;
+    match world.case(&name)? {
+        Some(case) => Ok(case),
+        None => panic!(rt; "the first variant is live"),
+    }
+}
+
+// The job of the text.
+fn job_of(rt: HostRuntime, text: &str) -> ScreenJob {
+    match read_screen(rt.alloc(), text.as_bytes()) {
+        Ok(job) => job,
+        Err(_) => panic!(rt; "a job with contingencies"),
+    }
+}
+
+#[test]
+fn four_outages_are_screened(rt: HostRuntime) -> Result<(), Fail> {
+    let alloc = rt.alloc();
+    let ScreenJob { job, contingencies } = job_of(rt, FOUR);
+    let case = first_case(rt, job.network)?;
+    let before = find::figures(alloc, &case)?;
+    let wanted = Figures {
+        buses: 4,
+        components: 1,
+        main: 4,
+        load: 110_000_000,
+        generation: 120_000_000,
+    };
+    assert_eq!(rt; before, wanted);
+    let findings = screen(&rt, alloc, &case, &contingencies)?;
+    let mut screened = Text::empty(alloc);
+    let mut alone = Text::empty(alloc);
+    for (contingency, finding) in contingencies.slice().iter().zip(findings.slice()) {
+        put_finding(&mut screened, contingency, finding)?;
+        let one = find_one(alloc, &case, &before, contingency)?;
+        put_finding(&mut alone, contingency, &one)?;
+    }
+    assert_eq!(rt; screened.as_bytes(), LINES.as_bytes());
+    assert_eq!(rt; alone.as_bytes(), LINES.as_bytes());
+    Ok(())
+}
