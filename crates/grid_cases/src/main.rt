@@ -2,8 +2,9 @@
 //! the line on standard error that they must give, and for a job with a fault also its place and reason.
 #![tactic(auto)]
 
-use grid_cli::{Status, grid_once};
+use grid_cli::{Status, grid};
 use grid_lines::{ending, usage_text};
+use grid_manager::Idle;
 use grid_source::{SureSink, SureSource};
 use std::alloc::Global;
 use std::{fs, io};
@@ -66,14 +67,15 @@ fn told(alloc: Global, status: Status) -> io::Result<(u8, String)> {
 }
 
 /// What the words make of a job.
-fn run(alloc: Global, words: &str, job: Vec<u8>) -> io::Result<Ending> {
+fn run(rt: &HostRuntime, words: &str, job: Vec<u8>) -> io::Result<Ending> {
+    let alloc = rt.alloc();
     let mut list = Vec::new(alloc);
     for word in words.split_whitespace() {
         list.push(String::from_str(alloc, word)?)?;
     }
     let mut source = SureSource::new(job, 4096);
     let mut sink = SureSink::new(Vec::new(alloc), 4096);
-    let status = grid_once(alloc, list.as_slice(), &mut source, &mut sink);
+    let status = grid(rt, alloc, list.as_slice(), &mut source, &mut sink, &Idle);
     let fault = fault_of(alloc, &status)?;
     let (status, line) = told(alloc, status)?;
     Ok(Ending {
@@ -87,7 +89,7 @@ fn run(alloc: Global, words: &str, job: Vec<u8>) -> io::Result<Ending> {
 /// Where a case comes to something else than it must, in words.
 fn difference(rt: &HostRuntime, name: &str) -> io::Result<Option<&'static str>> {
     let words = text_of(rt, name, "words")?;
-    let ending = run(rt.alloc(), words.as_str(), part(rt, name, "job.json")?)?;
+    let ending = run(rt, words.as_str(), part(rt, name, "job.json")?)?;
     let status = text_of(rt, name, "status")?;
     if status.trim().parse::<u8>().ok() != Some(ending.status) {
         return Ok(Some("another exit status"));

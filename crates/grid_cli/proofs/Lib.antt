@@ -7,3 +7,4 @@ pub mod Numbers
 pub mod Numbering
 pub mod Trialled
 pub mod Threading
+pub mod Screening

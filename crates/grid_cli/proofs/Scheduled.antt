@@ -34,6 +34,10 @@ use Rattle.grid_hvdc.specs.declared.HvdcLine.{HvdcLine}
 use Rattle.grid_hvdc.specs.Checks.{lines_check}
 use Rattle.grid_hvdc.specs.Jobs as jobs
 use Rattle.grid_hvdc.specs.Jobs.{line_at, hvdc_at, hvdc_job_in, hvdc_job_of}
+use Rattle.grid_screen.specs.declared.Contingency.{Contingency}
+use Rattle.grid_screen.specs.declared.ScreenJob.{ScreenJob}
+use Rattle.grid_screen.specs.Jobs as screens
+use Rattle.grid_screen.specs.Jobs.{contingencies_at, screen_at, screen_job_in, screen_job_of}
 use Rattle.grid_cli.specs.Orders.{order_of, IsScheduled}
 use Rattle.grid_cli.proofs.Stepping.{script_at}
 
@@ -274,6 +278,14 @@ member_scheduled : (found : Option Data) (job : Job) → present jobs.whole_at (
 member_scheduled None job is = cc
 member_scheduled (Some d) job is = whole_scheduled d job (inside (codes "job") (jobs.whole_at d) job is)
 
+screen_whole_scheduled : (d : Data) (job : Job) → screens.whole_at d ≡ Ok job → IsScheduled job
+unfolding screens.whole_at
+screen_whole_scheduled d job is = let a = bound (draft_at d) loaded job is in of_loaded a.0 job a.2 (drafted d a.0 a.1)
+
+screen_member_scheduled : (found : Option Data) (job : Job) → present screens.whole_at (codes "job") found ≡ Ok job → IsScheduled job
+screen_member_scheduled None job is = cc
+screen_member_scheduled (Some d) job is = screen_whole_scheduled d job (inside (codes "job") (screens.whole_at d) job is)
+
 hvdc_made : Job → List HvdcLine → ⊤ → Result HvdcJob Fault
 hvdc_made job lines done = Ok (record { job = job; lines = lines })
 
@@ -304,3 +316,32 @@ hvdc_of_data (Some d) hvdc is = hvdc_read d hvdc (no_fault (hvdc_at d) hvdc is)
 pub hvdc_scheduled : (bytes : List ℕ) (hvdc : HvdcJob) → hvdc_job_of bytes ≡ Ok hvdc → IsScheduled hvdc.job
 unfolding hvdc_job_of
 hvdc_scheduled bytes hvdc is = hvdc_of_data (reading bytes) hvdc is
+
+-- ---- with contingencies
+
+screen_made : Job → List Contingency → Result ScreenJob Fault
+screen_made job contingencies = Ok (record { job = job; contingencies = contingencies })
+
+screen_listed : Data → Job → Result ScreenJob Fault
+screen_listed d job = member_at contingencies_at (codes "contingencies") d >>= screen_made job
+
+screen_known : Data → ⊤ → Result ScreenJob Fault
+screen_known d done = member_at screens.whole_at (codes "job") d >>= screen_listed d
+
+screen_read : (d : Data) (screened : ScreenJob) → screen_at d ≡ Ok screened → IsScheduled screened.job
+unfolding screen_at screen_known screen_listed screen_made
+screen_read d screened is =
+    let a = bound (only_at (codes "job" ∷ codes "contingencies" ∷ []) d) (screen_known d) screened is in
+    let b = bound (member_at screens.whole_at (codes "job") d) (screen_listed d) screened a.2 in
+    let c = bound (member_at contingencies_at (codes "contingencies") d) (screen_made b.0) screened b.2 in
+    let made : ScreenJob = record { job = b.0; contingencies = c.0 } in
+    let same : made ≡ screened = cc in
+    subst (λ (s : ScreenJob). IsScheduled s.job) same (screen_member_scheduled (get (codes "job") d) b.0 b.1)
+
+screen_of_data : (data_read : Option Data) (screened : ScreenJob) → screen_job_in data_read ≡ Ok screened → IsScheduled screened.job
+screen_of_data None screened is = cc
+screen_of_data (Some d) screened is = screen_read d screened (no_fault (screen_at d) screened is)
+
+pub screen_scheduled : (bytes : List ℕ) (screened : ScreenJob) → screen_job_of bytes ≡ Ok screened → IsScheduled screened.job
+unfolding screen_job_of
+screen_scheduled bytes screened is = screen_of_data (reading bytes) screened is

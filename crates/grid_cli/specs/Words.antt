@@ -4,7 +4,7 @@ use Rattle.std.specs.List.{range_with_len}
 use Rattle.std.specs.Str.{bytes_eq}
 use Rattle.grid_cli.specs.declared.words.TheConstants.{MOST_SEED, MOST_SIZE}
 use Rattle.grid_cli.specs.declared.words.Form.{Form}
-use Rattle.grid_cli.specs.declared.words.Form.TheVariants.{Check, Replay, Run, Print, Hvdc, Make, Trial}
+use Rattle.grid_cli.specs.declared.words.Form.TheVariants.{Check, Replay, Run, Print, Hvdc, Screen, Make, Trial}
 
 -- the number from the least to the most whose decimal digits are the text
 unfoldable pub number_among : ℕ → ℕ → List ℕ → Option ℕ
@@ -22,7 +22,8 @@ form_by_name word =
     else (if bytes_eq word (codes "replay") then Some Replay
     else (if bytes_eq word (codes "run") then Some Run
     else (if bytes_eq word (codes "print") then Some Print
-    else (if bytes_eq word (codes "hvdc") then Some Hvdc else None))))
+    else (if bytes_eq word (codes "hvdc") then Some Hvdc
+    else (if bytes_eq word (codes "screen") then Some Screen else None)))))
 
 -- the form of a seed and a size, where both are there
 abbrev pub with_numbers : (ℕ → ℕ → Form) → Option ℕ → Option ℕ → Option Form
@@ -56,13 +57,15 @@ IsWithin Replay = ⊤
 IsWithin Run = ⊤
 IsWithin Print = ⊤
 IsWithin Hvdc = ⊤
+IsWithin Screen = ⊤
 IsWithin (Make seed size) = (seed ≤ MOST_SEED) × (1 ≤ size) × (size ≤ MOST_SIZE)
 IsWithin (Trial seed size) = (seed ≤ MOST_SEED) × (1 ≤ size) × (size ≤ MOST_SIZE)
 
--- the form, where one thread serves it: all but `run`
+-- the form, where one thread serves it: all but `run` and `screen`
 abbrev pub on_one_thread : Option Form → Option Form
 on_one_thread None = None
 on_one_thread (Some Run) = None
+on_one_thread (Some Screen) = None
 on_one_thread (Some Check) = Some Check
 on_one_thread (Some Replay) = Some Replay
 on_one_thread (Some Print) = Some Print
@@ -84,3 +87,4 @@ ReadsNothing (Some Replay) = ⊥
 ReadsNothing (Some Run) = ⊥
 ReadsNothing (Some Print) = ⊥
 ReadsNothing (Some Hvdc) = ⊥
+ReadsNothing (Some Screen) = ⊥

@@ -5,6 +5,7 @@ mod counts;
 mod hvdc;
 mod once;
 mod running;
+mod screen;
 mod threaded;
 mod trial;
 mod words;

@@ -62,8 +62,8 @@ impl Status {
     }
 }
 
-/// Does what the words ask for, from the source to the sink, on the calling thread. It serves every form but `run`, which is
-/// Usage here as words of no form are. It takes no lock.
+/// Does what the words ask for, from the source to the sink, on the calling thread. It serves every form but `run` and
+/// `screen`, which are Usage here as words of no form are. It takes no lock.
 pub fn grid_once<S: Source, K: Sink>(
     alloc: Global,
     words: &[String],
@@ -105,7 +105,7 @@ fn run<S: Source, K: Sink>(alloc: Global, words: &[String], source: &mut S, sink
     match form {
         Form::Check => read_and_answer(alloc, Answer::Counts, source, sink),
         Form::Replay => read_and_answer(alloc, Answer::Report, source, sink),
-        Form::Run => Status::Usage,
+        Form::Run | Form::Screen => Status::Usage,
         Form::Print => read_and_answer(alloc, Answer::Network, source, sink),
         Form::Hvdc => read_and_number(alloc, source, sink),
         Form::Make { seed, size } => make(alloc, seed, size, sink),

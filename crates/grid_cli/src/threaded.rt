@@ -1,13 +1,14 @@
 // The top call, and the form `run`: workers on threads of their own.
-ghost use Rattle.std.specs.Prelude.{◌≡◌, ◌≢◌, ◌↔◌, None, Some, IsTrue, IsFalse, IfOk, map, string_bytes};
+ghost use Rattle.std.specs.Prelude.{◌≡◌, ◌≢◌, ◌↔◌, None, IfOk, map, string_bytes};
 ghost use Rattle.grid_source.specs.Causes.{Rose};
-ghost use Rattle.grid_cli.specs.Words.{form_of, on_one_thread, ReadsNothing};
+ghost use Rattle.grid_cli.specs.Words.{form_of, ReadsNothing};
 ghost use Rattle.grid_cli.specs.Orders.{IsScheduled};
 ghost use Rattle.grid_cli.specs.Once.{Outcome, OutcomeOf, Exact, WritesReport};
-ghost use Rattle.grid_cli.specs.Threaded.{IsOutcomeOf};
+ghost use Rattle.grid_cli.specs.Threaded.{IsOutcomeOf, IsServed};
 
 use crate::once::{Status, grid_once, read_from, status_of};
 use crate::running::outcome;
+use crate::screen::read_and_screen;
 use crate::words::{Form, read_words};
 use grid_ids::Memory;
 use grid_json::Job;
@@ -20,8 +21,8 @@ use std::sync::Wait;
 use std::thread::Threads;
 
 /// Does what the words ask for, from the source to the sink. For `run` each worker makes its script's calls on a thread of
-/// its own, all on one board, and every thread has ended when it returns; the gate sees each worker at work. Every other form
-/// is served by `grid_once`.
+/// its own, all on one board, and every thread has ended when it returns; the gate sees each worker at work. For `screen` the
+/// contingencies are looked at by several threads, which take no lock. Every other form is served by `grid_once`.
 pub fn grid<R: Threads + Wait + Sync, S: Source, K: Sink, G: Gate>(
     rt: &R,
     alloc: Global,
@@ -46,20 +47,30 @@ pub fn grid<R: Threads + Wait + Sync, S: Source, K: Sink, G: Gate>(
     ensures writes_stay { result ≢ Status.WriteFault → K.faults sink.new ≡ K.faults sink.old }
     ensures untouched { ReadsNothing (form_of (map string_bytes words.now)) → S.faults source.new ≡ S.faults source.old }
 {
-    if is_run(read_words(words)) {
-        read_and_run(rt, alloc, source, sink, gate)
-    } else {
-        grid_once(alloc, words, source, sink)
+    match served_by(read_words(words)) {
+        Served::ByWorkers => read_and_run(rt, alloc, source, sink, gate),
+        Served::ByScreening => read_and_screen(rt, alloc, source, sink),
+        Served::ByOneThread => grid_once(alloc, words, source, sink),
     }
 }
 
-// Whether the form is `run`; every other one is served by one thread.
-fn is_run(form: Option<Form>) -> bool
-    ensures run { IsTrue result → form ≡ Some Form.Run }
-    ensures other { IsFalse result → on_one_thread form ≡ form }
+// Which threads serve a form.
+#[derive(Clone, Copy)]
+enum Served {
+    // Workers, who may wait for each other.
+    ByWorkers,
+    // Threads that take no lock.
+    ByScreening,
+    // The calling one.
+    ByOneThread,
+}
+
+fn served_by(form: Option<Form>) -> Served
+    ensures { IsServed form result }
 {
     match form {
-        Some(Form::Run) => true,
+        Some(Form::Run) => Served::ByWorkers,
+        Some(Form::Screen) => Served::ByScreening,
         Some(
             Form::Check
             | Form::Replay
@@ -68,7 +79,7 @@ fn is_run(form: Option<Form>) -> bool
             | Form::Make { .. }
             | Form::Trial { .. },
         )
-        | None => false,
+        | None => Served::ByOneThread,
     }
 }
 

@@ -25,6 +25,9 @@ pub enum Form {
     /// Reads a job with HVDC lines, runs its commands in order, and writes the components of each live variant's buses, over
     /// the branches alone and over the lines too.
     Hvdc,
+    /// Reads a job with contingencies, runs its commands in order, and writes what each contingency would do to the initial
+    /// variant, found by several threads.
+    Screen,
     /// Writes the made job of a seed and a size. It reads nothing.
     Make { seed: u32, size: u32 },
     /// Runs the made job of a seed and a size, and writes a line that counts what came of it. It reads nothing.
@@ -32,7 +35,7 @@ pub enum Form {
 }
 
 /// What the words ask for; None exactly where they are no form. The forms are `check`, `replay`, `run`, `print`, `hvdc`,
-/// `make SEED SIZE` and `trial SEED SIZE`. A number is written in decimal digits without a leading zero; a seed is from 0 to
+/// `screen`, `make SEED SIZE` and `trial SEED SIZE`. A number is written in decimal digits without a leading zero; a seed is from 0 to
 /// `MOST_SEED`, a size from 1 to `MOST_SIZE`. The program's name is not among the words. It takes no memory.
 pub fn read_words(words: &[String]) -> Option<Form>
     ensures form { result ≡ form_of (map string_bytes words.now) }
@@ -55,6 +58,7 @@ fn form_named(word: &str) -> Option<Form>
         "run" => Some(Form::Run),
         "print" => Some(Form::Print),
         "hvdc" => Some(Form::Hvdc),
+        "screen" => Some(Form::Screen),
         _ => None,
     }
 }

@@ -13,6 +13,7 @@ const FORMS: &str = "grid check < JOB
        grid run < JOB > REPORT
        grid print < JOB > JOB
        grid hvdc < JOB > COMPONENTS
+       grid screen < JOB > FINDINGS
        grid make SEED SIZE > JOB
        grid trial SEED SIZE";
 
@@ -61,6 +62,11 @@ fn with_forms<'a>(alloc: Global, command: Command<'a>) -> Result<Command<'a>, Al
             alloc,
             "hvdc",
             "Reads a job with HVDC lines, runs its commands in order and writes the components of the buses of each variant",
+        ))?
+        .subcommand(form(
+            alloc,
+            "screen",
+            "Reads a job with contingencies, runs its commands in order and writes what each outage would do to the initial variant",
         ))?
         .subcommand(form(alloc, "make", "Writes the job made of a seed and a size"))?
         .subcommand(form(

@@ -1,0 +1,18 @@
+use Rattle.std.proofs.Common.{sym, ap, ◌∙◌, subst}
+use Rattle.grid_core.proofs.Making.{each_ok}
+use Rattle.grid_report.specs.Histories.{IsOrder, chosen_order, history_of}
+use Rattle.grid_cli.specs.Orders.{order_of}
+use Rattle.grid_cli.proofs.Screening.{found}
+use Rattle.grid_cli.proofs.screen.find_all.Goals as goal
+
+pub replayed-requires-clause-order : goal.replayed-requires-clause-order
+unfolding order_of
+replayed-requires-clause-order g c = subst (λ s. IsOrder s (chosen_order s c.args.job.order)) (sym c.slice.ensures) c.requires.ordered
+
+pub returns : goal.returns
+unfolding order_of
+returns g c =
+    let job = c.args.job in
+    let world = c.in_ok-world.ensures ∙ ap (λ s. history_of job.network s (chosen_order s job.order)) c.slice.ensures in
+    each_ok c.screen.result c.screen.ensures
+    (λ findings are. found job c.in_ok-world.world c.in_ok-case.case c.args.contingencies.now findings world c.in_ok-case.ensures.case are)
