@@ -117,11 +117,6 @@ IsLookedAt listed (Some c) = IsLooked listed c.value
 abbrev pub change_at : Changes → ℕ → Option (Box Changed Global)
 change_at changes place = slice_index_or changes place None
 
--- the changes are of these levels: each is looked at
-pub record AreChanges (listed : Listed) (count : ℕ) (changes : Changes) : Type 0 where
-  pub long : length changes ≡ count
-  pub looked : (k : ℕ) → IsLookedAt listed (change_at changes k)
-
 -- the level without the terminals of some equipment
 unfoldable pub level_without : List (List ℕ) → VoltageLevel → VoltageLevel
 level_without ids level = record level { placed = filter (λ p. not (has_id ids p.terminal.equipment)) level.placed }
