@@ -1,11 +1,10 @@
 -- The buses of levels as the changes show them: their sums, their numbers, and which bus holds a node.
-use Rattle.std.proofs.Common.{◌≡◌, refl, sym, ap, ◌∙◌, subst, ℕ, ℤ, pos, negsuc, zero, suc, ◌+◌, ◌<◌, ◌≤◌, Bool, ◌&&◌, List, [], ◌∷◌, ◌++◌, length, length-append, get_or, map, take, arith, Option, Some, None}
-use Rattle.std.specs.Prelude.{eqb, flat_map, filter, position, slice_get, Box}
+use Rattle.std.proofs.Common.{◌≡◌, refl, sym, ap, ◌∙◌, subst, ℕ, ℤ, zero, suc, ◌+◌, ◌<◌, ◌≤◌, Bool, ◌&&◌, List, [], ◌∷◌, ◌++◌, length, length-append, get_or, map, take, arith, Option, Some, None}
+use Rattle.std.specs.Prelude.{eqb, flat_map, position, slice_get, Box}
 use Rattle.std.specs.declared.alloc.Global.{Global}
 use Rattle.std.specs.List.{enumerate_from, range_with_len, sum_by}
 use Rattle.std.specs.Option.{option_map}
 use Rattle.std.proofs.lemmas.List.{length-map, get_or-map, map-append}
-use Rattle.std.proofs.lemmas.List.FromFn.{length-enumerate_from, length-range_with_len}
 use Rattle.std.proofs.lemmas.List.Sums.{sum_by-cons}
 use Rattle.grid_graph.specs.Components.{places}
 use Rattle.grid_level.specs.VoltageLevel.{VoltageLevel}
@@ -18,12 +17,12 @@ use Rattle.grid_busview.specs.Views.{bus_of, bus_view_of, bus_leasts, node_buses
 use Rattle.grid_watts.specs.Watts.{level_watts}
 use Rattle.grid_islands.specs.Islands.{NetworkBus, holds, buses_in}
 use Rattle.grid_islands.specs.Numbering.{counted_from, number_of_node}
-use Rattle.grid_islands.proofs.Blocks.{position_in, blocks_long}
+use Rattle.grid_islands.proofs.Blocks.{position_in}
 use Rattle.grid_islands.proofs.Counting.{level_at, level_within}
 use Rattle.grid_islands.proofs.Linking.{buses_as, number_as}
 use Rattle.grid_screen.specs.declared.outage.Changed.{Changed}
 use Rattle.grid_screen.specs.declared.screening.BusSums.{BusSums}
-use Rattle.grid_screen.specs.Screened.{Changes, change_at, bus_sums, buses_under, buses_over, sums_of, level_sums, level_places, present_sums, sums_in, sums_before, shown_levels, shown_rows, IsLooked, IsLookedAt}
+use Rattle.grid_screen.specs.Screened.{Changes, change_at, bus_sums, buses_under, buses_over, sums_of, level_sums, present_sums, sums_in, sums_before, IsLooked, IsLookedAt}
 use Rattle.grid_screen.specs.Steps.{Stands}
 use Rattle.grid_screen.proofs.Shown.{Change, level_changed, level_kept, row_changed, row_kept, some_got, length-shown_levels}
 

@@ -1,12 +1,9 @@
 -- The rows of a case fit its structure.
-use Rattle.std.proofs.Common.{◌≡◌, refl, ℕ, Bool, true, false, cond, List, Option, Some, None, subst}
-use Rattle.grid_structure.specs.Network.{Network}
-use Rattle.grid_structure.specs.Soundness.{IsSound}
+use Rattle.std.proofs.Common.{◌≡◌, Bool, true, false, cond, Option, Some, None, subst}
 use Rattle.grid_core.specs.declared.case.Case.{Case}
 use Rattle.grid_core.specs.Cases.{case_seen, case_of}
-use Rattle.grid_core.specs.History.{Command, is_live}
+use Rattle.grid_core.specs.History.{is_live}
 use Rattle.grid_core.specs.Replies.{state_of}
-use Rattle.grid_core.specs.Solo.{State}
 use Rattle.grid_core.proofs.Keeping.{state_of-fits}
 use Rattle.grid_screen.specs.Findings.{CaseFits}
 use Rattle.grid_screen.specs.Laws.{CasesFit}

@@ -1,6 +1,6 @@
 -- What a switch that is opened and terminals that are taken out make of what the changes show.
-use Rattle.std.proofs.Common.{◌≡◌, refl, sym, ap, ◌∙◌, subst, ℕ, zero, suc, ◌+◌, ◌<◌, Bool, true, List, [], ◌∷◌, ◌++◌, take, length, get_or, arith, Option, Some, None}
-use Rattle.std.specs.Prelude.{slice_get, slice_set, position, fold}
+use Rattle.std.proofs.Common.{◌≡◌, refl, sym, ap, ◌∙◌, subst, ℕ, zero, suc, ◌+◌, ◌<◌, Bool, true, List, [], ◌∷◌, ◌++◌, take, length, get_or, Option, Some, None}
+use Rattle.std.specs.Prelude.{slice_get, slice_set, fold}
 use Rattle.std.proofs.lemmas.List.{take_more}
 use Rattle.std.proofs.lemmas.List.Sums.{fold-append}
 use Rattle.std.specs.Option.{option_map}
@@ -18,10 +18,10 @@ use Rattle.grid_structure.specs.Clearing.{cleared, cleared_at}
 use Rattle.grid_structure.specs.Indexed.{level_of_switch, level_of_terminal}
 use Rattle.grid_structure.proofs.Cleared.{cleared_is}
 use Rattle.grid_structure.proofs.Found.{switch_nowhere, switch_somewhere, switch_below, switch_test, terminal_nowhere, terminal_somewhere, terminal_below, terminal_test}
-use Rattle.grid_structure.proofs.Places.{length-slice_set, got_below, position_found, set_itself}
-use Rattle.grid_screen.specs.Screened.{Changes, change_at, shown_levels, shown_rows}
+use Rattle.grid_structure.proofs.Places.{length-slice_set, position_found, set_itself}
+use Rattle.grid_screen.specs.Screened.{Changes, change_at, shown_levels}
 use Rattle.grid_screen.specs.Steps.{IsPut, Stands, StandsSo, cleared_side, levels_with_out, rows_with_out, taken_out}
-use Rattle.grid_screen.proofs.Shown.{put_stands, some_got, length-shown_rows, levels_unchanged, rows_unchanged}
+use Rattle.grid_screen.proofs.Shown.{put_stands, some_got, levels_unchanged, rows_unchanged}
 
 -- ---- sites
 

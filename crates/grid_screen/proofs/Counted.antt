@@ -1,6 +1,6 @@
 -- Numbers that are counted and sums that are added one after the other.
-use Rattle.std.proofs.Common.{◌≡◌, refl, sym, ap, ◌∙◌, ℕ, ℤ, pos, zero, suc, ◌+◌, ◌<◌, ◌≤◌, ◌+ℤ◌, Bool, true, false, cond, not, ◌||◌, List, [], ◌∷◌, ◌++◌, length, get_or, take, set, arith, inl, inr, Option, Some, add-one}
-use Rattle.std.specs.Prelude.{◌==◌, fold, zip, slice_get, flat_map, map}
+use Rattle.std.proofs.Common.{◌≡◌, refl, sym, ap, ◌∙◌, ℕ, ℤ, pos, zero, suc, ◌+◌, ◌<◌, ◌+ℤ◌, Bool, true, false, cond, not, ◌||◌, List, [], ◌∷◌, ◌++◌, length, get_or, take, set, arith, inl, inr, Some, add-one}
+use Rattle.std.specs.Prelude.{◌==◌, fold, zip, slice_get, flat_map}
 use Rattle.std.specs.List.{list_any}
 use Rattle.std.proofs.lemmas.Bool.{cases_eq, eq-eqb, ne_eqb}
 use Rattle.std.proofs.lemmas.List.{take_more, append-nil}
@@ -11,7 +11,7 @@ use Rattle.std.proofs.lemmas.Grind.{flat_map-append}
 use Rattle.grid_graph.specs.Components.{places}
 use Rattle.grid_groups.proofs.Steps.{places_more}
 use Rattle.grid_screen.specs.declared.screening.BusSums.{BusSums}
-use Rattle.grid_screen.specs.Counting.{first_count, is_first}
+use Rattle.grid_screen.specs.Counting.{first_count}
 use Rattle.grid_screen.specs.Screened.{add_main}
 
 pub got_or : {X : Type 0} (xs : List X) (k : ℕ) (d : X) → k < length xs → slice_get xs k ≡ Some (get_or xs k d)

@@ -1,5 +1,5 @@
 -- Figures by lists of sums are those of the buses, and pairs and links are of what is there.
-use Rattle.std.proofs.Common.{◌≡◌, refl, sym, ap, ◌∙◌, subst, ℕ, ℤ, pos, zero, suc, ◌+◌, ◌<◌, ◌+ℤ◌, Bool, true, false, cond, ◌&&◌, List, [], ◌∷◌, ◌++◌, length, get_or, map, arith, Option, Some, None}
+use Rattle.std.proofs.Common.{◌≡◌, refl, ap, ◌∙◌, subst, ℕ, ℤ, pos, ◌+◌, ◌<◌, ◌+ℤ◌, Bool, true, false, cond, ◌&&◌, List, [], ◌∷◌, length, get_or, map, arith, Option, Some, None}
 use Rattle.std.specs.Prelude.{eqb, ◌==◌, count_by, filter, fold, zip, flat_map, position, option_and_then, slice_get}
 use Rattle.std.specs.List.{enumerate_from, range_with_len}
 use Rattle.std.specs.Option.{option_map}
@@ -18,7 +18,6 @@ use Rattle.grid_structure.specs.Network.{Network}
 use Rattle.grid_structure.specs.Sites.{levels, branches, branch_ends, find_level}
 use Rattle.grid_structure.proofs.Places.{position_found}
 use Rattle.grid_structure.proofs.Found.{level_below}
-use Rattle.grid_busview.specs.declared.ViewBus.{ViewBus}
 use Rattle.grid_islands.specs.Islands.{NetworkBus, holds, bus_at, pair_between, pairs_among, branch_pairs, bus_pairs}
 use Rattle.grid_screen.specs.declared.Figures.{Figures}
 use Rattle.grid_screen.specs.declared.screening.BusSums.{BusSums}

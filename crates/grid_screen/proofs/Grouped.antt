@@ -1,6 +1,6 @@
 -- How many different numbers of components there are is how many groups of buses.
 use Rattle.std.proofs.Common.{◌≡◌, refl, sym, ap, ◌∙◌, ℕ, zero, suc, ◌+◌, ◌<◌, ◌≤◌, ◌-◌, Bool, true, false, cond, not, ◌&&◌, ◌||◌, List, [], ◌∷◌, ◌++◌, length, length-append, get_or, map, take, arith}
-use Rattle.std.specs.Prelude.{eqb, filter, nat_lt, ◌==◌}
+use Rattle.std.specs.Prelude.{filter, nat_lt, ◌==◌}
 use Rattle.std.specs.List.{list_any}
 use Rattle.std.proofs.lemmas.Bool.{lt-ltb, le-ltb}
 use Rattle.std.proofs.lemmas.List.{length-map, map-append, take_more}

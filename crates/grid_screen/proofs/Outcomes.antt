@@ -1,6 +1,6 @@
 -- The figures by what is kept and changed are those of the state after the outage.
-use Rattle.std.proofs.Common.{◌≡◌, refl, sym, ap, ◌∙◌, subst, ℕ, ◌<◌, Bool, List, [], ◌∷◌, length, map}
-use Rattle.std.specs.Prelude.{flat_map, fold}
+use Rattle.std.proofs.Common.{◌≡◌, refl, sym, ap, ◌∙◌, subst, ℕ, Bool, List, [], length, map}
+use Rattle.std.specs.Prelude.{flat_map}
 use Rattle.std.specs.List.{enumerate_from}
 use Rattle.std.proofs.lemmas.List.{length-map}
 use Rattle.std.proofs.lemmas.List.FromFn.{length-enumerate_from}
@@ -9,15 +9,14 @@ use Rattle.grid_graph.specs.Graph.{EndsBelow}
 use Rattle.grid_level.specs.VoltageLevel.{VoltageLevel}
 use Rattle.grid_powers.specs.Listed.{Listed}
 use Rattle.grid_states.specs.Rows.{row_at}
-use Rattle.grid_structure.specs.Network.{Network}
 use Rattle.grid_structure.specs.Sites.{levels}
 use Rattle.grid_structure.specs.Soundness.{IsSound}
 use Rattle.grid_islands.specs.Islands.{NetworkBus, bus_pairs}
 use Rattle.grid_core.specs.Solo.{State}
 use Rattle.grid_screen.specs.declared.screening.BusSums.{BusSums}
 use Rattle.grid_screen.specs.Figures.{figures_over}
-use Rattle.grid_screen.specs.Findings.{state_buses, figures_of}
-use Rattle.grid_screen.specs.Outages.{with_out, state_without}
+use Rattle.grid_screen.specs.Findings.{figures_of}
+use Rattle.grid_screen.specs.Outages.{state_without}
 use Rattle.grid_screen.specs.Screened.{Changes, bus_sums, sums_of, buses_over, level_sums, level_places, sums_before, network_links, link_pairs, figures_by}
 use Rattle.grid_screen.specs.Steps.{Stands, levels_after, rows_after}
 use Rattle.grid_screen.proofs.Buses.{all_sums}

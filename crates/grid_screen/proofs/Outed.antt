@@ -1,16 +1,12 @@
 -- The terminals and branches that are left where some equipment is out, and the pairs that the branches make then.
-use Rattle.std.proofs.Common.{◌≡◌, refl, sym, ap, ◌∙◌, subst, ℕ, ℤ, pos, zero, suc, ◌+◌, ◌<◌, ◌≤◌, Bool, true, false, cond, not, ◌&&◌, ◌||◌, List, [], ◌∷◌, ◌++◌, length, get_or, map, take, arith, inl, inr, Option, Some, None}
-use Rattle.std.specs.Prelude.{eqb, flat_map, filter, find, position, slice_get, is_some, nat_lt, nat_le, option_and_then, Box, All, ◌==◌}
+use Rattle.std.proofs.Common.{◌≡◌, refl, sym, ap, ◌∙◌, subst, ℕ, ℤ, pos, zero, suc, ◌+◌, ◌<◌, Bool, true, false, cond, not, ◌&&◌, List, [], ◌∷◌, ◌++◌, length, get_or, map, arith, Option, Some, None}
+use Rattle.std.specs.Prelude.{eqb, flat_map, filter, position, slice_get, is_some, nat_lt, nat_le, option_and_then, ◌==◌}
 use Rattle.std.specs.List.{enumerate_from, list_any, list_all}
 use Rattle.std.specs.Option.{option_map}
-use Rattle.std.specs.declared.alloc.Global.{Global}
-use Rattle.std.proofs.lemmas.Bool.{and_parts, or_left, or_right, false≢true, true≢false, ltb-true, ne_eqb, eq-eqb, lt-ltb}
-use Rattle.std.proofs.lemmas.List.{length-map, get_or-map, map-append, append-nil}
-use Rattle.std.proofs.lemmas.List.FromFn.{length-enumerate_from, get_or-map-range_with_len}
-use Rattle.std.proofs.lemmas.List.Elements.{All-nil, All-cons, All-append}
+use Rattle.std.proofs.lemmas.Bool.{and_parts, or_left, or_right, false≢true, ltb-true, ne_eqb, eq-eqb}
+use Rattle.std.proofs.lemmas.List.{get_or-map, append-nil}
 use Rattle.std.proofs.lemmas.Grind.{flat_map-append}
 use Rattle.grid_graph.specs.Components.{places}
-use Rattle.grid_graph.specs.Graph.{EndsBelow}
 use Rattle.grid_graph.proofs.Counts.{at_place}
 use Rattle.grid_ids.specs.Name.{same_id, has_id}
 use Rattle.grid_level.specs.declared.Placed.{Placed}
@@ -22,26 +18,24 @@ use Rattle.grid_level.proofs.Editing as on_level
 use Rattle.grid_powers.specs.Listed.{Listed}
 use Rattle.grid_states.specs.Rows.{row_at}
 use Rattle.grid_structure.specs.declared.NamedBranch.{NamedBranch}
-use Rattle.grid_structure.specs.declared.Branch.{Branch}
 use Rattle.grid_structure.specs.declared.End.{End}
 use Rattle.grid_structure.specs.Network.{Network}
 use Rattle.grid_structure.specs.Sites.{levels, branches, branch_ends, find_level}
 use Rattle.grid_structure.specs.Soundness.{IsSound, sides_from}
-use Rattle.grid_structure.proofs.Places.{position_map, position_found, got_below}
-use Rattle.grid_structure.proofs.Found.{some_find, level_below}
+use Rattle.grid_structure.proofs.Places.{position_map, got_below}
+use Rattle.grid_structure.proofs.Found.{some_find}
 use Rattle.grid_busview.specs.Views.{node_buses_of}
 use Rattle.grid_islands.specs.Islands.{NetworkBus, holds, bus_at, pair_between, pairs_among, branch_pairs, bus_pairs}
 use Rattle.grid_islands.specs.Numbering.{number_of_node, node_within}
 use Rattle.grid_islands.proofs.Counting.{level_at, level_within}
-use Rattle.grid_screen.specs.declared.outage.Changed.{Changed}
 use Rattle.grid_screen.specs.declared.screening.BusSums.{BusSums}
 use Rattle.grid_screen.specs.declared.screening.Spot.{Spot}
 use Rattle.grid_screen.specs.declared.screening.Link.{Link}
-use Rattle.grid_screen.specs.Screened.{Changes, change_at, buses_over, level_sums, level_places, sums_before, spot_at, spot_of, link_of, link_between, links_among, branch_links, network_links, LinksFit, level_without, branches_without, place_among, place_in, number_at, link_pairs}
+use Rattle.grid_screen.specs.Screened.{Changes, change_at, buses_over, level_sums, level_places, sums_before, spot_at, spot_of, link_between, links_among, branch_links, network_links, level_without, branches_without, place_among, place_in, number_at, link_pairs}
 use Rattle.grid_screen.specs.Steps.{Stands}
 use Rattle.grid_screen.proofs.Buses.{bus_number, same_level, same_row, own_level, own_row, looked_at}
 use Rattle.grid_screen.proofs.Shown.{Change}
-use Rattle.grid_screen.proofs.Stands.{Ended, AllStand, all_stand, ends_alike, branches_alike, any_there}
+use Rattle.grid_screen.proofs.Stands.{Ended, AllStand, all_stand, ends_alike, branches_alike}
 
 -- ---- the terminals that are left
 

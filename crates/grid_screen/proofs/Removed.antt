@@ -1,16 +1,12 @@
 -- What the removal of equipment leaves of a network's levels and branches.
-use Rattle.std.proofs.Common.{◌≡◌, refl, sym, ap, ◌∙◌, subst, ℕ, zero, suc, Bool, true, false, cond, not, ◌||◌, List, [], ◌∷◌, ◌++◌, length, map, arith, Option, Some, None}
-use Rattle.std.specs.Prelude.{filter, find, flat_map, slice_get, is_some, Ok}
-use Rattle.std.specs.Option.{option_map}
+use Rattle.std.proofs.Common.{◌≡◌, refl, sym, ap, ◌∙◌, subst, ℕ, Bool, true, false, not, ◌||◌, List, [], ◌∷◌, ◌++◌, map}
+use Rattle.std.specs.Prelude.{filter, flat_map, Ok}
 use Rattle.std.specs.List.{list_any}
-use Rattle.std.proofs.lemmas.Bool.{or_cases, or_left, or_right, false≢true}
+use Rattle.std.proofs.lemmas.Bool.{false≢true}
 use Rattle.std.proofs.lemmas.List.Elements.{filter-append}
 use Rattle.std.proofs.lemmas.List.Folds.{list_any-append}
 use Rattle.grid_ids.specs.Name.{same_id, has_id}
 use Rattle.grid_ids.specs.Refusing.{refuse_if}
-use Rattle.grid_level.specs.declared.Placed.{Placed}
-use Rattle.grid_level.specs.VoltageLevel.{VoltageLevel}
-use Rattle.grid_level.specs.Passing.{is_branch_end}
 use Rattle.grid_level.specs.LevelEdits.{level_without_equipment}
 use Rattle.grid_level.proofs.Editing as on_level
 use Rattle.grid_structure.specs.declared.NamedBranch.{NamedBranch}

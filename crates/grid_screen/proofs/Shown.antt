@@ -1,12 +1,12 @@
 -- Levels and rows as the changes show them.
-use Rattle.std.proofs.Common.{◌≡◌, refl, sym, ap, ◌∙◌, subst, ℕ, zero, suc, ◌<◌, Bool, List, [], ◌∷◌, length, get_or, arith, inl, inr, ◌⊎◌, Option, Some, None}
+use Rattle.std.proofs.Common.{◌≡◌, refl, sym, ap, ◌∙◌, subst, ℕ, zero, suc, ◌<◌, Bool, List, [], ◌∷◌, length, get_or, arith, inl, inr, Option, Some, None}
 use Rattle.std.specs.Prelude.{slice_get, slice_set, Box}
 use Rattle.std.specs.declared.alloc.Global.{Global}
 use Rattle.std.proofs.lemmas.Bool.{cases_eq}
 use Rattle.grid_level.specs.VoltageLevel.{VoltageLevel}
 use Rattle.grid_powers.specs.Listed.{Listed}
 use Rattle.grid_states.specs.Rows.{row_at}
-use Rattle.grid_structure.proofs.Places.{length-slice_set, got_below, set_itself}
+use Rattle.grid_structure.proofs.Places.{length-slice_set, got_below}
 use Rattle.grid_screen.specs.declared.outage.Changed.{Changed}
 use Rattle.grid_screen.specs.Screened.{Changes, change_at, shown_levels, shown_rows, IsLookedAt}
 use Rattle.grid_screen.specs.Steps.{IsPut, Stands}

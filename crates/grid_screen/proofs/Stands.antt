@@ -1,5 +1,5 @@
 -- Where the terminals of an equipment stand in a sound network.
-use Rattle.std.proofs.Common.{◌≡◌, refl, sym, ap, ◌∙◌, subst, ℕ, ℤ, pos, zero, suc, ◌+◌, ◌<◌, ◌≤◌, Bool, true, false, cond, not, ◌&&◌, ◌||◌, List, [], ◌∷◌, ◌++◌, length, map, arith, inl, inr, Option, Some, None}
+use Rattle.std.proofs.Common.{◌≡◌, refl, sym, ap, ◌∙◌, subst, ℕ, ℤ, pos, zero, suc, ◌+◌, ◌<◌, ◌≤◌, Bool, true, false, cond, not, ◌&&◌, ◌||◌, List, [], ◌∷◌, length, map, arith, inl, inr, Option, Some, None}
 use Rattle.std.specs.Prelude.{filter, find, flat_map, position, slice_get, is_some, ◌==◌}
 use Rattle.std.specs.Option.{option_map}
 use Rattle.std.specs.List.{list_any, list_all}
@@ -26,9 +26,8 @@ use Rattle.grid_structure.proofs.Cleared.{mentions, nothing_left}
 use Rattle.grid_structure.proofs.Counts.{times, not_there, differ-times}
 use Rattle.grid_structure.proofs.Found.{any-flat_map, some_find, some_position, terminal_somewhere, terminal_tested, terminal_test}
 use Rattle.grid_structure.proofs.Framing.{is_same, same_is, level_ids_once}
-use Rattle.grid_structure.proofs.Flat.{has_single}
 use Rattle.grid_structure.proofs.Places.{position_found}
-use Rattle.grid_structure.proofs.Removing.{sides_by, own_id}
+use Rattle.grid_structure.proofs.Removing.{sides_by}
 use Rattle.grid_structure.proofs.Sides.{Side, has, has-append, same_side_is, is_same_side, among_has, sides_of, sides_at, sides_in}
 use Rattle.grid_structure.proofs.Uniquely.{side_in, one_home, one_place, some_branch, names_of_branches}
 

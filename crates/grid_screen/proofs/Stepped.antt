@@ -1,25 +1,22 @@
 -- What outages one after the other make of a state: its levels, its branches, its rows and its watts.
-use Rattle.std.proofs.Common.{◌≡◌, ◌≢◌, inl, inr, refl, sym, ap, ◌∙◌, subst, ℕ, ℤ, pos, zero, suc, ◌+◌, ◌<◌, ◌≤◌, Bool, true, false, cond, not, ◌||◌, List, [], ◌∷◌, ◌++◌, length, get_or, map, arith, Option, Some, None}
-use Rattle.std.specs.Prelude.{filter, fold, position, slice_get, slice_set, flat_map, is_some, unwrap_or, Ok, Err, Result, if◌then◌else◌, ◌==◌}
+use Rattle.std.proofs.Common.{◌≡◌, ◌≢◌, inl, inr, refl, sym, ap, ◌∙◌, subst, ℕ, zero, suc, ◌+◌, ◌≤◌, Bool, true, false, cond, not, ◌||◌, List, [], ◌∷◌, ◌++◌, get_or, map, arith, Option, Some, None}
+use Rattle.std.specs.Prelude.{filter, fold, position, slice_get, slice_set, flat_map, is_some, Ok, Err, Result, if◌then◌else◌, ◌==◌}
 use Rattle.std.specs.List.{enumerate_from, list_any}
 use Rattle.std.specs.Option.{option_map}
-use Rattle.std.specs.Bool.{beq}
 use Rattle.std.proofs.lemmas.Bool.{eq-eqb, eqb-true, true≢false, false≢true, or_left, or_right, or_cases}
 use Rattle.std.proofs.lemmas.List.Folds.{list_any-append}
 use Rattle.grid_ids.specs.Name.{same_id, has_id}
-use Rattle.grid_ids.specs.Refusing.{refuse_if}
 use Rattle.grid_level.specs.declared.Placed.{Placed}
 use Rattle.grid_level.specs.declared.Switch.{Switch}
 use Rattle.grid_level.specs.VoltageLevel.{VoltageLevel}
 use Rattle.grid_level.specs.LevelEdits.{level_without_equipment}
 use Rattle.grid_level.specs.Passing.{positioned}
-use Rattle.grid_powers.specs.Listed.{Listed, value_in, without_value}
+use Rattle.grid_powers.specs.Listed.{Listed, value_in}
 use Rattle.grid_powers.proofs.Listing.{value_without}
 use Rattle.grid_states.specs.Rows.{row_at, with_row, with_flag}
 use Rattle.grid_structure.specs.declared.NamedBranch.{NamedBranch}
 use Rattle.grid_structure.specs.declared.Edit.TheVariants.{RemoveEquipment}
 use Rattle.grid_structure.specs.declared.EditFault.{EditFault}
-use Rattle.grid_structure.specs.declared.EditFault.TheVariants as faults
 use Rattle.grid_structure.specs.Network.{Network}
 use Rattle.grid_structure.specs.Sites.{levels, branches, equipment_ids, find_switch, first_found, site}
 use Rattle.grid_structure.specs.Editing.{apply, without_branch}
@@ -28,21 +25,20 @@ use Rattle.grid_structure.proofs.Cleared.{all_cleared, is_at, mentions}
 use Rattle.grid_structure.proofs.Framing.{same_is, is_same}
 use Rattle.grid_structure.proofs.Gaining.{same_swap}
 use Rattle.grid_structure.proofs.Soundly.{apply_sound}
-use Rattle.grid_busview.specs.Views.{stand_watts, bus_view_of}
-use Rattle.grid_watts.specs.Watts.{level_watts, watts_at, watts_for, is_powered}
+use Rattle.grid_busview.specs.Views.{bus_view_of}
+use Rattle.grid_watts.specs.Watts.{level_watts, watts_at, watts_for}
 use Rattle.grid_watts.specs.Shares.{listed_after}
-use Rattle.grid_islands.specs.Islands.{NetworkBus}
 use Rattle.grid_core.specs.declared.request.Request.TheVariants.{OpenSwitch, Change}
-use Rattle.grid_core.specs.Solo.{State, solo, edited, changed_state, refused, rows_after, the_opened, set_from, switched, flag_at, with_opened, bus_view_at, positioned_at}
-use Rattle.grid_core.proofs.Asking.{open_found, set_already, set_done}
+use Rattle.grid_core.specs.Solo.{State, solo, edited, changed_state, refused, rows_after, set_from, flag_at, with_opened, bus_view_at, positioned_at}
+use Rattle.grid_core.proofs.Asking.{open_found}
 use Rattle.grid_core.proofs.Planned.{bus_view-positioned}
 use Rattle.grid_screen.specs.Screened.{level_without, branches_without, buses_under, buses_over}
-use Rattle.grid_screen.specs.Outages.{is_switch, outage_request, with_out, state_without}
+use Rattle.grid_screen.specs.Outages.{is_switch, outage_request, with_out}
 use Rattle.grid_screen.specs.Findings.{level_buses, state_buses}
 use Rattle.grid_screen.specs.Steps.{levels_with_out, rows_with_out, taken_out, cleared_side}
 use Rattle.grid_screen.proofs.Changing.{switch_out, equipment_out}
-use Rattle.grid_screen.proofs.Removed.{Lessened, lessened, no_branch}
-use Rattle.grid_screen.proofs.Stands.{Sited, sited, none_gone, mention, any_there}
+use Rattle.grid_screen.proofs.Removed.{lessened, no_branch}
+use Rattle.grid_screen.proofs.Stands.{Sited, sited, none_gone}
 
 -- ---- one id more
 

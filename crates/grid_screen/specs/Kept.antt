@@ -1,12 +1,10 @@
 -- What is said of a case and of what is kept of it.
-use Rattle.std.specs.Prelude.{◌≡◌, ℕ, Bool, List, map}
+use Rattle.std.specs.Prelude.{◌≡◌, ℕ, Bool, List}
 use Rattle.grid_structure.specs.Sites.{levels}
 use Rattle.grid_core.specs.declared.case.Case.{Case}
-use Rattle.grid_screen.specs.declared.Contingency.{Contingency}
 use Rattle.grid_screen.specs.declared.Figures.{Figures}
-use Rattle.grid_screen.specs.declared.Finding.{Finding}
 use Rattle.grid_screen.specs.declared.screening.Screening.{Screening}
-use Rattle.grid_screen.specs.Findings.{state_in, figures_of, finding_of}
+use Rattle.grid_screen.specs.Findings.{state_in, figures_of}
 use Rattle.grid_screen.specs.Outages.{state_without}
 use Rattle.grid_screen.specs.Screened.{level_sums, level_places, network_links}
 

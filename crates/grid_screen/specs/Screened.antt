@@ -1,13 +1,12 @@
 -- What is kept of the levels and branches for every outage, what an outage changes, and the figures by both.
-use Rattle.std.specs.Prelude.{◌≡◌, ℕ, ℤ, pos, negsuc, ◌+◌, ◌<◌, ◌+ℤ◌, ◌==◌, nat_le, if◌then◌else◌, Bool, not, Option, Some, None, List, [], ◌∷◌, ◌++◌, length, map, filter, flat_map, count_by, fold, zip, is_some, slice_get, slice_index, option_map, option_and_then, All}
-use Rattle.std.specs.List.{slice_index_or, list_any, enumerate_from}
+use Rattle.std.specs.Prelude.{◌≡◌, ℕ, ℤ, pos, ◌+◌, ◌<◌, ◌+ℤ◌, ◌==◌, if◌then◌else◌, Bool, not, Option, Some, None, List, [], ◌∷◌, ◌++◌, length, map, filter, flat_map, count_by, fold, zip, is_some, slice_get, slice_index, option_map, option_and_then, All}
+use Rattle.std.specs.List.{slice_index_or, enumerate_from}
 use Rattle.std.specs.declared.alloc.Global.{Global}
 use Rattle.std.specs.Prelude.{Box}
 use Rattle.grid_graph.specs.Components.{places, component_numbers}
 use Rattle.grid_graph.specs.Joined.{groups}
 use Rattle.grid_ids.specs.Name.{has_id}
 use Rattle.grid_level.specs.VoltageLevel.{VoltageLevel}
-use Rattle.grid_level.specs.LevelEdits.{max_node}
 use Rattle.grid_level.specs.Passing.{nodes, placed_at, positioned}
 use Rattle.grid_powers.specs.Listed.{Listed}
 use Rattle.grid_structure.specs.declared.Branch.{Branch}
@@ -116,11 +115,6 @@ IsLookedAt listed (Some c) = IsLooked listed c.value
 
 abbrev pub change_at : Changes → ℕ → Option (Box Changed Global)
 change_at changes place = slice_index_or changes place None
-
--- the changes are of these levels: each is looked at
-pub record AreChanges (listed : Listed) (count : ℕ) (changes : Changes) : Type 0 where
-  pub long : length changes ≡ count
-  pub looked : (k : ℕ) → IsLookedAt listed (change_at changes k)
 
 -- the level without the terminals of some equipment
 unfoldable pub level_without : List (List ℕ) → VoltageLevel → VoltageLevel

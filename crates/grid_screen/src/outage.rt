@@ -8,7 +8,7 @@ ghost use Rattle.grid_busview.specs.Views.{node_buses_of};
 ghost use Rattle.grid_states.specs.Rows.{row_at, with_flag};
 ghost use Rattle.grid_structure.specs.Sites.{levels};
 ghost use Rattle.grid_islands.specs.Numbering.{FlagsFit};
-ghost use Rattle.grid_screen.specs.Screened.{AreChanges, shown_levels, shown_rows, sums_of, IsLooked};
+ghost use Rattle.grid_screen.specs.Screened.{shown_levels, shown_rows, sums_of, IsLooked};
 ghost use Rattle.grid_screen.specs.Steps.{cleared_side, taken_out, levels_with_out, rows_with_out, levels_after, rows_after, IsPut, Stands, StandsSo};
 
 use crate::screening::{LevelSums, sum_level};

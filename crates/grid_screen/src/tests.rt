@@ -1,12 +1,17 @@
-ghost use Rattle.std.specs.Prelude.{IfOk};
+ghost use Rattle.std.specs.Prelude.{IfOk, IfSome};
+ghost use Rattle.grid_structure.specs.Soundness.{IsSound};
 ghost use Rattle.grid_screen.specs.Findings.{CaseFits};
 
 use super::*;
+use crate::find::figures;
 use grid_core::{Case, World};
-use grid_ids::Id;
+use grid_ids::{Id, Memory};
 use grid_report::Text;
 use grid_structure::Structure;
+use std::alloc::Global;
+use std::process::Abort;
 use std::test::Fail;
+use std::thread::Threads;
 
 // Four levels in a row, of which two are joined by a transformer, with four contingencies.
 const FOUR: &str =
@@ -18,23 +23,56 @@ contingency E2: 4 buses, 1 components, main 4, lost load 80000000, lost generati
 contingency E3: unknown ZZ
 ";
 
-// What the first variant of a network stands at.
-#[tactic(auto)]
-fn first_case(rt: HostRuntime, network: Structure) -> Result<Case, Fail>
-    ensures { IfOk result CaseFits }
+// What a live variant of a world stands at.
+fn case_in(world: &World, name: &Id) -> Result<Option<Case>, Memory>
+    requires { IsSound world.now.origin }
+    ensures { IfOk result (λ case. IfSome case CaseFits) }
 {
-    network.keeps();
-    let world = World::start(rt.alloc(), network, 0)?;
-    let name = Id::new(rt.alloc(), "InitialState")?;
-    match world.case(&name)? {
-        Some(case) => Ok(case),
-        None => panic!(rt; "the first variant is live"),
-    }
+    world.case(name)
 }
 
-// The job of the text.
-fn job_of(rt: HostRuntime, text: &str) -> ScreenJob {
-    match read_screen(rt.alloc(), text.as_bytes()) {
+// What the variant of a name stands at where a network's world begins.
+fn first_case(alloc: Global, network: Structure, name: &Id) -> Result<Option<Case>, Memory>
+    ensures { IfOk result (λ case. IfSome case CaseFits) }
+{
+    network.keeps();
+    let world = World::start(alloc, network, 0)?;
+    case_in(&world, name)
+}
+
+// The lines of contingencies that are screened together.
+fn lines_together<R: Threads + Sync>(
+    rt: &R,
+    alloc: Global,
+    case: &Case,
+    list: &Contingencies,
+) -> Result<Text, Memory>
+    requires { CaseFits case.now }
+{
+    let findings = screen(rt, alloc, case, list)?;
+    let mut text = Text::empty(alloc);
+    for (contingency, finding) in list.slice().iter().zip(findings.slice()) {
+        put_finding(&mut text, contingency, finding)?;
+    }
+    Ok(text)
+}
+
+// The lines of contingencies that are looked at one after the other.
+fn lines_alone(alloc: Global, case: &Case, list: &Contingencies) -> Result<Text, Memory>
+    requires { CaseFits case.now }
+{
+    let before = figures(alloc, case)?;
+    let mut text = Text::empty(alloc);
+    for contingency in list.slice() {
+        let finding = find_one(alloc, case, &before, contingency)?;
+        put_finding(&mut text, contingency, &finding)?;
+    }
+    Ok(text)
+}
+
+// The job of a text.
+fn job_of(rt: &impl Abort, alloc: Global, text: &str) -> ScreenJob {
+    match read_screen(alloc, text.as_bytes()) {
         Ok(job) => job,
         Err(_) => panic!(rt; "a job with contingencies"),
     }
@@ -43,9 +81,12 @@ fn job_of(rt: HostRuntime, text: &str) -> ScreenJob {
 #[test]
 fn four_outages_are_screened(rt: HostRuntime) -> Result<(), Fail> {
     let alloc = rt.alloc();
-    let ScreenJob { job, contingencies } = job_of(rt, FOUR);
-    let case = first_case(rt, job.network)?;
-    let before = find::figures(alloc, &case)?;
+    let ScreenJob { job, contingencies } = job_of(&rt, alloc, FOUR);
+    let name = Id::new(alloc, "InitialState")?;
+    let case = match first_case(alloc, job.network, &name)? {
+        Some(case) => case,
+        None => panic!(rt; "the first variant is live"),
+    };
     let wanted = Figures {
         buses: 4,
         components: 1,
@@ -53,16 +94,11 @@ fn four_outages_are_screened(rt: HostRuntime) -> Result<(), Fail> {
         load: 110_000_000,
         generation: 120_000_000,
     };
+    let before = figures(alloc, &case)?;
     assert_eq!(rt; before, wanted);
-    let findings = screen(&rt, alloc, &case, &contingencies)?;
-    let mut screened = Text::empty(alloc);
-    let mut alone = Text::empty(alloc);
-    for (contingency, finding) in contingencies.slice().iter().zip(findings.slice()) {
-        put_finding(&mut screened, contingency, finding)?;
-        let one = find_one(alloc, &case, &before, contingency)?;
-        put_finding(&mut alone, contingency, &one)?;
-    }
-    assert_eq!(rt; screened.as_bytes(), LINES.as_bytes());
+    let together = lines_together(&rt, alloc, &case, &contingencies)?;
+    assert_eq!(rt; together.as_bytes(), LINES.as_bytes());
+    let alone = lines_alone(alloc, &case, &contingencies)?;
     assert_eq!(rt; alone.as_bytes(), LINES.as_bytes());
     Ok(())
 }

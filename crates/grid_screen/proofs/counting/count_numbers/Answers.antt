@@ -1,4 +1,4 @@
-use Rattle.std.proofs.Common.{◌≡◌, refl, sym, ap, ◌∙◌, ℕ, zero, suc, ◌+◌, ◌<◌, Bool, List, [], ◌∷◌, length, arith, set, replicate, true, false, get_or}
+use Rattle.std.proofs.Common.{◌≡◌, refl, sym, ap, ◌∙◌, ℕ, zero, suc, ◌<◌, Bool, List, [], ◌∷◌, length, arith, set, replicate, true, false, get_or}
 use Rattle.std.proofs.Math.ListN.{length-replicate}
 use Rattle.grid_screen.specs.Counting.{first_count}
 use Rattle.grid_screen.proofs.Counted.{seen_more, seen_still, count_more, count_still}

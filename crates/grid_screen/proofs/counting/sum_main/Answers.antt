@@ -1,12 +1,11 @@
-use Rattle.std.proofs.Common.{◌≡◌, refl, sym, ap, ◌∙◌, ◌+◌, ◌<◌, length, arith, true, false, get_or, take, pos, cond, ◌+ℤ◌}
-use Rattle.std.specs.Prelude.{count_by, fold, zip}
+use Rattle.std.proofs.Common.{sym, ap, ◌∙◌, ◌+◌, arith, get_or, pos}
+use Rattle.std.specs.Prelude.{fold, zip}
 use Rattle.std.proofs.lemmas.Bool.{eq-eqb, ne_eqb}
 use Rattle.std.proofs.lemmas.List.{take_all}
 use Rattle.std.proofs.lemmas.List.Sums.{count_by_more_yes, count_by_more_no}
 use Rattle.std.proofs.lemmas.Slice.Zip.{length-zip}
-use Rattle.grid_screen.specs.declared.screening.BusSums.{BusSums}
 use Rattle.grid_screen.specs.Screened.{is_zero, main_sum, add_main}
-use Rattle.grid_screen.proofs.Counted.{main_more, main_taken, main_left}
+use Rattle.grid_screen.proofs.Counted.{main_taken, main_left}
 use Rattle.grid_screen.proofs.counting.sum_main.Goals as goal
 use Rattle.grid_screen.proofs.counting.sum_main.Goals.{then-number-eq0+in_ok-main, else-number-eq0}
 

@@ -1,4 +1,4 @@
-use Rattle.std.proofs.Common.{◌≡◌, []}
+use Rattle.std.proofs.Common.{[]}
 use Rattle.std.proofs.lemmas.Result.{IfOk-weaker}
 use Rattle.grid_screen.specs.Outages.{state_without}
 use Rattle.grid_screen.specs.Findings.{AreFigures}

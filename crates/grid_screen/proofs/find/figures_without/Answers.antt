@@ -1,14 +1,11 @@
-use Rattle.std.proofs.Common.{◌≡◌, refl, sym, ap, ◌∙◌, subst, ℕ, List, [], Bool, length, map, arith}
+use Rattle.std.proofs.Common.{◌≡◌, sym, ap, ◌∙◌, subst, ℕ, List, [], Bool, length, map}
 use Rattle.std.specs.Prelude.{flat_map}
-use Rattle.std.proofs.lemmas.List.{length-map}
 use Rattle.std.proofs.lemmas.Result.{IfOk-weaker}
 use Rattle.grid_graph.specs.Components.{places}
-use Rattle.grid_graph.specs.Graph.{EndsBelow}
 use Rattle.grid_graph.proofs.Counts.{long_places}
 use Rattle.grid_structure.specs.Sites.{levels}
 use Rattle.grid_core.proofs.Ranges.{rows_of_levels}
 use Rattle.grid_core.proofs.Looking.{flags_fit}
-use Rattle.grid_screen.specs.declared.Figures.{Figures}
 use Rattle.grid_screen.specs.Findings.{state_in}
 use Rattle.grid_screen.specs.Kept.{AreFiguresWithout}
 use Rattle.grid_screen.specs.Screened.{level_sums, level_places, sums_before, network_links, link_pairs, figures_by, LinksFit}

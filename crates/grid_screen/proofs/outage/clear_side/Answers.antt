@@ -1,11 +1,11 @@
-use Rattle.std.proofs.Common.{◌≡◌, sym, ap, ◌∙◌, subst, length, arith, Some, None, refl}
+use Rattle.std.proofs.Common.{sym, ap, ◌∙◌, subst, length, arith, refl}
 use Rattle.std.specs.Prelude.{slice_get}
 use Rattle.std.proofs.lemmas.Result.{on_ok_weaker}
 use Rattle.grid_level.specs.LevelEdits.{level_without_equipment}
-use Rattle.grid_structure.specs.Sites.{levels, site, terminal_spot}
+use Rattle.grid_structure.specs.Sites.{levels, site}
 use Rattle.grid_states.specs.Rows.{row_at}
 use Rattle.grid_screen.specs.Screened.{shown_levels, shown_rows}
-use Rattle.grid_screen.specs.Steps.{IsPut, Stands, cleared_side}
+use Rattle.grid_screen.specs.Steps.{IsPut, cleared_side}
 use Rattle.grid_screen.proofs.Changing.{no_site, some_site, site_inside, flags_as_many, cleared_stands, none_cleared, side_cleared, stands_as}
 use Rattle.grid_screen.proofs.outage.clear_side.Goals as goal
 

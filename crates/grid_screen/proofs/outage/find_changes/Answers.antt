@@ -1,8 +1,7 @@
-use Rattle.std.proofs.Common.{◌≡◌, sym, ap, ◌∙◌, ◌+◌, subst, length, arith, take}
+use Rattle.std.proofs.Common.{ap, ◌∙◌, ◌+◌, take}
 use Rattle.std.proofs.lemmas.List.{take_all}
 use Rattle.grid_structure.specs.Sites.{levels}
-use Rattle.grid_screen.specs.Screened.{shown_levels, shown_rows}
-use Rattle.grid_screen.specs.Steps.{Stands, levels_with_out, rows_with_out, levels_after, rows_after}
+use Rattle.grid_screen.specs.Steps.{levels_with_out, rows_with_out, levels_after, rows_after}
 use Rattle.grid_screen.proofs.Changing.{none_stands, shown_so, stands_as, all_more}
 use Rattle.grid_screen.proofs.outage.find_changes.Goals as goal
 

@@ -1,11 +1,11 @@
-use Rattle.std.proofs.Common.{◌≡◌, sym, ap, ◌∙◌, subst, length, arith, true}
+use Rattle.std.proofs.Common.{sym, ap, ◌∙◌, subst, length, true}
 use Rattle.std.specs.Prelude.{slice_get, slice_set}
 use Rattle.std.proofs.lemmas.Result.{on_ok_weaker}
 use Rattle.grid_structure.specs.Sites.{levels}
 use Rattle.grid_structure.proofs.Places.{length-slice_set}
-use Rattle.grid_states.specs.Rows.{row_at, with_flag}
+use Rattle.grid_states.specs.Rows.{row_at}
 use Rattle.grid_screen.specs.Screened.{shown_levels, shown_rows}
-use Rattle.grid_screen.specs.Steps.{IsPut, Stands}
+use Rattle.grid_screen.specs.Steps.{IsPut}
 use Rattle.grid_screen.proofs.Changing.{flags_as_many, opened_stands}
 use Rattle.grid_screen.proofs.outage.open_switch.Goals as goal
 

@@ -1,10 +1,9 @@
-use Rattle.std.proofs.Common.{◌≡◌, sym, ap, ◌∙◌, subst, length, arith, true}
+use Rattle.std.proofs.Common.{sym, ◌∙◌, arith}
 use Rattle.std.proofs.lemmas.Result.{on_ok_weaker}
 use Rattle.grid_structure.specs.Sites.{levels, find_switch}
 use Rattle.grid_structure.proofs.Places.{got_below}
-use Rattle.grid_states.specs.Rows.{row_at, with_flag}
 use Rattle.grid_screen.specs.Screened.{shown_levels, shown_rows}
-use Rattle.grid_screen.specs.Steps.{Stands, levels_with_out, rows_with_out, taken_out}
+use Rattle.grid_screen.specs.Steps.{levels_with_out, rows_with_out}
 use Rattle.grid_screen.proofs.Changing.{no_spot, some_spot, switch_in, switch_out, equipment_out, stands_as}
 use Rattle.grid_screen.proofs.outage.put_out.Goals as goal
 

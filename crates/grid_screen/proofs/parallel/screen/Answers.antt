@@ -1,4 +1,4 @@
-use Rattle.std.proofs.Common.{◌≡◌, ap, ◌∙◌, subst, List, map, Ok, Result}
+use Rattle.std.proofs.Common.{◌≡◌, ap, ◌∙◌, subst, Result}
 use Rattle.std.proofs.Crossing.{crosses, frees}
 use denote.Param.Send.{sendable}
 use Rattle.grid_core.proofs.case.Case.TheSendSync as case

@@ -1,4 +1,4 @@
-use Rattle.std.proofs.Common.{◌≡◌, ap, ◌∙◌, length}
+use Rattle.std.proofs.Common.{ap, ◌∙◌, length}
 use Rattle.std.proofs.lemmas.List.{length-map}
 use Rattle.grid_watts.specs.Watts.{level_watts, watts_at}
 use Rattle.grid_screen.proofs.screening.sum_level.Goals as goal
