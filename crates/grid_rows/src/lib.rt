@@ -9,6 +9,8 @@ mod callers;
 #[cfg(test)]
 mod jobs;
 #[cfg(test)]
+mod screening;
+#[cfg(test)]
 mod streams;
 #[cfg(test)]
 mod structures;

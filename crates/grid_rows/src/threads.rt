@@ -11,14 +11,15 @@ use std::test::Fail;
 use std::thread;
 use std::thread::Threads;
 
-/// The status of `run` on this input, and what it wrote.
-fn ran<R: Threads + Wait + Sync, G: Gate>(
+/// The status of a call with these words on this input, and what it wrote.
+pub(crate) fn ran<R: Threads + Wait + Sync, G: Gate>(
     rt: &R,
     alloc: Global,
+    texts: &[&str],
     input: Vec<u8>,
     gate: &G,
 ) -> Result<(String, String), Fail> {
-    let words = words(alloc, &["run"])?;
+    let words = words(alloc, texts)?;
     let mut source = SureSource::new(input, 4096);
     let mut sink = SureSink::new(Vec::new(alloc), 4096);
     let status = grid(rt, alloc, words.as_slice(), &mut source, &mut sink, gate);
@@ -51,7 +52,7 @@ fn ordered(alloc: Global, job: &str, line: &str) -> Result<Vec<u8>, Fail> {
 #[test]
 fn a_run_is_replayed(rt: HostRuntime) -> Result<(), Fail> {
     let alloc = rt.alloc();
-    let (status, report) = ran(&rt, alloc, FOUR.as_bytes().to_vec(alloc)?, &Idle)?;
+    let (status, report) = ran(&rt, alloc, &["run"], FOUR.as_bytes().to_vec(alloc)?, &Idle)?;
     assert_eq!(rt; status.as_str(), "Done");
     let (line, rest) = first_line(report.as_str());
     let (_turns, wanted) = first_line(FOUR_REPORT);
@@ -139,7 +140,7 @@ fn third_turn(line: &str, worker: &str) -> Option<usize> {
 fn the_order_is_the_one_that_happened(rt: HostRuntime) -> Result<(), Fail> {
     let alloc = rt.alloc();
     let gate = Crossing::new();
-    let (status, report) = ran(&rt, alloc, FOUR.as_bytes().to_vec(alloc)?, &gate)?;
+    let (status, report) = ran(&rt, alloc, &["run"], FOUR.as_bytes().to_vec(alloc)?, &gate)?;
     assert_eq!(rt; status.as_str(), "Done");
     assert!(rt; !gate.used_up.load(Ordering::SeqCst));
     let (line, _rest) = first_line(report.as_str());
@@ -186,7 +187,7 @@ fn a_bench_is_kept_from_step_to_step(rt: HostRuntime) -> Result<(), Fail> {
     let (front, _scripts) = FOUR.split_once(",\"workers\"").unwrap_or(("", ""));
     let mut job = String::from_str(alloc, front)?;
     job.push_str(r#","workers":[[{"do":"bus_view","level":"A"},{"do":"bus_view","level":"D"}]]}"#)?;
-    let (status, _report) = ran(&rt, alloc, job.into_bytes(), &gate)?;
+    let (status, _report) = ran(&rt, alloc, &["run"], job.into_bytes(), &gate)?;
     assert_eq!(rt; status.as_str(), "Done");
     assert!(rt; gate.kept_one.load(Ordering::SeqCst));
     assert!(rt; gate.kept_both.load(Ordering::SeqCst));

@@ -69,6 +69,3 @@ pub enum Finding {
 
 /// Findings in the order of their contingencies.
 pub type Findings = Seq<Finding>;
-
-#[cfg(test)]
-mod tests;

@@ -5,7 +5,7 @@ use Rattle.grid_core.specs.declared.case.Case.{Case}
 use Rattle.grid_core.specs.Cases.{case_of}
 use Rattle.grid_screen.specs.Findings.{CaseFits}
 use Rattle.grid_screen.proofs.Cases.{cases_fit}
-use Rattle.grid_screen.proofs.tests.case_in.Goals as goal
+use Rattle.grid_rows.proofs.screening.case_in.Goals as goal
 
 pub returns : goal.returns
 returns c = IfOk-weaker c.case.result (λ o. o ≡ case_of c.args.world.now.origin c.args.world.now.steps c.args.name.now) (λ o. IfSome o CaseFits) fits c.case.ensures
