@@ -1,0 +1,4 @@
+pub mod Nodes
+pub mod Spokes
+pub mod Hanging
+pub mod Joined

@@ -1,0 +1,11 @@
+//! Levels with configured buses: their views, and the machine that switches and connects in them.
+#![tactic(auto)]
+
+mod network;
+mod view;
+
+pub use network::{
+    BusEnd, BusSwitch, BusSwitches, ConfiguredLevel, ConfiguredLevels, ConfiguredLine,
+    ConfiguredLines, ConfiguredNetwork, Item, Items,
+};
+pub use view::{ConfiguredBus, ConfiguredBuses, ConfiguredView};
