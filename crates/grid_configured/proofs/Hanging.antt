@@ -75,7 +75,7 @@ spoke_there at (t ∷ ts) (suc k) node e lt h = by t.connected (spoke_there (at 
 
 -- ---- of a level
 
-outlet_at : (level : PlacedLevel) (k node : ℕ) → node ≡ length level.buses + k → outlet_of level node ≡ get_or level.outlets k absent
+pub outlet_at : (level : PlacedLevel) (k node : ℕ) → node ≡ length level.buses + k → outlet_of level node ≡ get_or level.outlets k absent
 unfolding outlet_of
 outlet_at level k node e = let same : node - length level.buses ≡ k = omega (arith, e) in ap (λ z. get_or level.outlets z absent) same
 

@@ -96,7 +96,7 @@ module _ (level : PlacedLevel) (fit : PlacesFit level) where
 
   -- ---- least nodes
 
-  least_bus : (a : ℕ) → a < length level.buses → is_least (places (node_total level)) (pairs_of level) a ≡ is_least (places (length level.buses)) (closed_pairs level) a
+  pub least_bus : (a : ℕ) → a < length level.buses → is_least (places (node_total level)) (pairs_of level) a ≡ is_least (places (length level.buses)) (closed_pairs level) a
   unfolding is_least
   least_bus a lt =
       ap not (ap (list_any (λ b. nat_lt b a && joined (places (node_total level)) (pairs_of level) a b)) (places_split level)
@@ -119,7 +119,7 @@ module _ (level : PlacedLevel) (fit : PlacesFit level) where
       same n i = ap (λ t. nat_lt n a && t) (places_joined (length level.buses) (node_total level) (λ n. (outlet_of level n).place) (λ n. (outlet_of level n).connected) (closed_pairs level) (spokes level)
           (omega arith) (closed_below level fit) (are_spokes level fit) a n lt (places_In n (length level.buses) i))
 
-  least_hanging : (y : ℕ) → length level.buses ≤ y → y < node_total level → (outlet_of level y).connected ≡ true → is_least (places (node_total level)) (pairs_of level) y ≡ false
+  pub least_hanging : (y : ℕ) → length level.buses ≤ y → y < node_total level → (outlet_of level y).connected ≡ true → is_least (places (node_total level)) (pairs_of level) y ≡ false
   unfolding is_least nodes_joined
   least_hanging y b less h =
       let inside : (outlet_of level y).place < length level.buses = outlet_place level fit y b less in

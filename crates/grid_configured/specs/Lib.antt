@@ -1,3 +1,4 @@
 pub mod Places
 pub mod Translation
 pub mod Views
+pub mod Seen
