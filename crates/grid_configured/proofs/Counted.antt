@@ -49,7 +49,7 @@ section_fed [] = refl
 section_fed (e ∷ es) = let rest = section_fed es in count_more (λ p. is_feeder p.stand) (bus_section e) (map bus_section es) ∙ omega (arith, rest)
 
 -- no busbar section
-abbrev IsFed : ℕ × Outlet → Type 0
+abbrev pub IsFed : ℕ × Outlet → Type 0
 IsFed e = is_busbar e.1.stand ≡ false
 
 outlet_bars : (es : List (ℕ × Outlet)) → All IsFed es → busbars (map outlet_placed es) ≡ 0

@@ -126,30 +126,26 @@ module _ (level : PlacedLevel) (fit : PlacesFit level) where
         (filter_map_of test outlet_placed (enumerate_from (length level.buses) level.outlets)
         ∙ ap (map outlet_placed) (filter_numbered (λ e. test (outlet_placed e)) (at_nodes (joined_places level a)) (length level.buses) level.outlets (feeder_test a lt)))
 
-  -- ---- a terminal alone
+  -- ---- a node alone
 
-  alone_section : (y : ℕ) → length level.buses ≤ y → (outlet_of level y).connected ≡ false → (k : ℕ) (d : List ℕ) → k < length level.buses → list_any (eqb (0 + k)) (group_under bus (level_of level) y) ≡ false
-  alone_section y b off k d less =
-      let same : 0 + k ≡ k = omega arith in
-      ap (λ n. list_any (eqb n) (group_under bus (level_of level) y)) same ∙ in_group y k (omega (arith, less)) ∙ joined_alone level fit y k b off ∙ ne_eqb y k (λ e. omega (arith, e, b, less))
-
-  alone_feeder : (y : ℕ) → length level.buses ≤ y → (outlet_of level y).connected ≡ false → (k : ℕ) (d : Outlet) → k < length level.outlets
-      → list_any (eqb (length level.buses + k)) (group_under bus (level_of level) y) ≡ eqb y (length level.buses + k)
-  alone_feeder y b off k d less = in_group y (length level.buses + k) (omega (arith, less)) ∙ joined_alone level fit y (length level.buses + k) b off
-
-  -- what stands in the group of a terminal that is not connected
-  pub standing_alone : (y : ℕ) → length level.buses ≤ y → (outlet_of level y).connected ≡ false
-      → placed_among (level_of level) (group_under bus (level_of level) y) ≡ map outlet_placed (filter (λ e. eqb y e.0) (outlets_at level))
+  -- what stands at a node behind the buses
+  pub standing_only : (group : List ℕ) (y : ℕ) → length level.buses ≤ y → ((n : ℕ) → n < node_total level → list_any (eqb n) group ≡ eqb y n)
+      → placed_among (level_of level) group ≡ map outlet_placed (filter (λ e. eqb y e.0) (outlets_at level))
   unfolding placed_among level_of outlets_at bus_section outlet_placed
-  standing_alone y b off =
-      let test : Placed → Bool = λ p. list_any (λ n. eqb p.node n) (group_under bus (level_of level) y) in
+  standing_only group y b only =
+      let test : Placed → Bool = λ p. list_any (λ n. eqb p.node n) group in
       filter-append test (map bus_section (enumerate_from 0 level.buses)) (map outlet_placed (enumerate_from (length level.buses) level.outlets))
       ∙ ap (λ z. z ++ filter test (map outlet_placed (enumerate_from (length level.buses) level.outlets)))
         (filter_map_of test bus_section (enumerate_from 0 level.buses)
-        ∙ ap (map bus_section) (filter_numbered (λ e. test (bus_section e)) (λ e. false) 0 level.buses (alone_section y b off) ∙ none_pass (enumerate_from 0 level.buses)))
+        ∙ ap (map bus_section) (filter_numbered (λ e. test (bus_section e)) (λ e. false) 0 level.buses (λ k d less. only (0 + k) (omega (arith, less)) ∙ ne_eqb y (0 + k) (λ e. omega (arith, e, b, less))) ∙ none_pass (enumerate_from 0 level.buses)))
       ∙ (filter_map_of test outlet_placed (enumerate_from (length level.buses) level.outlets)
-        ∙ ap (map outlet_placed) (filter_numbered (λ e. test (outlet_placed e)) (λ e. eqb y e.0) (length level.buses) level.outlets (alone_feeder y b off)))
+        ∙ ap (map outlet_placed) (filter_numbered (λ e. test (outlet_placed e)) (λ e. eqb y e.0) (length level.buses) level.outlets (λ k d less. only (length level.buses + k) (omega (arith, less)))))
     where
       none_pass : (es : List (ℕ × List ℕ)) → filter (λ e. false) es ≡ []
       none_pass [] = refl
       none_pass (e ∷ es) = none_pass es
+
+  -- what stands in the group of a terminal that is not connected
+  pub standing_alone : (y : ℕ) → length level.buses ≤ y → (outlet_of level y).connected ≡ false
+      → placed_among (level_of level) (group_under bus (level_of level) y) ≡ map outlet_placed (filter (λ e. eqb y e.0) (outlets_at level))
+  standing_alone y b off = standing_only (group_under bus (level_of level) y) y b (λ n lt. in_group y n lt ∙ joined_alone level fit y n b off)

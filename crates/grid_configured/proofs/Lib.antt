@@ -5,3 +5,7 @@ pub mod Joined
 pub mod Grouped
 pub mod Counted
 pub mod Seeing
+pub mod Placed
+pub mod Breakers
+pub mod Connecting
+pub mod Parting
