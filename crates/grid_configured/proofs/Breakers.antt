@@ -14,7 +14,7 @@ use Rattle.grid_paths.specs.Paths.{across}
 use Rattle.grid_paths.proofs.Least.{some_same, some_none}
 use Rattle.grid_connect.specs.Plans.{all_ends}
 use Rattle.grid_configured.specs.Places.{Joint, Outlet, PlacedLevel, PlacesFit}
-use Rattle.grid_configured.specs.Translation.{joint_breaker, outlet_breaker, outlets_at, level_of}
+use Rattle.grid_configured.specs.Translation.{joint_breaker, outlet_breaker, outlets_at, translated_level}
 use Rattle.grid_configured.proofs.Nodes.{StandsWell, map_map}
 use Rattle.grid_configured.proofs.Hanging.{absent}
 
@@ -22,8 +22,8 @@ use Rattle.grid_configured.proofs.Hanging.{absent}
 abbrev no_joint : Joint
 no_joint = record { id = []; place1 = 0; place2 = 0; opened = false }
 
-pub switch_count : (level : PlacedLevel) → length (level_of level).switches ≡ length level.joints + length level.outlets
-unfolding level_of outlets_at
+pub switch_count : (level : PlacedLevel) → length (translated_level level).switches ≡ length level.joints + length level.outlets
+unfolding translated_level outlets_at
 switch_count level =
     let one = length-map level.joints joint_breaker in
     let two = length-map (enumerate_from (length level.buses) level.outlets) outlet_breaker in
@@ -31,8 +31,8 @@ switch_count level =
     length-append (map joint_breaker level.joints) (map outlet_breaker (enumerate_from (length level.buses) level.outlets)) ∙ omega (arith, one, two, three)
 
 -- a switch between buses
-pub joint_at : (level : PlacedLevel) (p : ℕ) (d : Joint) → p < length level.joints → slice_get (level_of level).switches p ≡ Some (joint_breaker (get_or level.joints p d))
-unfolding level_of
+pub joint_at : (level : PlacedLevel) (p : ℕ) (d : Joint) → p < length level.joints → slice_get (translated_level level).switches p ≡ Some (joint_breaker (get_or level.joints p d))
+unfolding translated_level
 joint_at level p d lt =
     let one = length-map level.joints joint_breaker in
     let less : p < length (map joint_breaker level.joints) = omega (arith, one, lt) in
@@ -42,8 +42,8 @@ joint_at level p d lt =
     ∙ get_or-map joint_breaker level.joints p d (joint_breaker d) lt)
 
 -- a terminal's breaker
-pub breaker_at : (level : PlacedLevel) (k p : ℕ) → p ≡ length level.joints + k → k < length level.outlets → slice_get (level_of level).switches p ≡ Some (outlet_breaker (length level.buses + k, get_or level.outlets k absent))
-unfolding level_of outlets_at
+pub breaker_at : (level : PlacedLevel) (k p : ℕ) → p ≡ length level.joints + k → k < length level.outlets → slice_get (translated_level level).switches p ≡ Some (outlet_breaker (length level.buses + k, get_or level.outlets k absent))
+unfolding translated_level outlets_at
 breaker_at level k p e lt =
     let one = length-map level.joints joint_breaker in
     let two = length-map (enumerate_from (length level.buses) level.outlets) outlet_breaker in
@@ -64,8 +64,8 @@ breaker_at level k p e lt =
 abbrev switch_ends : Switch → ℕ × ℕ
 switch_ends s = (s.node1, s.node2)
 
-ends_are : (level : PlacedLevel) → all_ends (level_of level) ≡ map switch_ends (level_of level).switches
-unfolding all_ends edges ends level_of
+ends_are : (level : PlacedLevel) → all_ends (translated_level level) ≡ map switch_ends (translated_level level).switches
+unfolding all_ends edges ends translated_level
 ends_are level = ap (map ends) (append-nil (map switch_edge (map joint_breaker level.joints ++ map outlet_breaker (outlets_at level)))) ∙ map_map ends switch_edge (map joint_breaker level.joints ++ map outlet_breaker (outlets_at level))
 
 get_mapped : (ss : List Switch) (p : ℕ) (s : Switch) → slice_get ss p ≡ Some s → slice_get (map switch_ends ss) p ≡ Some (switch_ends s)
@@ -78,19 +78,19 @@ get_none [] p h = refl
 get_none (x ∷ ss) zero h = absurd (some_none x (sym h))
 get_none (x ∷ ss) (suc p) h = get_none ss p h
 
-pub ends_past : (level : PlacedLevel) (p : ℕ) → slice_get (level_of level).switches p ≡ None → slice_get (all_ends (level_of level)) p ≡ None
-ends_past level p h = ap (λ z. slice_get z p) (ends_are level) ∙ get_none (level_of level).switches p h
+pub ends_past : (level : PlacedLevel) (p : ℕ) → slice_get (translated_level level).switches p ≡ None → slice_get (all_ends (translated_level level)) p ≡ None
+ends_past level p h = ap (λ z. slice_get z p) (ends_are level) ∙ get_none (translated_level level).switches p h
 
-pub ends_at : (level : PlacedLevel) (p : ℕ) (s : Switch) → slice_get (level_of level).switches p ≡ Some s → slice_get (all_ends (level_of level)) p ≡ Some (s.node1, s.node2)
-ends_at level p s h = ap (λ z. slice_get z p) (ends_are level) ∙ get_mapped (level_of level).switches p s h
+pub ends_at : (level : PlacedLevel) (p : ℕ) (s : Switch) → slice_get (translated_level level).switches p ≡ Some s → slice_get (all_ends (translated_level level)) p ≡ Some (s.node1, s.node2)
+ends_at level p s h = ap (λ z. slice_get z p) (ends_are level) ∙ get_mapped (translated_level level).switches p s h
 
 -- the place of a switch is that of one between buses, or that of a terminal's breaker
-pub which : (level : PlacedLevel) (p : ℕ) → (p < length level.joints) ⊎ ((k : ℕ) × (p ≡ length level.joints + k) × (k < length level.outlets)) ⊎ (slice_get (level_of level).switches p ≡ None)
+pub which : (level : PlacedLevel) (p : ℕ) → (p < length level.joints) ⊎ ((k : ℕ) × (p ≡ length level.joints + k) × (k < length level.outlets)) ⊎ (slice_get (translated_level level).switches p ≡ None)
 which level p = elim (cases_lt p (length level.joints)) [
   | inl lt ↦ inl lt
   | inr le ↦ elim (cases_lt (p - length level.joints) (length level.outlets)) [
     | inl less ↦ inr (inl (p - length level.joints, omega (arith, le), less))
-    | inr more ↦ (let count = switch_count level in inr (inr (slice_get_past (level_of level).switches p (omega (arith, count, le, more)))))
+    | inr more ↦ (let count = switch_count level in inr (inr (slice_get_past (translated_level level).switches p (omega (arith, count, le, more)))))
   ]
 ]
 
@@ -130,7 +130,7 @@ module _ (level : PlacedLevel) (fit : PlacesFit level) (k : ℕ) (lt : k < lengt
       across_none (length level.buses + k) ((get_or level.outlets n absent).place, length level.buses + n) (λ e. omega (arith, e, one)) (λ e. ne (omega (arith, e)))
 
   -- no other switch leads on from its node
-  pub leads_on : (p c : ℕ) (pair : ℕ × ℕ) → slice_get (all_ends (level_of level)) p ≡ Some pair → across (length level.buses + k) pair ≡ Some c → p ≡ length level.joints + k
+  pub leads_on : (p c : ℕ) (pair : ℕ × ℕ) → slice_get (all_ends (translated_level level)) p ≡ Some pair → across (length level.buses + k) pair ≡ Some c → p ≡ length level.joints + k
   leads_on p c pair at leads = elim (which level p) [
     | inl less ↦ absurd (none_leads (ends_at level p (joint_breaker (get_or level.joints p no_joint)) (joint_at level p no_joint less)) (joint_across p less))
     | inr (inl own) ↦ elim (cases_eq own.0 k) [
@@ -140,10 +140,10 @@ module _ (level : PlacedLevel) (fit : PlacesFit level) (k : ℕ) (lt : k < lengt
     | inr (inr none) ↦ absurd (past none)
   ]
     where
-      none_leads : {other : ℕ × ℕ} → slice_get (all_ends (level_of level)) p ≡ Some other → across (length level.buses + k) other ≡ None → ⊥
+      none_leads : {other : ℕ × ℕ} → slice_get (all_ends (translated_level level)) p ≡ Some other → across (length level.buses + k) other ≡ None → ⊥
       none_leads {other} h none =
           let same : pair ≡ other = some_same pair other (sym at ∙ h) in
           some_none c (sym none ∙ sym (ap (across (length level.buses + k)) same) ∙ leads)
 
-      past : slice_get (level_of level).switches p ≡ None → ⊥
+      past : slice_get (translated_level level).switches p ≡ None → ⊥
       past none = some_none pair (sym (ends_past level p none) ∙ at)

@@ -21,7 +21,7 @@ use Rattle.grid_connect.specs.declared.ConnectPlan.TheVariants.{Close, AlreadyCo
 use Rattle.grid_connect.proofs.Joining.{Parts, parts_of, closable_of}
 use Rattle.grid_connect.proofs.Planning.{LeastClosable, plan_least, plan_with}
 use Rattle.grid_configured.specs.Places.{Outlet, PlacedLevel, PlacesFit}
-use Rattle.grid_configured.specs.Translation.{outlet_breaker, level_of}
+use Rattle.grid_configured.specs.Translation.{outlet_breaker, translated_level}
 use Rattle.grid_configured.proofs.Nodes.{level_nodes}
 use Rattle.grid_configured.proofs.Hanging.{absent, outlet_of, outlet_at}
 use Rattle.grid_configured.proofs.Joined.{node_total}
@@ -87,65 +87,65 @@ module _ (level : PlacedLevel) (fit : PlacesFit level) (k : ℕ) (lt : k < lengt
   own : ℕ
   own = length level.joints + k
 
-  own_breaker : slice_get (level_of level).switches (length level.joints + k) ≡ Some (outlet_breaker (length level.buses + k, get_or level.outlets k absent))
+  own_breaker : slice_get (translated_level level).switches (length level.joints + k) ≡ Some (outlet_breaker (length level.buses + k, get_or level.outlets k absent))
   own_breaker = breaker_at level k (length level.joints + k) refl lt
 
   node_outlet : outlet_of level (length level.buses + k) ≡ get_or level.outlets k absent
   node_outlet = outlet_at level k (length level.buses + k) refl
 
-  pub node_connected : is_connected (level_of level) (length level.buses + k) ≡ (get_or level.outlets k absent).connected
+  pub node_connected : is_connected (translated_level level) (length level.buses + k) ≡ (get_or level.outlets k absent).connected
   node_connected = outlet_connected level fit (length level.buses + k) (omega arith) (omega (arith, lt)) ∙ ap (λ (t : Outlet). t.connected) node_outlet
 
-  pub node_there : In (length level.buses + k) (nodes (level_of level))
+  pub node_there : In (length level.buses + k) (nodes (translated_level level))
   node_there = let P : List ℕ → Type 0 = λ z. In (length level.buses + k) z in subst P (sym (level_nodes level fit)) (In_places (length level.buses + k) (node_total level) (omega (arith, lt)))
 
-  breaker_open : is_open (level_of level) (length level.joints + k) ≡ not (get_or level.outlets k absent).connected
+  breaker_open : is_open (translated_level level) (length level.joints + k) ≡ not (get_or level.outlets k absent).connected
   unfolding is_open opened_at outlet_breaker
   breaker_open = ap opened_at own_breaker
 
-  breaker_closable : may_be_closed (level_of level) (length level.joints + k) ≡ true
+  breaker_closable : may_be_closed (translated_level level) (length level.joints + k) ≡ true
   unfolding may_be_closed closable_at outlet_breaker is_operable is_breaker
   breaker_closable = ap closable_at own_breaker ∙ or_right (not (not (get_or level.outlets k absent).connected)) true refl
 
-  own_closable : is_closable (level_of level) (length level.buses + k) ((length level.joints + k) ∷ []) ≡ true
+  own_closable : is_closable (translated_level level) (length level.buses + k) ((length level.joints + k) ∷ []) ≡ true
   unfolding all_differ has_node last_in
   own_closable =
       let p : (get_or level.outlets k absent).place < length level.buses = inside level fit k lt in
-      closable_of (level_of level) (length level.buses + k) (get_or level.outlets k absent).place ((length level.joints + k) ∷ []) ((get_or level.outlets k absent).place ∷ [])
-      (one_step (all_ends (level_of level)) (length level.buses + k) (length level.joints + k) (get_or level.outlets k absent).place _
+      closable_of (translated_level level) (length level.buses + k) (get_or level.outlets k absent).place ((length level.joints + k) ∷ []) ((get_or level.outlets k absent).place ∷ [])
+      (one_step (all_ends (translated_level level)) (length level.buses + k) (length level.joints + k) (get_or level.outlets k absent).place _
       (ends_at level (length level.joints + k) (outlet_breaker (length level.buses + k, get_or level.outlets k absent)) own_breaker) (own_across level fit k lt))
       (rw (ne_eqb (length level.buses + k) (get_or level.outlets k absent).place (λ e. omega (arith, e, p))) refl)
       refl
       (carries_bus level fit (get_or level.outlets k absent).place p)
-      (and_from (may_be_closed (level_of level) (length level.joints + k)) true breaker_closable refl)
+      (and_from (may_be_closed (translated_level level) (length level.joints + k)) true breaker_closable refl)
 
-  least_by : (other : List ℕ) → Parts (level_of level) (length level.buses + k) other → is_better (is_open (level_of level)) other ((length level.joints + k) ∷ []) ≡ false
+  least_by : (other : List ℕ) → Parts (translated_level level) (length level.buses + k) other → is_better (is_open (translated_level level)) other ((length level.joints + k) ∷ []) ≡ false
   least_by [] parts =
-      absurd (both_ways (carries_busbar (level_of level) (length level.buses + k)) (carries_none level fit (length level.buses + k) (omega arith))
-      (sym (ap (carries_busbar (level_of level)) (nothing_visited (all_ends (level_of level)) (length level.buses + k) parts.visits parts.goes)) ∙ parts.carries))
+      absurd (both_ways (carries_busbar (translated_level level) (length level.buses + k)) (carries_none level fit (length level.buses + k) (omega arith))
+      (sym (ap (carries_busbar (translated_level level)) (nothing_visited (all_ends (translated_level level)) (length level.buses + k) parts.visits parts.goes)) ∙ parts.carries))
   least_by (p ∷ rest) parts =
-      let b = first_edge (all_ends (level_of level)) (length level.buses + k) p rest ((length level.buses + k) ∷ parts.visits) parts.goes in
+      let b = first_edge (all_ends (translated_level level)) (length level.buses + k) p rest ((length level.buses + k) ∷ parts.visits) parts.goes in
       let same : p ≡ length level.joints + k = leads_on level fit k lt p b.next b.pair b.at b.leads in
-      ap (λ z. is_better (is_open (level_of level)) (z ∷ rest) ((length level.joints + k) ∷ [])) same ∙ no_better (is_open (level_of level)) (length level.joints + k) rest
+      ap (λ z. is_better (is_open (translated_level level)) (z ∷ rest) ((length level.joints + k) ∷ [])) same ∙ no_better (is_open (translated_level level)) (length level.joints + k) rest
 
-  own_least : LeastClosable (level_of level) (length level.buses + k) ((length level.joints + k) ∷ [])
+  own_least : LeastClosable (translated_level level) (length level.buses + k) ((length level.joints + k) ∷ [])
   own_least = record {
     closable = own_closable;
-    least = λ other h. least_by other (parts_of (level_of level) (length level.buses + k) other h);
+    least = λ other h. least_by other (parts_of (translated_level level) (length level.buses + k) other h);
   }
 
   -- a terminal that is not connected is connected by its own breaker
-  pub connect_closes : (get_or level.outlets k absent).connected ≡ false → connect_plan_of (level_of level) (length level.buses + k) ≡ Close ((length level.joints + k) ∷ [])
+  pub connect_closes : (get_or level.outlets k absent).connected ≡ false → connect_plan_of (translated_level level) (length level.buses + k) ≡ Close ((length level.joints + k) ∷ [])
   unfolding plan_with
   connect_closes off =
-      plan_least (level_of level) (length level.buses + k) ((length level.joints + k) ∷ []) node_there own_least
+      plan_least (translated_level level) (length level.buses + k) ((length level.joints + k) ∷ []) node_there own_least
       ∙ ap plan_with (ap (λ t. cond t ((length level.joints + k) ∷ []) []) (breaker_open ∙ ap not off))
 
-  pub connect_stays : (get_or level.outlets k absent).connected ≡ true → connect_plan_of (level_of level) (length level.buses + k) ≡ AlreadyConnected
+  pub connect_stays : (get_or level.outlets k absent).connected ≡ true → connect_plan_of (translated_level level) (length level.buses + k) ≡ AlreadyConnected
   unfolding connect_plan_of
   connect_stays on = rw (node_connected ∙ on) refl
 
 -- a bus is connected already
-pub connect_bus : (level : PlacedLevel) → PlacesFit level → (a : ℕ) → a < length level.buses → connect_plan_of (level_of level) a ≡ AlreadyConnected
+pub connect_bus : (level : PlacedLevel) → PlacesFit level → (a : ℕ) → a < length level.buses → connect_plan_of (translated_level level) a ≡ AlreadyConnected
 unfolding connect_plan_of
 connect_bus level fit a lt = rw (bus_connected level fit a lt) refl

@@ -17,7 +17,7 @@ use Rattle.grid_groups.specs.Groups.{group_under, leaders}
 use Rattle.grid_groups.proofs.Lists.{some_member, filter_In}
 use Rattle.grid_busview.specs.Views.{is_feeder, is_valid, is_bus}
 use Rattle.grid_configured.specs.Places.{Outlet, PlacedLevel, PlacesFit, closed_pairs, joined_places, first_places}
-use Rattle.grid_configured.specs.Translation.{bus_section, outlet_placed, outlets_at, level_of}
+use Rattle.grid_configured.specs.Translation.{bus_section, outlet_placed, outlets_at, translated_level}
 use Rattle.grid_configured.specs.Views.{connects_among, is_view_bus}
 use Rattle.grid_configured.proofs.Nodes.{StandsWell, level_nodes, level_passing, numbers_from, filter_map_of, spokes}
 use Rattle.grid_configured.proofs.Hanging.{outlet_of}
@@ -131,7 +131,7 @@ module _ (level : PlacedLevel) (fit : PlacesFit level) where
   feeders_fed a = All-filter (at_nodes (joined_places level a)) IsFed (outlets_at level) (outlets_fed level fit)
 
   -- a bus is in a bus of the view where a terminal is connected there
-  bus_is : (a : ℕ) → a < length level.buses → is_bus (level_of level) a ≡ is_view_bus level a
+  bus_is : (a : ℕ) → a < length level.buses → is_bus (translated_level level) a ≡ is_view_bus level a
   unfolding is_bus is_valid is_view_bus feeders outlets_at at_nodes
   bus_is a lt =
       let ss = map bus_section (sections level a) in
@@ -145,7 +145,7 @@ module _ (level : PlacedLevel) (fit : PlacesFit level) where
       ∙ any_counted (connects_among (joined_places level a)) (length level.buses) level.outlets
 
   -- a terminal that is not connected is no bus
-  no_bus : (y : ℕ) → length level.buses ≤ y → (outlet_of level y).connected ≡ false → is_bus (level_of level) y ≡ false
+  no_bus : (y : ℕ) → length level.buses ≤ y → (outlet_of level y).connected ≡ false → is_bus (translated_level level) y ≡ false
   unfolding is_bus is_valid outlets_at
   no_bus y b off =
       let es = filter (λ (e : ℕ × Outlet). eqb y e.0) (outlets_at level) in
@@ -155,28 +155,28 @@ module _ (level : PlacedLevel) (fit : PlacesFit level) where
       ap is_valid (standing_alone level fit y b off)
       ∙ invalid_by (busbars (map outlet_placed es)) (count_by (λ p. is_branch_end p.stand) (map outlet_placed es)) (fed (map outlet_placed es)) (outlet_bars es feds) (omega (arith, once, count))
 
-  leaders_are : leaders bus (level_of level) ≡ filter (is_least (places (node_total level)) (pairs_of level)) (places (node_total level))
+  leaders_are : leaders bus (translated_level level) ≡ filter (is_least (places (node_total level)) (pairs_of level)) (places (node_total level))
   unfolding leaders least_nodes
   leaders_are =
-      ap (λ z. filter (is_least z (passing bus (level_of level))) z) (level_nodes level fit)
+      ap (λ z. filter (is_least z (passing bus (translated_level level))) z) (level_nodes level fit)
       ∙ ap (λ z. filter (is_least (places (node_total level)) z) (places (node_total level))) (level_passing level)
 
   -- none of the nodes behind the buses leads a bus
-  behind_none : (n : ℕ) → In n (range_with_len (length level.buses) (length level.outlets)) → is_least (places (node_total level)) (pairs_of level) n ≡ true → is_bus (level_of level) n ≡ false
+  behind_none : (n : ℕ) → In n (range_with_len (length level.buses) (length level.outlets)) → is_least (places (node_total level)) (pairs_of level) n ≡ true → is_bus (translated_level level) n ≡ false
   behind_none n i least =
       let r = range_bounds n (length level.buses) (length level.outlets) i in
       no_bus n r.0 (false_from_ne_true (outlet_of level n).connected (λ h. both_ways (is_least (places (node_total level)) (pairs_of level) n) (least_hanging level fit n r.0 r.1 h) least))
 
   -- the buses of the two views have the same places
-  pub view_places : filter (is_bus (level_of level)) (leaders bus (level_of level)) ≡ filter (is_view_bus level) (first_places level)
+  pub view_places : filter (is_bus (translated_level level)) (leaders bus (translated_level level)) ≡ filter (is_view_bus level) (first_places level)
   unfolding first_places least_nodes
   view_places =
       let low = places (length level.buses) in
       let high = range_with_len (length level.buses) (length level.outlets) in
       let least = is_least (places (node_total level)) (pairs_of level) in
-      ap (filter (is_bus (level_of level))) (leaders_are ∙ ap (filter least) (places_split level) ∙ filter-append least low high)
-      ∙ filter-append (is_bus (level_of level)) (filter least low) (filter least high)
-      ∙ ap (λ z. filter (is_bus (level_of level)) (filter least low) ++ z) (filter_neither (is_bus (level_of level)) least high behind_none)
-      ∙ append-nil (filter (is_bus (level_of level)) (filter least low))
-      ∙ ap (filter (is_bus (level_of level))) (filter_same least (is_least low (closed_pairs level)) low (λ n i. least_bus level fit n (places_In n (length level.buses) i)))
-      ∙ filter_same (is_bus (level_of level)) (is_view_bus level) (filter (is_least low (closed_pairs level)) low) (λ n i. bus_is n (places_In n (length level.buses) (filter_In (is_least low (closed_pairs level)) n low i)))
+      ap (filter (is_bus (translated_level level))) (leaders_are ∙ ap (filter least) (places_split level) ∙ filter-append least low high)
+      ∙ filter-append (is_bus (translated_level level)) (filter least low) (filter least high)
+      ∙ ap (λ z. filter (is_bus (translated_level level)) (filter least low) ++ z) (filter_neither (is_bus (translated_level level)) least high behind_none)
+      ∙ append-nil (filter (is_bus (translated_level level)) (filter least low))
+      ∙ ap (filter (is_bus (translated_level level))) (filter_same least (is_least low (closed_pairs level)) low (λ n i. least_bus level fit n (places_In n (length level.buses) i)))
+      ∙ filter_same (is_bus (translated_level level)) (is_view_bus level) (filter (is_least low (closed_pairs level)) low) (λ n i. bus_is n (places_In n (length level.buses) (filter_In (is_least low (closed_pairs level)) n low i)))

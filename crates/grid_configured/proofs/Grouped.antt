@@ -18,7 +18,7 @@ use Rattle.grid_groups.specs.Groups.{group_under, leaders, terminals_at}
 use Rattle.grid_groups.proofs.Lists.{In_filtered, filter_In, filter_passes, get_or_any}
 use Rattle.grid_busview.specs.Views.{is_feeder, is_valid, is_bus}
 use Rattle.grid_configured.specs.Places.{Outlet, PlacedLevel, PlacesFit, closed_pairs, joined_places, first_places}
-use Rattle.grid_configured.specs.Translation.{bus_section, outlet_placed, outlets_at, level_of}
+use Rattle.grid_configured.specs.Translation.{bus_section, outlet_placed, outlets_at, translated_level}
 use Rattle.grid_configured.specs.Views.{connects_among, outlets_among, is_view_bus}
 use Rattle.grid_configured.proofs.Nodes.{StandsWell, level_nodes, level_passing, numbers_from, enumerated, map_map, filter_map_of, spokes}
 use Rattle.grid_configured.proofs.Hanging.{absent, outlet_of, outlet_at, outlet_place}
@@ -79,13 +79,13 @@ and_any t x group s e = ap (λ z. t && z) (sym e)
 
 module _ (level : PlacedLevel) (fit : PlacesFit level) where
   -- the group of a node
-  pub group_is : (a : ℕ) → group_under bus (level_of level) a ≡ filter (nodes_joined level a) (places (node_total level))
+  pub group_is : (a : ℕ) → group_under bus (translated_level level) a ≡ filter (nodes_joined level a) (places (node_total level))
   unfolding group_under group_of nodes_joined
   group_is a =
-      ap (λ z. filter (joined z (passing bus (level_of level)) a) z) (level_nodes level fit)
+      ap (λ z. filter (joined z (passing bus (translated_level level)) a) z) (level_nodes level fit)
       ∙ ap (λ z. filter (joined (places (node_total level)) z a) (places (node_total level))) (level_passing level)
 
-  pub in_group : (a n : ℕ) → n < node_total level → list_any (eqb n) (group_under bus (level_of level) a) ≡ nodes_joined level a n
+  pub in_group : (a n : ℕ) → n < node_total level → list_any (eqb n) (group_under bus (translated_level level) a) ≡ nodes_joined level a n
   in_group a n lt = ap (list_any (eqb n)) (group_is a) ∙ In_filtered (nodes_joined level a) n (places (node_total level)) (In_places n (node_total level) lt)
 
   pub in_places : (a n : ℕ) → n < length level.buses → list_any (eqb n) (joined_places level a) ≡ buses_joined level a n
@@ -96,14 +96,14 @@ module _ (level : PlacedLevel) (fit : PlacesFit level) where
   outlet_is k d lt = outlet_at level k (length level.buses + k) refl ∙ get_or_any level.outlets k absent d lt
 
   section_test : (a : ℕ) → a < length level.buses → (k : ℕ) (d : List ℕ) → k < length level.buses
-      → list_any (eqb (0 + k)) (group_under bus (level_of level) a) ≡ list_any (eqb (0 + k)) (joined_places level a)
+      → list_any (eqb (0 + k)) (group_under bus (translated_level level) a) ≡ list_any (eqb (0 + k)) (joined_places level a)
   section_test a lt k d less =
       let same : 0 + k ≡ k = omega arith in
-      ap (λ n. list_any (eqb n) (group_under bus (level_of level) a)) same ∙ in_group a k (omega (arith, less)) ∙ joined_places_alike level fit a k lt less ∙ sym (in_places a k less)
+      ap (λ n. list_any (eqb n) (group_under bus (translated_level level) a)) same ∙ in_group a k (omega (arith, less)) ∙ joined_places_alike level fit a k lt less ∙ sym (in_places a k less)
       ∙ ap (λ n. list_any (eqb n) (joined_places level a)) (sym same)
 
   feeder_test : (a : ℕ) → a < length level.buses → (k : ℕ) (d : Outlet) → k < length level.outlets
-      → list_any (eqb (length level.buses + k)) (group_under bus (level_of level) a) ≡ connects_among (joined_places level a) (get_or level.outlets k d)
+      → list_any (eqb (length level.buses + k)) (group_under bus (translated_level level) a) ≡ connects_among (joined_places level a) (get_or level.outlets k d)
   unfolding connects_among
   feeder_test a lt k d less =
       let same = outlet_is k d less in
@@ -114,10 +114,10 @@ module _ (level : PlacedLevel) (fit : PlacesFit level) where
 
   -- what stands in the group of a bus: the buses joined to it, and the terminals that are connected there
   pub standing : (a : ℕ) → a < length level.buses
-      → placed_among (level_of level) (group_under bus (level_of level) a) ≡ map bus_section (sections level a) ++ map outlet_placed (feeders level a)
-  unfolding placed_among level_of sections feeders outlets_at at_places at_nodes bus_section outlet_placed
+      → placed_among (translated_level level) (group_under bus (translated_level level) a) ≡ map bus_section (sections level a) ++ map outlet_placed (feeders level a)
+  unfolding placed_among translated_level sections feeders outlets_at at_places at_nodes bus_section outlet_placed
   standing a lt =
-      let test : Placed → Bool = λ p. list_any (λ n. eqb p.node n) (group_under bus (level_of level) a) in
+      let test : Placed → Bool = λ p. list_any (λ n. eqb p.node n) (group_under bus (translated_level level) a) in
       filter-append test (map bus_section (enumerate_from 0 level.buses)) (map outlet_placed (enumerate_from (length level.buses) level.outlets))
       ∙ ap (λ z. z ++ filter test (map outlet_placed (enumerate_from (length level.buses) level.outlets)))
         (filter_map_of test bus_section (enumerate_from 0 level.buses)
@@ -130,8 +130,8 @@ module _ (level : PlacedLevel) (fit : PlacesFit level) where
 
   -- what stands at a node behind the buses
   pub standing_only : (group : List ℕ) (y : ℕ) → length level.buses ≤ y → ((n : ℕ) → n < node_total level → list_any (eqb n) group ≡ eqb y n)
-      → placed_among (level_of level) group ≡ map outlet_placed (filter (λ e. eqb y e.0) (outlets_at level))
-  unfolding placed_among level_of outlets_at bus_section outlet_placed
+      → placed_among (translated_level level) group ≡ map outlet_placed (filter (λ e. eqb y e.0) (outlets_at level))
+  unfolding placed_among translated_level outlets_at bus_section outlet_placed
   standing_only group y b only =
       let test : Placed → Bool = λ p. list_any (λ n. eqb p.node n) group in
       filter-append test (map bus_section (enumerate_from 0 level.buses)) (map outlet_placed (enumerate_from (length level.buses) level.outlets))
@@ -147,5 +147,5 @@ module _ (level : PlacedLevel) (fit : PlacesFit level) where
 
   -- what stands in the group of a terminal that is not connected
   pub standing_alone : (y : ℕ) → length level.buses ≤ y → (outlet_of level y).connected ≡ false
-      → placed_among (level_of level) (group_under bus (level_of level) y) ≡ map outlet_placed (filter (λ e. eqb y e.0) (outlets_at level))
-  standing_alone y b off = standing_only (group_under bus (level_of level) y) y b (λ n lt. in_group y n lt ∙ joined_alone level fit y n b off)
+      → placed_among (translated_level level) (group_under bus (translated_level level) y) ≡ map outlet_placed (filter (λ e. eqb y e.0) (outlets_at level))
+  standing_alone y b off = standing_only (group_under bus (translated_level level) y) y b (λ n lt. in_group y n lt ∙ joined_alone level fit y n b off)

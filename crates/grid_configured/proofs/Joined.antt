@@ -11,7 +11,7 @@ use Rattle.grid_graph.proofs.Places.{In_places, places_In}
 use Rattle.grid_level.specs.VoltageLevel.{VoltageLevel}
 use Rattle.grid_level.specs.Passing.{bus, nodes, passing, joined_under}
 use Rattle.grid_configured.specs.Places.{Outlet, PlacedLevel, PlacesFit, closed_pairs}
-use Rattle.grid_configured.specs.Translation.{level_of}
+use Rattle.grid_configured.specs.Translation.{translated_level}
 use Rattle.grid_configured.proofs.Nodes.{range_join, level_nodes, level_passing, spokes}
 use Rattle.grid_configured.proofs.Spokes.{places_joined, behind_joined, hangs_joined, alone_joined}
 use Rattle.grid_configured.proofs.Hanging.{outlet_of, outlet_place, are_spokes, closed_below}
@@ -59,10 +59,10 @@ unfoldable pub buses_joined : PlacedLevel → ℕ → ℕ → Bool
 buses_joined level a b = joined (places (length level.buses)) (closed_pairs level) a b
 
 module _ (level : PlacedLevel) (fit : PlacesFit level) where
-  pub level_joined : (a b : ℕ) → joined_under bus (level_of level) a b ≡ nodes_joined level a b
+  pub level_joined : (a b : ℕ) → joined_under bus (translated_level level) a b ≡ nodes_joined level a b
   unfolding joined_under nodes_joined
   level_joined a b =
-      ap (λ z. joined z (passing bus (level_of level)) a b) (level_nodes level fit)
+      ap (λ z. joined z (passing bus (translated_level level)) a b) (level_nodes level fit)
       ∙ ap (λ z. joined (places (length level.buses + length level.outlets)) z a b) (level_passing level)
 
   pub joined_places_alike : (a b : ℕ) → a < length level.buses → b < length level.buses → nodes_joined level a b ≡ buses_joined level a b

@@ -4,8 +4,10 @@ pub mod Hanging
 pub mod Joined
 pub mod Grouped
 pub mod Counted
-pub mod Seeing
+pub mod Viewing
 pub mod Placed
 pub mod Breakers
 pub mod Connecting
 pub mod Parting
+pub mod Flagged
+pub mod Located

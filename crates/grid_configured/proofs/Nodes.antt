@@ -18,7 +18,7 @@ use Rattle.grid_level.specs.VoltageLevel.{VoltageLevel}
 use Rattle.grid_level.specs.Passing.{Edge, bus, switch_edge, internal_edge, edges, ends, both, with_node, rising, named, nodes, is_rising, is_busbar, passing, switch_passes, passes_closed}
 use Rattle.grid_level.proofs.Coding.{rising_self}
 use Rattle.grid_configured.specs.Places.{Joint, Outlet, PlacedLevel, PlacesFit, closed_pairs}
-use Rattle.grid_configured.specs.Translation.{joint_breaker, outlet_breaker, bus_section, outlet_placed, outlets_at, level_of}
+use Rattle.grid_configured.specs.Translation.{joint_breaker, outlet_breaker, bus_section, outlet_placed, outlets_at, translated_level}
 
 -- ---- ranges
 
@@ -93,8 +93,8 @@ map_alike f g same (x ∷ xs) = ap (λ y. y ∷ map f xs) (same x) ∙ ap (λ z.
 
 -- ---- the nodes of a level
 
-node_numbers : (level : PlacedLevel) → map (λ (p : Placed). p.node) (level_of level).placed ≡ places (length level.buses + length level.outlets)
-unfolding level_of outlets_at bus_section outlet_placed places
+node_numbers : (level : PlacedLevel) → map (λ (p : Placed). p.node) (translated_level level).placed ≡ places (length level.buses + length level.outlets)
+unfolding translated_level outlets_at bus_section outlet_placed places
 node_numbers level =
     map-append (λ (p : Placed). p.node) (map bus_section (enumerate_from 0 level.buses)) (map outlet_placed (enumerate_from (length level.buses) level.outlets))
     ∙ ap (λ z. z ++ map (λ (p : Placed). p.node) (map outlet_placed (enumerate_from (length level.buses) level.outlets)))
@@ -146,8 +146,8 @@ module _ (level : PlacedLevel) (fit : PlacesFit level) where
   pub placed_under : PlacedUnder (length level.buses) level.outlets
   placed_under = placed_from (length level.buses) level.outlets fit.outlets
 
-  pub ends_under : EndsUnder (length level.buses + length level.outlets) (level_of level).switches
-  unfolding level_of outlets_at
+  pub ends_under : EndsUnder (length level.buses + length level.outlets) (translated_level level).switches
+  unfolding translated_level outlets_at
   ends_under =
       under_join (length level.buses + length level.outlets) (map joint_breaker level.joints) (map outlet_breaker (enumerate_from (length level.buses) level.outlets))
       (joints_under (length level.buses) (length level.buses + length level.outlets) level.joints (omega arith) fit.joints)
@@ -169,8 +169,8 @@ ends_In count (s ∷ ss) h n i = elim (In_parts n (both (ends (switch_edge s))) 
   | inr j ↦ ends_In count ss h.2 n j
 ]
 
-no_internals : (level : PlacedLevel) → map switch_edge (level_of level).switches ++ map internal_edge (level_of level).internals ≡ map switch_edge (level_of level).switches
-unfolding level_of
+no_internals : (level : PlacedLevel) → map switch_edge (translated_level level).switches ++ map internal_edge (translated_level level).internals ≡ map switch_edge (translated_level level).switches
+unfolding translated_level
 no_internals level = append-nil _
 
 places_rise : (count : ℕ) → is_rising (places count) ≡ true
@@ -178,13 +178,13 @@ unfolding places
 places_rise count = range_rises 0 count
 
 -- the nodes are the numbers below the count of buses and terminals
-pub level_nodes : (level : PlacedLevel) → PlacesFit level → nodes (level_of level) ≡ places (length level.buses + length level.outlets)
+pub level_nodes : (level : PlacedLevel) → PlacesFit level → nodes (translated_level level) ≡ places (length level.buses + length level.outlets)
 unfolding nodes named edges
 level_nodes level fit =
-    ap (λ z. rising (z ++ map (λ (p : Placed). p.node) (level_of level).placed)) (ap (flat_map (λ e. both (ends e))) (no_internals level))
-    ∙ ap (λ z. rising (flat_map (λ e. both (ends e)) (map switch_edge (level_of level).switches) ++ z)) (node_numbers level)
-    ∙ rising_known (flat_map (λ e. both (ends e)) (map switch_edge (level_of level).switches)) (places (length level.buses + length level.outlets)) (places_rise (length level.buses + length level.outlets))
-    (λ n i. In_places n (length level.buses + length level.outlets) (ends_In (length level.buses + length level.outlets) (level_of level).switches (ends_under level fit) n i))
+    ap (λ z. rising (z ++ map (λ (p : Placed). p.node) (translated_level level).placed)) (ap (flat_map (λ e. both (ends e))) (no_internals level))
+    ∙ ap (λ z. rising (flat_map (λ e. both (ends e)) (map switch_edge (translated_level level).switches) ++ z)) (node_numbers level)
+    ∙ rising_known (flat_map (λ e. both (ends e)) (map switch_edge (translated_level level).switches)) (places (length level.buses + length level.outlets)) (places_rise (length level.buses + length level.outlets))
+    (λ n i. In_places n (length level.buses + length level.outlets) (ends_In (length level.buses + length level.outlets) (translated_level level).switches (ends_under level fit) n i))
 
 -- ---- what passes
 
@@ -219,8 +219,8 @@ outlets_pass es =
     ∙ ap (map (λ (e : ℕ × Outlet). (e.1.place, e.0))) (filter_alike (λ j. switch_passes bus (outlet_breaker j)) (λ (e : ℕ × Outlet). e.1.connected) (λ e. not_not e.1.connected) es)
 
 -- the closed switches between buses, and the breakers of the connected terminals
-pub level_passing : (level : PlacedLevel) → passing bus (level_of level) ≡ closed_pairs level ++ spokes level
-unfolding passing level_of closed_pairs spokes
+pub level_passing : (level : PlacedLevel) → passing bus (translated_level level) ≡ closed_pairs level ++ spokes level
+unfolding passing translated_level closed_pairs spokes
 level_passing level =
     append-nil (map (λ s. ends (switch_edge s)) (filter (switch_passes bus) (map joint_breaker level.joints ++ map outlet_breaker (outlets_at level))))
     ∙ ap (map (λ s. ends (switch_edge s))) (filter-append (switch_passes bus) (map joint_breaker level.joints) (map outlet_breaker (outlets_at level)))

@@ -22,7 +22,7 @@ use Rattle.grid_connect.specs.declared.DisconnectPlan.{DisconnectPlan}
 use Rattle.grid_connect.specs.declared.DisconnectPlan.TheVariants.{Opens, AlreadyDisconnected, NoBreaker}
 use Rattle.grid_connect.proofs.Leaving.{disconnect_yes, disconnect_no, breaks, opens}
 use Rattle.grid_configured.specs.Places.{Joint, Outlet, PlacedLevel, PlacesFit}
-use Rattle.grid_configured.specs.Translation.{joint_breaker, outlet_breaker, bus_section, outlet_placed, outlets_at, level_of}
+use Rattle.grid_configured.specs.Translation.{joint_breaker, outlet_breaker, bus_section, outlet_placed, outlets_at, translated_level}
 use Rattle.grid_configured.proofs.Nodes.{StandsWell, level_nodes, filter_map_of}
 use Rattle.grid_configured.proofs.Hanging.{absent}
 use Rattle.grid_configured.proofs.Joined.{node_total}
@@ -37,8 +37,8 @@ none_kept : {X : Type 0} (p : X → Bool) → ((x : X) → p x ≡ false) → (x
 none_kept p none [] = refl
 none_kept p none (x ∷ xs) = ap (λ t. cond t (x ∷ filter p xs) (filter p xs)) (none x) ∙ none_kept p none xs
 
-no_core : (level : PlacedLevel) → passing core (level_of level) ≡ []
-unfolding passing level_of switch_passes passes_closed is_operable is_breaker joint_breaker outlet_breaker
+no_core : (level : PlacedLevel) → passing core (translated_level level) ≡ []
+unfolding passing translated_level switch_passes passes_closed is_operable is_breaker joint_breaker outlet_breaker
 no_core level =
     append-nil (map (λ s. ends (switch_edge s)) (filter (switch_passes core) (map joint_breaker level.joints ++ map outlet_breaker (outlets_at level))))
     ∙ ap (map (λ s. ends (switch_edge s)))
@@ -58,15 +58,15 @@ within_none (suc k) a b = by (eqb a b)
     by false = refl
 
 module _ (level : PlacedLevel) (fit : PlacesFit level) where
-  core_joined : (a b : ℕ) → joined_under core (level_of level) a b ≡ eqb a b
+  core_joined : (a b : ℕ) → joined_under core (translated_level level) a b ≡ eqb a b
   unfolding joined_under joined
-  core_joined a b = ap (λ z. within z (length (nodes (level_of level))) a b) (no_core level) ∙ within_none (length (nodes (level_of level))) a b
+  core_joined a b = ap (λ z. within z (length (nodes (translated_level level))) a b) (no_core level) ∙ within_none (length (nodes (translated_level level))) a b
 
-  in_core : (a n : ℕ) → n < node_total level → list_any (eqb n) (core_of (level_of level) a) ≡ eqb a n
+  in_core : (a n : ℕ) → n < node_total level → list_any (eqb n) (core_of (translated_level level) a) ≡ eqb a n
   unfolding core_of
   in_core a n lt =
-      let here : In n (nodes (level_of level)) = (let P : List ℕ → Type 0 = λ z. In n z in subst P (sym (level_nodes level fit)) (In_places n (node_total level) lt)) in
-      In_filtered (joined_under core (level_of level) a) n (nodes (level_of level)) here ∙ core_joined a n
+      let here : In n (nodes (translated_level level)) = (let P : List ℕ → Type 0 = λ z. In n z in subst P (sym (level_nodes level fit)) (In_places n (node_total level) lt)) in
+      In_filtered (joined_under core (translated_level level) a) n (nodes (translated_level level)) here ∙ core_joined a n
 
 -- ---- the switches that leave a node
 
@@ -156,14 +156,14 @@ joints_apart level group count y behind le only js h =
     λ i d lt. let here = h i d lt in (other_place group (length level.buses) count y behind only (get_or js i d).place1 here.0 le, other_place group (length level.buses) count y behind only (get_or js i d).place2 here.1 le)
 
 module _ (level : PlacedLevel) (fit : PlacesFit level) (k : ℕ) (lt : k < length level.outlets) where
-  core_only : Only (core_of (level_of level) (length level.buses + k)) (node_total level) (length level.buses + k)
+  core_only : Only (core_of (translated_level level) (length level.buses + k)) (node_total level) (length level.buses + k)
   unfolding has_node
   core_only = record { has = λ n less. in_core level fit (length level.buses + k) n less }
 
-  own_leaves : (get_or level.outlets k absent).connected ≡ true → leaving (level_of level) (core_of (level_of level) (length level.buses + k)) ≡ (length level.joints + k) ∷ []
-  unfolding leaving level_of outlets_at
+  own_leaves : (get_or level.outlets k absent).connected ≡ true → leaving (translated_level level) (core_of (translated_level level) (length level.buses + k)) ≡ (length level.joints + k) ∷ []
+  unfolding leaving translated_level outlets_at
   own_leaves on =
-      let group = core_of (level_of level) (length level.buses + k) in
+      let group = core_of (translated_level level) (length level.buses + k) in
       let front = map joint_breaker level.joints in
       let back = map outlet_breaker (enumerate_from (length level.buses) level.outlets) in
       let long = length-map level.joints joint_breaker in
@@ -172,21 +172,21 @@ module _ (level : PlacedLevel) (fit : PlacesFit level) (k : ℕ) (lt : k < lengt
       ∙ ap (λ z. z ++ filter (leave group) (enumerate_from (length level.joints) back)) (no_joint_leaves group 0 level.joints (joints_apart level group (node_total level) (length level.buses + k) (omega arith) (omega arith) core_only level.joints fit.joints)))
       ∙ one_left group (length level.buses) (node_total level) (length level.buses + k) (omega arith) core_only (length level.joints) (length level.buses) k level.outlets refl lt on (omega arith) (omega arith) fit.outlets
 
-  own_bar : core_busbar (level_of level) (core_of (level_of level) (length level.buses + k)) ≡ None
+  own_bar : core_busbar (translated_level level) (core_of (translated_level level) (length level.buses + k)) ≡ None
   unfolding core_busbar
   own_bar =
-      ap (find (λ p. is_busbar p.stand)) (standing_only level fit (core_of (level_of level) (length level.buses + k)) (length level.buses + k) (omega arith) (λ n less. in_core level fit (length level.buses + k) n less))
+      ap (find (λ p. is_busbar p.stand)) (standing_only level fit (core_of (translated_level level) (length level.buses + k)) (length level.buses + k) (omega arith) (λ n less. in_core level fit (length level.buses + k) n less))
       ∙ no_bar (filter (λ e. eqb (length level.buses + k) e.0) (outlets_at level)) (All-filter (λ e. eqb (length level.buses + k) e.0) IsFed (outlets_at level) (outlets_fed level fit))
 
   -- a terminal that is connected is disconnected by its own breaker
-  pub disconnect_opens : (get_or level.outlets k absent).connected ≡ true → disconnect_plan_of (level_of level) (length level.buses + k) ≡ Opens ((length level.joints + k) ∷ [])
+  pub disconnect_opens : (get_or level.outlets k absent).connected ≡ true → disconnect_plan_of (translated_level level) (length level.buses + k) ≡ Opens ((length level.joints + k) ∷ [])
   disconnect_opens on =
-      disconnect_yes (level_of level) (length level.buses + k) (node_connected level fit k lt ∙ on)
-      ∙ opens (leaving (level_of level) (core_of (level_of level) (length level.buses + k))) (core_busbar (level_of level) (core_of (level_of level) (length level.buses + k))) own_bar
+      disconnect_yes (translated_level level) (length level.buses + k) (node_connected level fit k lt ∙ on)
+      ∙ opens (leaving (translated_level level) (core_of (translated_level level) (length level.buses + k))) (core_busbar (translated_level level) (core_of (translated_level level) (length level.buses + k))) own_bar
       ∙ ap Opens (own_leaves on)
 
-  pub disconnect_stays : (get_or level.outlets k absent).connected ≡ false → disconnect_plan_of (level_of level) (length level.buses + k) ≡ AlreadyDisconnected
-  disconnect_stays off = disconnect_no (level_of level) (length level.buses + k) (node_connected level fit k lt ∙ off)
+  pub disconnect_stays : (get_or level.outlets k absent).connected ≡ false → disconnect_plan_of (translated_level level) (length level.buses + k) ≡ AlreadyDisconnected
+  disconnect_stays off = disconnect_no (translated_level level) (length level.buses + k) (node_connected level fit k lt ∙ off)
 
 -- ---- a bus
 
@@ -207,10 +207,10 @@ found_first None q p e = absurd (let k : None ≡ Some p = e in cc)
 found_first (Some x) q p e = e
 
 module _ (level : PlacedLevel) (fit : PlacesFit level) (a : ℕ) (lt : a < length level.buses) where
-  bus_bar : (p : Placed) × (core_busbar (level_of level) (core_of (level_of level) a) ≡ Some p)
-  unfolding core_busbar placed_among level_of has_node
+  bus_bar : (p : Placed) × (core_busbar (translated_level level) (core_of (translated_level level) a) ≡ Some p)
+  unfolding core_busbar placed_among translated_level has_node
   bus_bar =
-      let group = core_of (level_of level) a in
+      let group = core_of (translated_level level) a in
       let test : Placed → Bool = λ p. list_any (λ n. eqb p.node n) group in
       let r = section_found group a (node_total level) 0 level.buses (omega arith) (omega (arith, lt)) (omega arith) (record { has = λ n less. in_core level fit a n less }) in
       (r.0, ap (find (λ p. is_busbar p.stand)) (filter-append test (map bus_section (enumerate_from 0 level.buses)) (map outlet_placed (outlets_at level)))
@@ -218,7 +218,7 @@ module _ (level : PlacedLevel) (fit : PlacesFit level) (a : ℕ) (lt : a < lengt
       ∙ found_first (find (λ p. is_busbar p.stand) (filter test (map bus_section (enumerate_from 0 level.buses)))) (find (λ p. is_busbar p.stand) (filter test (map outlet_placed (outlets_at level)))) r.0 r.1)
 
   -- no breaker stands before a bus
-  pub disconnect_bus : (t : Terminal) × (disconnect_plan_of (level_of level) a ≡ NoBreaker t)
+  pub disconnect_bus : (t : Terminal) × (disconnect_plan_of (translated_level level) a ≡ NoBreaker t)
   disconnect_bus =
-      (bus_bar.0.terminal, disconnect_yes (level_of level) a (bus_connected level fit a lt)
-      ∙ breaks (leaving (level_of level) (core_of (level_of level) a)) (core_busbar (level_of level) (core_of (level_of level) a)) bus_bar.0 bus_bar.1)
+      (bus_bar.0.terminal, disconnect_yes (translated_level level) a (bus_connected level fit a lt)
+      ∙ breaks (leaving (translated_level level) (core_of (translated_level level) a)) (core_busbar (translated_level level) (core_of (translated_level level) a)) bus_bar.0 bus_bar.1)

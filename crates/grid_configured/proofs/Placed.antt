@@ -12,7 +12,7 @@ use Rattle.grid_level.specs.declared.Placed.{Placed}
 use Rattle.grid_level.specs.VoltageLevel.{VoltageLevel}
 use Rattle.grid_level.specs.Passing.{bus, nodes, stands_at, is_busbar, carries_busbar, joined_under, is_connected}
 use Rattle.grid_configured.specs.Places.{Outlet, PlacedLevel, PlacesFit}
-use Rattle.grid_configured.specs.Translation.{bus_section, outlet_placed, outlets_at, level_of}
+use Rattle.grid_configured.specs.Translation.{bus_section, outlet_placed, outlets_at, translated_level}
 use Rattle.grid_configured.proofs.Nodes.{level_nodes}
 use Rattle.grid_configured.proofs.Hanging.{absent, outlet_of, outlet_at, outlet_place}
 use Rattle.grid_configured.proofs.Joined.{node_total, nodes_joined, level_joined, joined_hanging, joined_alone, joined_self, any_none}
@@ -46,8 +46,8 @@ no_section n (e ∷ es) h =
     ∙ no_section n es (All-tail IsFed e es h)
 
 module _ (level : PlacedLevel) (fit : PlacesFit level) where
-  carries_parts : (n : ℕ) → carries_busbar (level_of level) n ≡ list_any (carries_at n) (map bus_section (enumerate_from 0 level.buses))
-  unfolding carries_busbar level_of outlets_at
+  carries_parts : (n : ℕ) → carries_busbar (translated_level level) n ≡ list_any (carries_at n) (map bus_section (enumerate_from 0 level.buses))
+  unfolding carries_busbar translated_level outlets_at
   carries_parts n =
       list_any-append (carries_at n) (map bus_section (enumerate_from 0 level.buses)) (map outlet_placed (outlets_at level))
       ∙ ap (λ t. list_any (carries_at n) (map bus_section (enumerate_from 0 level.buses)) || t) (no_section n (outlets_at level) (outlets_fed level fit))
@@ -58,34 +58,34 @@ module _ (level : PlacedLevel) (fit : PlacesFit level) where
       or_nothing false = refl
 
   -- the nodes of buses carry busbar sections
-  pub carries_bus : (n : ℕ) → n < length level.buses → carries_busbar (level_of level) n ≡ true
+  pub carries_bus : (n : ℕ) → n < length level.buses → carries_busbar (translated_level level) n ≡ true
   carries_bus n lt = carries_parts n ∙ section_here n 0 level.buses (omega arith) (omega (arith, lt))
 
   -- and no others do
-  pub carries_none : (n : ℕ) → length level.buses ≤ n → carries_busbar (level_of level) n ≡ false
+  pub carries_none : (n : ℕ) → length level.buses ≤ n → carries_busbar (translated_level level) n ≡ false
   carries_none n le = carries_parts n ∙ section_past n 0 level.buses (omega (arith, le))
 
-  connected_by : (a b : ℕ) → b < length level.buses → nodes_joined level a b ≡ true → is_connected (level_of level) a ≡ true
+  connected_by : (a b : ℕ) → b < length level.buses → nodes_joined level a b ≡ true → is_connected (translated_level level) a ≡ true
   unfolding is_connected
   connected_by a b lt j =
-      let here : In b (nodes (level_of level)) = (let P : List ℕ → Type 0 = λ z. In b z in subst P (sym (level_nodes level fit)) (In_places b (node_total level) (omega (arith, lt)))) in
-      any_of (λ b. carries_busbar (level_of level) b && joined_under bus (level_of level) a b) (nodes (level_of level)) b here
-      (and_from (carries_busbar (level_of level) b) (joined_under bus (level_of level) a b) (carries_bus b lt) (level_joined level fit a b ∙ j))
+      let here : In b (nodes (translated_level level)) = (let P : List ℕ → Type 0 = λ z. In b z in subst P (sym (level_nodes level fit)) (In_places b (node_total level) (omega (arith, lt)))) in
+      any_of (λ b. carries_busbar (translated_level level) b && joined_under bus (translated_level level) a b) (nodes (translated_level level)) b here
+      (and_from (carries_busbar (translated_level level) b) (joined_under bus (translated_level level) a b) (carries_bus b lt) (level_joined level fit a b ∙ j))
 
   -- a bus is connected
-  pub bus_connected : (a : ℕ) → a < length level.buses → is_connected (level_of level) a ≡ true
+  pub bus_connected : (a : ℕ) → a < length level.buses → is_connected (translated_level level) a ≡ true
   bus_connected a lt = connected_by a a lt (joined_self level fit a)
 
-  apart : (y n : ℕ) → length level.buses ≤ y → (outlet_of level y).connected ≡ false → carries_busbar (level_of level) n && joined_under bus (level_of level) y n ≡ false
+  apart : (y n : ℕ) → length level.buses ≤ y → (outlet_of level y).connected ≡ false → carries_busbar (translated_level level) n && joined_under bus (translated_level level) y n ≡ false
   apart y n b off = elim (cases_lt n (length level.buses)) [
-    | inl lt ↦ and_right (carries_busbar (level_of level) n) (joined_under bus (level_of level) y n) (level_joined level fit y n ∙ joined_alone level fit y n b off ∙ ne_eqb y n (λ e. omega (arith, e, b, lt)))
-    | inr le ↦ and_left (carries_busbar (level_of level) n) (joined_under bus (level_of level) y n) (carries_none n le)
+    | inl lt ↦ and_right (carries_busbar (translated_level level) n) (joined_under bus (translated_level level) y n) (level_joined level fit y n ∙ joined_alone level fit y n b off ∙ ne_eqb y n (λ e. omega (arith, e, b, lt)))
+    | inr le ↦ and_left (carries_busbar (translated_level level) n) (joined_under bus (translated_level level) y n) (carries_none n le)
   ]
 
   -- a terminal is connected to a busbar section where it is connected to its bus
-  pub outlet_connected : (y : ℕ) → length level.buses ≤ y → y < node_total level → is_connected (level_of level) y ≡ (outlet_of level y).connected
+  pub outlet_connected : (y : ℕ) → length level.buses ≤ y → y < node_total level → is_connected (translated_level level) y ≡ (outlet_of level y).connected
   unfolding is_connected
   outlet_connected y b lt = elim (cases_Bool (outlet_of level y).connected) [
     | inl on ↦ connected_by y (outlet_of level y).place (outlet_place level fit y b lt) (joined_hanging level fit y b lt on) ∙ sym on
-    | inr off ↦ any_none (λ n. carries_busbar (level_of level) n && joined_under bus (level_of level) y n) (nodes (level_of level)) (λ n i. apart y n b off) ∙ sym off
+    | inr off ↦ any_none (λ n. carries_busbar (translated_level level) n && joined_under bus (translated_level level) y n) (nodes (translated_level level)) (λ n i. apart y n b off) ∙ sym off
   ]

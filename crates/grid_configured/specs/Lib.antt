@@ -1,4 +1,9 @@
+pub mod Names
 pub mod Places
+pub mod Levels
+pub mod Sites
 pub mod Translation
 pub mod Views
-pub mod Seen
+pub mod Viewed
+pub mod Machine
+pub mod Histories

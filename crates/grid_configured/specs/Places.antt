@@ -1,6 +1,6 @@
 -- A level with configured buses as it stands: its switches by the places of the buses that they join, and its terminals by the
 -- places of the buses at which they stand.
-use Rattle.std.specs.Prelude.{ℕ, ℤ, ◌<◌, Bool, false, not, ◌≡◌, List, length, map, filter, All}
+use Rattle.std.specs.Prelude.{ℕ, ℤ, ◌<◌, Bool, false, not, ◌≡◌, List, [], ◌∷◌, length, map, filter, All}
 use Rattle.grid_graph.specs.Joined.{group_of, least_nodes}
 use Rattle.grid_graph.specs.Components.{places}
 use Rattle.grid_level.specs.declared.Terminal.{Terminal}
@@ -45,3 +45,19 @@ joined_places level place = group_of (places (length level.buses)) (closed_pairs
 -- the places that are joined to no lesser one, rising
 unfoldable pub first_places : PlacedLevel → List ℕ
 first_places level = least_nodes (places (length level.buses)) (closed_pairs level)
+
+-- ---- present flags
+
+-- the switches, each in its present position, true for open
+unfoldable pub with_opened : List Joint → List Bool → List Joint
+with_opened (s ∷ rest) (flag ∷ flags) = record s { opened = flag } ∷ with_opened rest flags
+with_opened switches flags = switches
+
+-- the terminals, each as it is at present, true for connected
+unfoldable pub with_connected : List Outlet → List Bool → List Outlet
+with_connected (t ∷ rest) (flag ∷ flags) = record t { connected = flag } ∷ with_connected rest flags
+with_connected outlets flags = outlets
+
+-- the level with the present flags of its switches and terminals
+unfoldable pub stood : PlacedLevel → List Bool → List Bool → PlacedLevel
+stood level opened connected = record level { joints = with_opened level.joints opened; outlets = with_connected level.outlets connected }

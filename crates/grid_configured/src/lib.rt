@@ -2,10 +2,12 @@
 #![tactic(auto)]
 
 mod network;
+mod reply;
 mod view;
 
 pub use network::{
     BusEnd, BusSwitch, BusSwitches, ConfiguredLevel, ConfiguredLevels, ConfiguredLine,
     ConfiguredLines, ConfiguredNetwork, Item, Items,
 };
+pub use reply::ConfiguredReply;
 pub use view::{ConfiguredBus, ConfiguredBuses, ConfiguredView};

@@ -1,66 +1,79 @@
-// A network whose levels have configured buses.
+// Networks whose levels have configured buses.
 
 use grid_ids::{Id, Ids, Seq};
 use grid_kinds::Injection;
 
-/// A switch between two buses of its level, at first open or closed.
-#[derive(Clone, Debug, Drop)]
+/// A switch between two configured buses of its level.
+#[derive(Debug, Drop)]
 pub struct BusSwitch {
     pub id: Id,
+    /// The bus at side 1.
     pub bus1: Id,
+    /// The bus at side 2.
     pub bus2: Id,
+    /// Whether the switch is open at first.
     pub opened: bool,
 }
 
-/// The switches of a level.
+/// Switches between configured buses.
 pub type BusSwitches = Seq<BusSwitch>;
 
-/// An injection that stands at a bus of its level, with one terminal, at first connected or not.
-#[derive(Clone, Debug, Drop)]
+/// An injection at a configured bus of its level.
+#[derive(Debug, Drop)]
 pub struct Item {
     pub id: Id,
+    /// The bus at which its terminal stands.
     pub bus: Id,
+    /// Whether the terminal is connected at first.
     pub connected: bool,
+    /// What is injected: powers in W and var, voltages in V.
     pub item: Injection,
 }
 
-/// The injections of a level.
+/// Injections at configured buses.
 pub type Items = Seq<Item>;
 
-/// An end of a line: a terminal that stands at a bus of a level, at first connected or not.
-#[derive(Clone, Debug, Drop)]
+/// An end of a line at a configured bus.
+#[derive(Debug, Drop)]
 pub struct BusEnd {
+    /// The level of the bus.
     pub level: Id,
+    /// The bus at which the terminal stands.
     pub bus: Id,
+    /// Whether the terminal is connected at first.
     pub connected: bool,
 }
 
-/// A line between two buses, of one level or of two.
-#[derive(Clone, Debug, Drop)]
+/// A line between configured buses of two levels, which may be one level.
+#[derive(Debug, Drop)]
 pub struct ConfiguredLine {
     pub id: Id,
+    /// The end of side 1.
     pub end1: BusEnd,
+    /// The end of side 2.
     pub end2: BusEnd,
 }
 
-/// The lines of a network.
+/// Lines between configured buses.
 pub type ConfiguredLines = Seq<ConfiguredLine>;
 
-/// A voltage level with named buses; its nominal voltage is in V.
-#[derive(Clone, Debug, Drop)]
+/// A level with configured buses: named buses, switches between them, and injections at them.
+#[derive(Debug, Drop)]
 pub struct ConfiguredLevel {
     pub id: Id,
+    /// The nominal voltage, in V.
     pub nominal_v: i64,
+    /// The ids of the buses; a bus's place is its position here.
     pub buses: Ids,
     pub switches: BusSwitches,
     pub items: Items,
 }
 
-/// The levels of a network.
+/// Levels with configured buses.
 pub type ConfiguredLevels = Seq<ConfiguredLevel>;
 
-/// A network of levels with configured buses.
-#[derive(Clone, Debug, Drop)]
+/// A network whose levels have configured buses.
+#[derive(Debug, Drop)]
 pub struct ConfiguredNetwork {
     pub id: Id,
     pub levels: ConfiguredLevels,

@@ -25,9 +25,9 @@ use Rattle.grid_busview.specs.Views.{Fed, is_load, is_generation, is_bus, stand_
 use Rattle.grid_configured.specs.declared.view.ConfiguredBus.{ConfiguredBus}
 use Rattle.grid_configured.specs.declared.view.ConfiguredView.{ConfiguredView}
 use Rattle.grid_configured.specs.Places.{Outlet, PlacedLevel, PlacesFit, closed_pairs, joined_places, first_places}
-use Rattle.grid_configured.specs.Translation.{bus_section, outlet_placed, outlets_at, level_of}
+use Rattle.grid_configured.specs.Translation.{bus_section, outlet_placed, outlets_at, translated_level}
 use Rattle.grid_configured.specs.Views.{connects_among, outlets_among, is_view_bus, outlet_watts, configured_bus, configured_view}
-use Rattle.grid_configured.specs.Seen.{section_total, told_bus, told_view}
+use Rattle.grid_configured.specs.Viewed.{section_total, told_bus, told_view}
 use Rattle.grid_configured.proofs.Nodes.{enumerated, map_map, map_alike, filter_map_of}
 use Rattle.grid_configured.proofs.Joined.{node_total, nodes_joined, buses_joined, places_split, range_bounds, joined_places_alike}
 use Rattle.grid_configured.proofs.Grouped.{filter_same, at_places, at_nodes, sections, feeders, group_is, standing}
@@ -124,7 +124,7 @@ module _ (level : PlacedLevel) (fit : PlacesFit level) where
       ∙ sym (map_map (λ k. slice_index_or level.buses k []) (λ (e : ℕ × List ℕ). e.0) (sections level a))
       ∙ ap (map (λ k. slice_index_or level.buses k [])) (section_places level fit a)
 
-  bus_total : (a : ℕ) → a < length level.buses → section_total (length level.buses) (group_under bus (level_of level) a) ≡ length (sections level a)
+  bus_total : (a : ℕ) → a < length level.buses → section_total (length level.buses) (group_under bus (translated_level level) a) ≡ length (sections level a)
   unfolding section_total joined_places group_of buses_joined
   bus_total a lt =
       let low = places (length level.buses) in
@@ -142,7 +142,7 @@ module _ (level : PlacedLevel) (fit : PlacesFit level) where
       ∙ sum_by-append (λ n. cond (test n) 1 0) (filter (nodes_joined level a) low) (filter (nodes_joined level a) high)
       ∙ omega (arith, one, two, long, whole)
 
-  terminals_are : (a : ℕ) → a < length level.buses → terminals_at (level_of level) (group_under bus (level_of level) a) ≡ map (λ (e : ℕ × List ℕ). (bus_section e).terminal) (sections level a) ++ map (λ (t : Outlet). t.terminal) (outlets_among level (joined_places level a))
+  terminals_are : (a : ℕ) → a < length level.buses → terminals_at (translated_level level) (group_under bus (translated_level level) a) ≡ map (λ (e : ℕ × List ℕ). (bus_section e).terminal) (sections level a) ++ map (λ (t : Outlet). t.terminal) (outlets_among level (joined_places level a))
   unfolding terminals_at outlet_placed
   terminals_are a lt =
       ap (map (λ (p : Placed). p.terminal)) (standing level fit a lt)
@@ -154,37 +154,37 @@ module _ (level : PlacedLevel) (fit : PlacesFit level) where
         ∙ ap (map (λ (t : Outlet). t.terminal)) (outlets_are a))
 
   sum_is : (test : Stand → Bool) → test Busbar ≡ false → (a : ℕ) → a < length level.buses
-      → watts_over test (fed_among (level_of level) (record_watts (level_of level)) (group_under bus (level_of level) a)) ≡ outlet_watts test (outlets_among level (joined_places level a))
+      → watts_over test (fed_among (translated_level level) (record_watts (translated_level level)) (group_under bus (translated_level level) a)) ≡ outlet_watts test (outlets_among level (joined_places level a))
   sum_is test h a lt =
-      ap (watts_over test) (records_fed (level_of level) (group_under bus (level_of level) a))
-      ∙ records_sum test (placed_among (level_of level) (group_under bus (level_of level) a))
+      ap (watts_over test) (records_fed (translated_level level) (group_under bus (translated_level level) a))
+      ∙ records_sum test (placed_among (translated_level level) (group_under bus (translated_level level) a))
       ∙ ap (λ z. fold add_placed (pos 0) (filter (λ (p : Placed). test p.stand) z)) (standing level fit a lt)
       ∙ group_sum test h (sections level a) (feeders level a)
       ∙ ap (outlet_watts test) (outlets_are a)
 
-  bus_told : (a : ℕ) → a < length level.buses → told_bus (length level.buses) (bus_of (level_of level) (record_watts (level_of level)) a) ≡ configured_bus level a
+  bus_told : (a : ℕ) → a < length level.buses → told_bus (length level.buses) (bus_of (translated_level level) (record_watts (translated_level level)) a) ≡ configured_bus level a
   unfolding told_bus bus_of configured_bus is_load is_generation bus_section
   bus_told a lt =
-      let k = section_total (length level.buses) (group_under bus (level_of level) a) in
+      let k = section_total (length level.buses) (group_under bus (translated_level level) a) in
       let own = map (λ (e : ℕ × List ℕ). (bus_section e).terminal) (sections level a) in
       let others = map (λ (t : Outlet). t.terminal) (outlets_among level (joined_places level a)) in
       let long : length own ≡ k = length-map (sections level a) (λ (e : ℕ × List ℕ). (bus_section e).terminal) ∙ sym (bus_total a lt) in
-      let front : map (λ (t : Terminal). t.equipment) (take k (terminals_at (level_of level) (group_under bus (level_of level) a))) ≡ map (λ k. slice_index_or level.buses k []) (joined_places level a)
+      let front : map (λ (t : Terminal). t.equipment) (take k (terminals_at (translated_level level) (group_under bus (translated_level level) a))) ≡ map (λ k. slice_index_or level.buses k []) (joined_places level a)
       = ap (λ z. map (λ (t : Terminal). t.equipment) (take k z)) (terminals_are a lt)
       ∙ ap (map (λ (t : Terminal). t.equipment)) (take_at own others k long)
       ∙ map_map (λ (t : Terminal). t.equipment) (λ (e : ℕ × List ℕ). (bus_section e).terminal) (sections level a)
       ∙ buses_are a in
-      let back : drop k (terminals_at (level_of level) (group_under bus (level_of level) a)) ≡ others = ap (drop k) (terminals_are a lt) ∙ drop_at own others k long in
+      let back : drop k (terminals_at (translated_level level) (group_under bus (translated_level level) a)) ≡ others = ap (drop k) (terminals_are a lt) ∙ drop_at own others k long in
       let load = sum_is is_load refl a lt in
       let generation = sum_is is_generation refl a lt in
       rw (front, back, load, generation) refl
 
   -- the view of the node/breaker form tells the configured view
-  pub view_told : told_view (length level.buses) (bus_view_of (level_of level) (record_watts (level_of level))) ≡ configured_view level
-  unfolding told_view bus_view_of configured_view level_of first_places least_nodes
+  pub view_told : told_view (length level.buses) (bus_view_of (translated_level level) (record_watts (translated_level level))) ≡ configured_view level
+  unfolding told_view bus_view_of configured_view translated_level first_places least_nodes
   view_told =
       ap (λ (z : List ConfiguredBus). record { level = level.id; buses = z })
-      (map_map (told_bus (length level.buses)) (bus_of (level_of level) (record_watts (level_of level))) (filter (is_bus (level_of level)) (leaders bus (level_of level)))
-      ∙ ap (map (λ a. told_bus (length level.buses) (bus_of (level_of level) (record_watts (level_of level)) a))) (view_places level fit)
-      ∙ map_In (λ a. told_bus (length level.buses) (bus_of (level_of level) (record_watts (level_of level)) a)) (configured_bus level) (filter (is_view_bus level) (first_places level))
+      (map_map (told_bus (length level.buses)) (bus_of (translated_level level) (record_watts (translated_level level))) (filter (is_bus (translated_level level)) (leaders bus (translated_level level)))
+      ∙ ap (map (λ a. told_bus (length level.buses) (bus_of (translated_level level) (record_watts (translated_level level)) a))) (view_places level fit)
+      ∙ map_In (λ a. told_bus (length level.buses) (bus_of (translated_level level) (record_watts (translated_level level)) a)) (configured_bus level) (filter (is_view_bus level) (first_places level))
         (λ n i. bus_told n (places_In n (length level.buses) (filter_In (is_least (places (length level.buses)) (closed_pairs level)) n (places (length level.buses)) (filter_In (is_view_bus level) n (first_places level) i)))))
