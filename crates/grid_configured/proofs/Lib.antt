@@ -11,3 +11,5 @@ pub mod Connecting
 pub mod Parting
 pub mod Flagged
 pub mod Located
+pub mod Rows
+pub mod Mirrored

@@ -5,5 +5,6 @@ pub mod Sites
 pub mod Translation
 pub mod Views
 pub mod Viewed
+pub mod Told
 pub mod Machine
 pub mod Histories
