@@ -13,3 +13,4 @@ pub mod Flagged
 pub mod Located
 pub mod Rows
 pub mod Mirrored
+pub mod Plugged
