@@ -48,7 +48,7 @@ outlets_flagged at [] (f ∷ flags) e = absurd (omega (arith, e))
 outlets_flagged at (t ∷ ts) [] e = absurd (omega (arith, e))
 outlets_flagged at (t ∷ ts) (f ∷ flags) e = ap (λ z. outlet_breaker (at, record t { connected = f }) ∷ z) (outlets_flagged (at + 1) ts flags (omega (arith, e)))
 
-placed_flagged : (at : ℕ) (ts : List Outlet) (flags : List Bool) → map outlet_placed (enumerate_from at (with_connected ts flags)) ≡ map outlet_placed (enumerate_from at ts)
+pub placed_flagged : (at : ℕ) (ts : List Outlet) (flags : List Bool) → map outlet_placed (enumerate_from at (with_connected ts flags)) ≡ map outlet_placed (enumerate_from at ts)
 unfolding with_connected outlet_placed
 placed_flagged at [] flags = refl
 placed_flagged at (t ∷ ts) [] = refl

@@ -14,3 +14,6 @@ pub mod Located
 pub mod Rows
 pub mod Mirrored
 pub mod Plugged
+pub mod Buses
+pub mod Asked
+pub mod Looking

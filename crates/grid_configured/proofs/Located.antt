@@ -40,7 +40,7 @@ position_front p f [] ys none = none_position p ys none
 position_front p f (x ∷ xs) ys none =
     position-cons p (f x) (map f xs ++ ys) ∙ ap (λ z. cond (p (f x)) (Some 0) (option_map suc z)) (position_front p f xs ys none) ∙ sym (position-cons (λ x. p (f x)) x xs)
 
-found_mapped : {X Y B : Type 0} (at : ℕ) (test : Y → Option B) (f : X → Y) (xs : List X) → first_found at test (map f xs) ≡ first_found at (λ x. test (f x)) xs
+pub found_mapped : {X Y B : Type 0} (at : ℕ) (test : Y → Option B) (f : X → Y) (xs : List X) → first_found at test (map f xs) ≡ first_found at (λ x. test (f x)) xs
 found_mapped at test f [] = refl
 found_mapped {X} {Y} {B} at test f (x ∷ xs) = by (test (f x)) (found_mapped (at + 1) test f xs)
   where
@@ -60,7 +60,7 @@ found_alike {X} {B} at one two same (x ∷ xs) = by (one x) (two x) (same x) (fo
     by None (Some z) e rest = absurd (some_none z e)
     by None None e rest = rest
 
-has_join : (xs ys : List (List ℕ)) (id : List ℕ) → has_id (xs ++ ys) id ≡ (has_id xs id || has_id ys id)
+pub has_join : (xs ys : List (List ℕ)) (id : List ℕ) → has_id (xs ++ ys) id ≡ (has_id xs id || has_id ys id)
 unfolding has_id
 has_join xs ys id = list_any-append (same_id id) xs ys
 
@@ -220,7 +220,7 @@ sides_found network id none =
 -- ---- terminals
 
 -- what finds a terminal of an equipment
-pub placed_test : List ℕ → ℕ → Placed → Bool
+unfoldable pub placed_test : List ℕ → ℕ → Placed → Bool
 placed_test id side p = same_id id p.terminal.equipment && eqb p.terminal.side side
 
 found_bus : (id : List ℕ) (side at : ℕ) (buses : List (List ℕ)) → has_id buses id ≡ false → find (placed_test id side) (map bus_section (enumerate_from at buses)) ≡ None
@@ -328,19 +328,22 @@ sited_from id side from (l ∷ ls) none =
           site = ap (λ z. Some (from, z)) same ∙ ap (λ z. Some (z, length l.buses + k)) zero_more;
         })
 
-buses_from : (network : ConfiguredNetwork) (ls : List ConfiguredLevel) → flat_map (λ (l : PlacedLevel). l.buses) (map (placed_level network) ls) ≡ flat_map (λ l. l.buses) ls
+pub buses_from : (network : ConfiguredNetwork) (ls : List ConfiguredLevel) → flat_map (λ (l : PlacedLevel). l.buses) (map (placed_level network) ls) ≡ flat_map (λ l. l.buses) ls
 unfolding placed_level
 buses_from network [] = refl
 buses_from network (l ∷ ls) = ap (λ z. l.buses ++ z) (buses_from network ls)
 
+pub site_is : (network : ConfiguredNetwork) (id : List ℕ) (side : ℕ) → sites.site (translated network) id side ≡ first_found 0 (level_test id side) (placed_levels network)
+unfolding sites.site placed_test
+site_is network id side =
+    ap (first_found 0 (λ (l : VoltageLevel). option_map (λ p. p.node) (find (placed_test id side) l.placed))) (levels_are network)
+    ∙ found_mapped 0 (λ (l : VoltageLevel). option_map (λ p. p.node) (find (placed_test id side) l.placed)) translated_level (placed_levels network)
+
 -- a terminal of an id that no bus has is at its node
 pub sited : (network : ConfiguredNetwork) (id : List ℕ) (side : ℕ) → has_id (bus_ids network) id ≡ false
     → ((find_outlet network id side ≡ None) × (sites.site (translated network) id side ≡ None)) ⊎ IsAt (placed_levels network) 0 id side (find_outlet network id side) (sites.site (translated network) id side)
-unfolding find_outlet sites.site bus_ids placed_levels placed_test
+unfolding find_outlet bus_ids placed_levels
 sited network id side none =
     let ls = placed_levels network in
-    let moved : sites.site (translated network) id side ≡ first_found 0 (level_test id side) ls
-    = ap (first_found 0 (λ (l : VoltageLevel). option_map (λ p. p.node) (find (placed_test id side) l.placed))) (levels_are network)
-    ∙ found_mapped 0 (λ (l : VoltageLevel). option_map (λ p. p.node) (find (placed_test id side) l.placed)) translated_level ls in
     let P : Option (ℕ × ℕ) → Type 0 = λ z. ((find_outlet network id side ≡ None) × (z ≡ None)) ⊎ IsAt ls 0 id side (find_outlet network id side) z in
-    subst P (sym moved) (sited_from id side 0 ls (ap (λ z. has_id z id) (buses_from network network.levels) ∙ none))
+    subst P (sym (site_is network id side)) (sited_from id side 0 ls (ap (λ z. has_id z id) (buses_from network network.levels) ∙ none))

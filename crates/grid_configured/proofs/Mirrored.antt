@@ -50,8 +50,6 @@ pub record NetworkFits (network : ConfiguredNetwork) : Type 0 where
 pub record Mirrors (network : ConfiguredNetwork) (state : State) (flags : Flags) : Type 0 where
   pub structure : state.structure ≡ translated network
   pub opened : state.opened ≡ joined_rows flags.opened flags.connected
-  pub retained : state.retained ≡ record_rows (λ s. s.retained) (translated network)
-  pub powers : state.powers ≡ []
   pub switches_fit : map length flags.opened ≡ map (λ l. length l.joints) (placed_levels network)
   pub terminals_fit : map length flags.connected ≡ map (λ l. length l.outlets) (placed_levels network)
 
@@ -75,8 +73,6 @@ unfolding solo.opening opening record_rows
 opening_mirrors network = record {
   structure = refl;
   opened = ap (map (λ (l : VoltageLevel). map (λ s. s.opened) l.switches)) (levels_are network) ∙ map_map' (placed_levels network) ∙ record_flags (placed_levels network);
-  retained = refl;
-  powers = refl;
   switches_fit = record_length (λ l. l.joints) (λ s. s.opened) (placed_levels network);
   terminals_fit = record_length (λ l. l.outlets) (λ t. t.connected) (placed_levels network);
 }
@@ -120,8 +116,6 @@ module _ (network : ConfiguredNetwork) (state : State) (flags : Flags) (m : Mirr
   put_switch p k b lt less here = record {
     structure = m.structure;
     opened = ap (λ z. with_flag z p k b) m.opened ∙ put_first flags.opened flags.connected p k b lt less here;
-    retained = m.retained;
-    powers = m.powers;
     switches_fit = length_flagged flags.opened p k b ∙ m.switches_fit;
     terminals_fit = m.terminals_fit;
   }

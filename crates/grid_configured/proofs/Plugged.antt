@@ -98,8 +98,6 @@ module _ (network : ConfiguredNetwork) (fits : NetworkFits network) (state : Sta
         record {
           structure = m.structure;
           opened = ap (λ z. with_flag z p (length now.joints + k) (not b)) m.opened ∙ put_second flags.opened flags.connected p k (length now.joints + k) b r.0 r.1 now_place;
-          retained = m.retained;
-          powers = m.powers;
           switches_fit = m.switches_fit;
           terminals_fit = length_flagged flags.connected p k b ∙ m.terminals_fit;
         }

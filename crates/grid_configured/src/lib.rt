@@ -6,8 +6,8 @@ mod reply;
 mod view;
 
 pub use network::{
-    BusEnd, BusSwitch, BusSwitches, ConfiguredLevel, ConfiguredLevels, ConfiguredLine,
-    ConfiguredLines, ConfiguredNetwork, Item, Items,
+    BusEnd, BusSwitch, BusSwitches, ConfiguredJob, ConfiguredLevel, ConfiguredLevels,
+    ConfiguredLine, ConfiguredLines, ConfiguredNetwork, Item, Items,
 };
 pub use reply::ConfiguredReply;
 pub use view::{ConfiguredBus, ConfiguredBuses, ConfiguredView};

@@ -1,6 +1,8 @@
 // Networks whose levels have configured buses.
 
+use grid_core::Scripts;
 use grid_ids::{Id, Ids, Seq};
+use grid_json::Order;
 use grid_kinds::Injection;
 
 /// A switch between two configured buses of its level.
@@ -78,4 +80,12 @@ pub struct ConfiguredNetwork {
     pub id: Id,
     pub levels: ConfiguredLevels,
     pub lines: ConfiguredLines,
+}
+
+/// A network with configured buses, the scripts of its workers, and the order of their steps, where one is given.
+#[derive(Drop)]
+pub struct ConfiguredJob {
+    pub network: ConfiguredNetwork,
+    pub scripts: Scripts,
+    pub order: Option<Order>,
 }
