@@ -17,3 +17,4 @@ pub mod Plugged
 pub mod Buses
 pub mod Asked
 pub mod Looking
+pub mod Checked
