@@ -9,10 +9,10 @@ use Rattle.std.proofs.lemmas.Option.{slice_get-get_or}
 use Rattle.std.proofs.lemmas.Slice.Eq.{bytes_eq-Decides}
 use Rattle.grid_ids.specs.Name.{same_id, has_id}
 use Rattle.grid_ids.specs.Refusing.{refuse_if, refuse_by, found_or}
+use Rattle.grid_level.specs.declared.Stand.TheVariants.{BranchEnd}
 use Rattle.grid_level.specs.Passing.{is_busbar}
 use Rattle.grid_structure.proofs.Counts.{times, times-append, not_there, there}
-use Rattle.grid_structure.proofs.Places.{position_none}
-use Rattle.grid_structure.proofs.Places as found
+use Rattle.grid_structure.proofs.Places.{position_none, position_found}
 use Rattle.grid_paths.proofs.Least.{some_same, some_none}
 use Rattle.grid_json.specs.declared.fault.Fault.{Fault}
 use Rattle.grid_json.specs.Reading.{◌>>=◌, here, under}
@@ -230,3 +230,178 @@ buses_apart n right id h =
     let no_items = absent_by id (flat_map (λ l. map (λ i. i.id) l.items) n.levels) (omega (arith, most, all, spread, some)) in
     let no_lines = absent_by id (map (λ l. l.id) n.lines) (omega (arith, most, all, spread, some)) in
     rw (no_items, no_lines) refl
+
+-- ---- places of buses
+
+bus_there : (buses : List (List ℕ)) (id : List ℕ) → has_id buses id ≡ true → bus_place buses id < length buses
+unfolding bus_place has_id
+bus_there buses id h = by (position (same_id id) buses) refl
+  where
+    by : (o : Option ℕ) → position (same_id id) buses ≡ o → unwrap_or o 0 < length buses
+    by None e = absurd (true≢false (sym h ∙ position_none (same_id id) buses e))
+    by (Some k) e = (position_found (same_id id) buses k e).0
+
+-- both buses of a switch are there
+SwitchStands : List (List ℕ) → BusSwitch → Type 0
+SwitchStands buses s = (has_id buses s.bus1 ≡ true) × (has_id buses s.bus2 ≡ true)
+
+switch_stands : (ids buses : List (List ℕ)) (count : ℕ) (earlier : List BusSwitch) (s : BusSwitch) → switch_check ids buses count earlier s ≡ Ok tt → SwitchStands buses s
+unfolding switch_check switch_reasons buses_reasons SwitchStands
+switch_stands ids buses count earlier s h =
+    let one = right_first (id_reasons _) _ tt h in
+    let two = right_first (buses_reasons (has_id buses s.bus1 && has_id buses s.bus2) (same_id s.bus1 s.bus2)) _ tt one.2 in
+    let three = right_first (refuse_if (not (has_id buses s.bus1 && has_id buses s.bus2)) _) _ tt two.1 in
+    and_parts (has_id buses s.bus1) (has_id buses s.bus2) (not-false (has_id buses s.bus1 && has_id buses s.bus2) (not_refused (not (has_id buses s.bus1 && has_id buses s.bus2)) _ _ three.1))
+
+ItemStands : List (List ℕ) → Item → Type 0
+ItemStands buses t = has_id buses t.bus ≡ true
+
+item_stands : (ids buses : List (List ℕ)) (nodes edges count : ℕ) (earlier : List Item) (t : Item) → item_check ids buses nodes edges count earlier t ≡ Ok tt → ItemStands buses t
+unfolding item_check item_reasons ItemStands
+item_stands ids buses nodes edges count earlier t h =
+    let one = right_first (id_reasons _) _ tt h in
+    let two = right_first (refuse_if (not (has_id buses t.bus)) _) _ tt one.2 in
+    not-false (has_id buses t.bus) (not_refused (not (has_id buses t.bus)) _ _ two.1)
+
+-- an end's level is there, and has its bus
+record EndStands (levels : List ConfiguredLevel) (e : BusEnd) : Type 0 where
+  level : ConfiguredLevel
+  found : checks.level_of levels e.level ≡ Some level
+  there : has_id level.buses e.bus ≡ true
+
+found_right : {A : Type 0} (o : Option A) (f : Fault) (x : A) → found_or o f ≡ Ok x → o ≡ Some x
+found_right None f x h = absurd (let k : Err f ≡ Ok x = h in cc)
+found_right (Some y) f x h = let k : Ok y ≡ Ok x = h in cc
+
+end_stands : (levels : List ConfiguredLevel) (earlier : List BusEnd) (e : BusEnd) → end_check levels earlier e ≡ Ok tt → EndStands levels e
+unfolding end_check end_reasons
+end_stands levels earlier e h =
+    let one = right_first (found_or (checks.level_of levels e.level) _) _ tt h in
+    let two = right_first (refuse_if (not (has_id one.0.buses e.bus)) _) _ tt one.2 in
+    record {
+      level = one.0;
+      found = found_right (checks.level_of levels e.level) _ one.0 one.1;
+      there = not-false (has_id one.0.buses e.bus) (not_refused (not (has_id one.0.buses e.bus)) _ _ two.1);
+    }
+
+record LineStands (levels : List ConfiguredLevel) (line : ConfiguredLine) : Type 0 where
+  first : EndStands levels line.end1
+  second : EndStands levels line.end2
+
+line_stands : (levels : List ConfiguredLevel) (earlier : List ConfiguredLine) (line : ConfiguredLine) → line_check levels earlier line ≡ Ok tt → LineStands levels line
+unfolding line_check
+line_stands levels earlier line h =
+    let one = right_first (id_reasons _) _ tt h in
+    let two = right_first (end_check levels (checks.line_ends earlier) line.end1) _ tt one.2 in
+    record { first = end_stands levels (checks.line_ends earlier) line.end1 two.1; second = end_stands levels (checks.line_ends earlier ++ line.end1 ∷ []) line.end2 two.2 }
+
+-- what a level's switches and injections name is there
+record LevelStands (l : ConfiguredLevel) : Type 0 where
+  switches : All (SwitchStands l.buses) l.switches
+  items : All (ItemStands l.buses) l.items
+
+level_stands : (earlier : List ConfiguredLevel) (l : ConfiguredLevel) → level_check earlier l ≡ Ok tt → LevelStands l
+level_stands earlier l h =
+    let right = (level_right earlier l h).parts in
+    let ids = ids_of earlier ++ l.id ∷ [] in
+    let count = checks.switch_total earlier in
+    record {
+      switches = each_right (switch_check (ids ++ l.buses) l.buses count) (SwitchStands l.buses) (switch_stands (ids ++ l.buses) l.buses count) [] 0 l.switches right.switches;
+      items = each_right (item_check (ids ++ (l.buses ++ map (λ s. s.id) l.switches)) l.buses (length l.buses) (length l.switches) (count + length l.switches)) (ItemStands l.buses)
+          (item_stands (ids ++ (l.buses ++ map (λ s. s.id) l.switches)) l.buses (length l.buses) (length l.switches) (count + length l.switches)) [] 0 l.items right.items;
+    }
+
+-- ---- one level of an id
+
+times_levels : (q : List ℕ) (ls : List ConfiguredLevel) → times q (map (λ l. l.id) ls) ≤ times q (ids_of ls)
+unfolding level_ids
+times_levels q [] = omega arith
+times_levels q (l ∷ ls) =
+    let rest = times_levels q ls in
+    let a = times-append q (l.id ∷ (l.buses ++ (map (λ s. s.id) l.switches ++ map (λ t. t.id) l.items))) (ids_of ls) in
+    omega (arith, rest, a)
+
+there_at : (ls : List ConfiguredLevel) (k : ℕ) (l : ConfiguredLevel) → slice_get ls k ≡ Some l → 1 ≤ times l.id (map (λ l. l.id) ls)
+there_at [] k l e = absurd (some_none l e)
+there_at (x ∷ ls) zero l e =
+    let same : x ≡ l = some_same x l e in
+    let here : same_id l.id x.id ≡ true = (bytes_eq-Decides l.id x.id).1 (ap (λ (z : ConfiguredLevel). z.id) (sym same)) in
+    let one : ◌≡◌ {A = ℕ} (cond (same_id l.id x.id) 1 0) 1 = ap (λ t. cond t 1 0) here in
+    omega (arith, one)
+there_at (x ∷ ls) (suc k) l e = let rest = there_at ls k l e in omega (arith, rest)
+
+found_by : (x l m : ConfiguredLevel) (rest : Option ConfiguredLevel) (count : ℕ) (t : Bool) → cond t 1 0 + count ≤ 1 → 1 ≤ count → cond t (Some x) rest ≡ Some m → (count ≤ 1 → rest ≡ Some m → m ≡ l) → m ≡ l
+found_by x l m rest count true most some f next = absurd (omega (arith, most, some))
+found_by x l m rest count false most some f next = next (omega (arith, most)) f
+
+found_at : (ls : List ConfiguredLevel) (k : ℕ) (l m : ConfiguredLevel) → times l.id (map (λ l. l.id) ls) ≤ 1 → slice_get ls k ≡ Some l → find (λ x. same_id l.id x.id) ls ≡ Some m → m ≡ l
+found_at [] k l m once e f = absurd (some_none l e)
+found_at (x ∷ ls) zero l m once e f =
+    let same : x ≡ l = some_same x l e in
+    let here : same_id l.id x.id ≡ true = (bytes_eq-Decides l.id x.id).1 (ap (λ (z : ConfiguredLevel). z.id) (sym same)) in
+    some_same m l (sym f ∙ ap (λ t. cond t (Some x) (find (λ x. same_id l.id x.id) ls)) here ∙ ap Some same)
+found_at (x ∷ ls) (suc k) l m once e f =
+    found_by x l m (find (λ x. same_id l.id x.id) ls) (times l.id (map (λ l. l.id) ls)) (same_id l.id x.id) once (there_at ls k l e) f (λ few g. found_at ls k l m few e g)
+
+-- ---- all places fit
+
+joints_well : (l : ConfiguredLevel) (ss : List BusSwitch) → All (SwitchStands l.buses) ss → All (λ (s : Joint). (s.place1 < length l.buses) × (s.place2 < length l.buses)) (map (joint_of l) ss)
+unfolding joint_of SwitchStands
+joints_well l [] h = All-nil (λ (s : Joint). (s.place1 < length l.buses) × (s.place2 < length l.buses))
+joints_well l (s ∷ ss) h =
+    let here = All-head (SwitchStands l.buses) s ss h in
+    All-cons (λ (s : Joint). (s.place1 < length l.buses) × (s.place2 < length l.buses)) (joint_of l s) (map (joint_of l) ss) (bus_there l.buses s.bus1 here.0, bus_there l.buses s.bus2 here.1) (joints_well l ss (All-tail (SwitchStands l.buses) s ss h))
+
+items_well : (l : ConfiguredLevel) (ts : List Item) → All (ItemStands l.buses) ts → All (StandsWell (length l.buses)) (map (item_outlet l) ts)
+unfolding item_outlet ItemStands is_busbar
+items_well l [] h = All-nil (StandsWell (length l.buses))
+items_well l (t ∷ ts) h = All-cons (StandsWell (length l.buses)) (item_outlet l t) (map (item_outlet l) ts) (bus_there l.buses t.bus (All-head (ItemStands l.buses) t ts h), refl) (items_well l ts (All-tail (ItemStands l.buses) t ts h))
+
+module _ (n : ConfiguredNetwork) (right : NetworkRight n) (k : ℕ) (l : ConfiguredLevel) (at : slice_get n.levels k ≡ Some l) where
+  one_level : (m : ConfiguredLevel) → checks.level_of n.levels l.id ≡ Some m → m ≡ l
+  unfolding checks.level_of
+  one_level m f =
+      let most = (network_once n right).most l.id in
+      let all = times-append l.id (ids_of n.levels) (map (λ l. l.id) n.lines) in
+      let levels = times_levels l.id n.levels in
+      found_at n.levels k l m (omega (arith, most, all, levels)) at f
+
+  end_well : (id : List ℕ) (side : ℕ) (e : BusEnd) → EndStands n.levels e → All (StandsWell (length l.buses)) (end_outlets l id side e)
+  unfolding end_outlets is_busbar
+  end_well id side e stands = by (same_id l.id e.level) refl
+    where
+      by : (t : Bool) → same_id l.id e.level ≡ t → All (StandsWell (length l.buses)) (cond t (record { terminal = record { equipment = id; side = side }; place = bus_place l.buses e.bus; connected = e.connected; stand = BranchEnd } ∷ []) [])
+      by true h =
+          let own : l.id ≡ e.level = (bytes_eq-Decides l.id e.level).0 h in
+          let same : stands.level ≡ l = one_level stands.level (ap (checks.level_of n.levels) own ∙ stands.found) in
+          let there : has_id l.buses e.bus ≡ true = (let P : ConfiguredLevel → Type 0 = λ z. has_id z.buses e.bus ≡ true in subst P same stands.there) in
+          All-cons (StandsWell (length l.buses)) _ [] (bus_there l.buses e.bus there, refl) (All-nil (StandsWell (length l.buses)))
+      by false h = All-nil (StandsWell (length l.buses))
+
+  lines_well : (lines : List ConfiguredLine) → All (LineStands n.levels) lines → All (StandsWell (length l.buses)) (flat_map (line_outlets l) lines)
+  unfolding line_outlets
+  lines_well [] h = All-nil (StandsWell (length l.buses))
+  lines_well (line ∷ lines) h =
+      let here = All-head (LineStands n.levels) line lines h in
+      All-append (StandsWell (length l.buses)) (end_outlets l line.id 1 line.end1 ++ end_outlets l line.id 2 line.end2) (flat_map (line_outlets l) lines)
+      (All-append (StandsWell (length l.buses)) (end_outlets l line.id 1 line.end1) (end_outlets l line.id 2 line.end2) (end_well line.id 1 line.end1 here.first) (end_well line.id 2 line.end2 here.second))
+      (lines_well lines (All-tail (LineStands n.levels) line lines h))
+
+  level_fits : LevelStands l → PlacesFit (placed_level n l)
+  unfolding placed_level outlets
+  level_fits stands = record {
+    joints = joints_well l l.switches stands.switches;
+    outlets = All-append (StandsWell (length l.buses)) (map (item_outlet l) l.items) (flat_map (line_outlets l) n.lines) (items_well l l.items stands.items)
+        (lines_well n.lines (each_right (line_check n.levels) (LineStands n.levels) (line_stands n.levels) [] 0 n.lines right.lines));
+  }
+
+-- what each network that can be translated keeps
+pub translatable_fits : (n : ConfiguredNetwork) → network_check n ≡ Ok tt → NetworkFits n
+unfolding placed_levels
+translatable_fits n h =
+    let right = network_right n h in
+    let stand = each_right level_check LevelStands level_stands [] 0 n.levels right.levels in
+    record {
+      places = All-map PlacesFit (placed_level n) n.levels (λ i d lt. level_fits n right i (get_or n.levels i d) (slice_get-get_or n.levels i d lt) (stand i d lt));
+      apart = buses_apart n right;
+    }
