@@ -9,3 +9,4 @@ pub mod Viewed
 pub mod Told
 pub mod Machine
 pub mod Histories
+pub mod Worlds

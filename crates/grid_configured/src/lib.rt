@@ -3,6 +3,7 @@
 
 mod network;
 mod reply;
+mod seeing;
 mod view;
 
 pub use network::{
