@@ -26,7 +26,7 @@ use Rattle.grid_configured.specs.Translation.{translated}
 use Rattle.grid_configured.specs.Sites.{bus_ids, find_level, find_joint, sides}
 use Rattle.grid_configured.specs.Machine.{Flags, Step, opening, refused, switched, outlet_of_side, plugged, machine, after}
 use Rattle.grid_configured.specs.Histories.{lineage, flags_of, variant_reply, reply_on, reply_to, reply, ArePlain}
-use Rattle.grid_configured.specs.Told.{told_reply, told_of_bus}
+use Rattle.grid_configured.specs.Told.{told_reply}
 use Rattle.grid_configured.proofs.Located.{is_marked}
 use Rattle.grid_configured.proofs.Mirrored.{NetworkFits, Mirrors, StepMirrors, opening_mirrors, switch_mirrors}
 use Rattle.grid_configured.proofs.Plugged.{plug_mirrors}

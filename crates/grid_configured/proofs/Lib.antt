@@ -18,3 +18,4 @@ pub mod Buses
 pub mod Asked
 pub mod Looking
 pub mod Checked
+pub mod Running

@@ -33,7 +33,7 @@ use Rattle.grid_configured.specs.Levels.{placed_levels}
 use Rattle.grid_configured.specs.Translation.{translated_level, translated}
 use Rattle.grid_configured.specs.Sites.{bus_ids, is_joint, is_outlet, find_joint, find_outlet, sides}
 use Rattle.grid_configured.specs.Machine.{Flags, Step, opening, refused, switched, already, outlet_of_side, plugged}
-use Rattle.grid_configured.specs.Told.{told_reply, told_of_bus}
+use Rattle.grid_configured.specs.Told.{told_reply}
 use Rattle.grid_configured.proofs.Hanging.{absent}
 use Rattle.grid_configured.proofs.Flagged.{length_opened, length_connected, level_positioned, places_stood, flag_of}
 use Rattle.grid_configured.proofs.Connecting.{connect_closes, connect_stays}

@@ -41,7 +41,7 @@ use Rattle.grid_configured.proofs.Located.{levels_are, sides_found, IsAt, sited}
 use Rattle.grid_configured.proofs.Rows.{joined_row, joined_rows, row_joined, put_second, length_flagged}
 use Rattle.grid_configured.proofs.Mirrored.{NetworkFits, Mirrors, StepMirrors, rows_here}
 
-mapped_at : (ls : List PlacedLevel) (p : ℕ) (l : PlacedLevel) → slice_get ls p ≡ Some l → slice_get (map translated_level ls) p ≡ Some (translated_level l)
+pub mapped_at : (ls : List PlacedLevel) (p : ℕ) (l : PlacedLevel) → slice_get ls p ≡ Some l → slice_get (map translated_level ls) p ≡ Some (translated_level l)
 mapped_at [] p l e = absurd (some_none l e)
 mapped_at (x ∷ ls) zero l e = ap (λ (z : PlacedLevel). Some (translated_level z)) (some_same x l e)
 mapped_at (x ∷ ls) (suc p) l e = mapped_at ls p l e

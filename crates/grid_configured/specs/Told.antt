@@ -1,4 +1,7 @@
 -- Replies of the node/breaker form, told of configured buses.
+use Rattle.std.specs.Prelude.{◌≡◌, ℕ, Bool, true, false, List, IsTrue}
+use Rattle.grid_core.specs.declared.request.Request.{Request}
+use Rattle.grid_core.specs.declared.request.Request.TheVariants as requests
 use Rattle.grid_core.specs.declared.reply.Reply.{Reply}
 use Rattle.grid_core.specs.declared.reply.Reply.TheVariants as replies
 use Rattle.grid_core.specs.declared.reply.Refusal.{Refusal}
@@ -16,7 +19,23 @@ told_reply replies.Overwritten = Overwritten
 told_reply (replies.Refused refusal) = Refused refusal
 told_reply other = Done
 
--- where a terminal of a bus is asked for: a bus has none, whatever its busbar section answers
-unfoldable pub told_of_bus : Reply → ConfiguredReply
-told_of_bus (replies.Refused refusals.NoVariant) = Refused refusals.NoVariant
-told_of_bus other = Refused refusals.NoEquipment
+-- where a terminal of a bus is asked for in a variant that is live or not: a bus has none
+unfoldable pub bus_refusal : Bool → ConfiguredReply
+bus_refusal true = Refused refusals.NoEquipment
+bus_refusal false = Refused refusals.NoVariant
+
+-- a request that connects or disconnects a terminal of this equipment
+abbrev pub IsTerminalAsked : List ℕ → Request → Type 0
+IsTerminalAsked id (requests.Connect asked side) = id ≡ asked
+IsTerminalAsked id (requests.Disconnect asked side) = id ≡ asked
+IsTerminalAsked id other = ⊥
+
+-- neither that nor a request for a view
+unfoldable pub is_passed : Request → Bool
+is_passed (requests.Connect id side) = false
+is_passed (requests.Disconnect id side) = false
+is_passed (requests.BusView level) = false
+is_passed other = true
+
+abbrev pub IsPassed : Request → Type 0
+IsPassed request = IsTrue (is_passed request)

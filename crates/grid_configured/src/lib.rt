@@ -4,11 +4,15 @@
 mod network;
 mod reply;
 mod seeing;
+mod translation;
 mod view;
+mod world;
 
 pub use network::{
     BusEnd, BusSwitch, BusSwitches, ConfiguredJob, ConfiguredLevel, ConfiguredLevels,
     ConfiguredLine, ConfiguredLines, ConfiguredNetwork, Item, Items,
 };
 pub use reply::ConfiguredReply;
+pub use translation::translate;
 pub use view::{ConfiguredBus, ConfiguredBuses, ConfiguredView};
+pub use world::ConfiguredWorld;
