@@ -40,9 +40,13 @@ item_ids items = map (λ t. t.id) items
 abbrev pub line_ids : List ConfiguredLine → List (List ℕ)
 line_ids lines = map (λ l. l.id) lines
 
+-- the ids of what stands in a level
+abbrev pub part_ids : ConfiguredLevel → List (List ℕ)
+part_ids l = l.buses ++ (switch_ids l.switches ++ item_ids l.items)
+
 -- the ids of a level and of what stands in it
 unfoldable pub level_ids : ConfiguredLevel → List (List ℕ)
-level_ids l = (l.id ∷ l.buses) ++ (switch_ids l.switches ++ item_ids l.items)
+level_ids l = l.id ∷ part_ids l
 
 abbrev pub ids_of : List ConfiguredLevel → List (List ℕ)
 ids_of levels = flat_map level_ids levels
@@ -88,12 +92,17 @@ bus_reasons taken nodes = do
   _ ← id_reasons taken
   refuse_if (nat_le max_nodes nodes) (here (Load refusals.TooManyNodes))
 
--- one more switch: both buses are there or not, and are one or not
+-- the buses of a switch: both are there or not, and are one or not
+unfoldable pub buses_reasons : Bool → Bool → Result ⊤ Fault
+buses_reasons there same = do
+  _ ← refuse_if (not there) (here NoBus)
+  refuse_if same (here SameBus)
+
+-- one more switch in a level with so many edges, of a network with so many switches
 unfoldable pub switch_reasons : Bool → Bool → Bool → ℕ → ℕ → Result ⊤ Fault
 switch_reasons taken there same edges switches = do
   _ ← id_reasons taken
-  _ ← refuse_if (not there) (here NoBus)
-  _ ← refuse_if same (here SameBus)
+  _ ← buses_reasons there same
   _ ← refuse_if (nat_le max_edges edges) (here (Load refusals.TooManyEdges))
   refuse_if (nat_le max_switches switches) (here (Load refusals.TooManySwitches))
 
@@ -127,12 +136,17 @@ unfoldable pub item_check : List (List ℕ) → List (List ℕ) → ℕ → ℕ 
 item_check ids buses nodes edges switches earlier t =
     item_reasons (has_id (ids ++ item_ids earlier) t.id) (has_id buses t.bus) (injection_fault t.item) (nodes + length earlier) (edges + length earlier) (switches + length earlier)
 
+-- the buses, then the switches, then the injections of a level, where it and other things have these ids, and the network has so many switches before it
+unfoldable pub parts_check : List (List ℕ) → ℕ → ConfiguredLevel → Result ⊤ Fault
+parts_check ids switches l = do
+  _ ← list_check (bus_check ids) (codes "buses") l.buses
+  _ ← list_check (switch_check (ids ++ l.buses) l.buses switches) (codes "switches") l.switches
+  list_check (item_check (ids ++ (l.buses ++ switch_ids l.switches)) l.buses (length l.buses) (length l.switches) (switches + length l.switches)) (codes "injections") l.items
+
 unfoldable pub level_check : List ConfiguredLevel → ConfiguredLevel → Result ⊤ Fault
 level_check earlier l = do
   _ ← level_reasons (has_id (ids_of earlier) l.id) (length earlier) (level_fault l.nominal_v None None)
-  _ ← list_check (bus_check (ids_of earlier ++ l.id ∷ [])) (codes "buses") l.buses
-  _ ← list_check (switch_check (ids_of earlier ++ (l.id ∷ l.buses)) l.buses (switch_total earlier)) (codes "switches") l.switches
-  list_check (item_check (ids_of earlier ++ ((l.id ∷ l.buses) ++ switch_ids l.switches)) l.buses (length l.buses) (length l.switches) (switch_total earlier + length l.switches)) (codes "injections") l.items
+  parts_check (ids_of earlier ++ l.id ∷ []) (switch_total earlier) l
 
 -- ---- a line: its id, then its ends
 

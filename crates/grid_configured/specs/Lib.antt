@@ -1,2 +1,4 @@
 pub mod Names
 pub mod Checks
+pub mod Standing
+pub mod Jobs

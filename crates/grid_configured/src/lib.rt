@@ -1,7 +1,13 @@
 //! Networks whose levels have configured buses: their reading from JSON.
 #![tactic(auto)]
 
+mod commands;
+mod lists;
 mod network;
+mod parts;
+mod plain;
+mod reasons;
+mod seen;
 
 pub use network::{
     BusEnd, BusSwitch, BusSwitches, ConfiguredJob, ConfiguredLevel, ConfiguredLevels,
