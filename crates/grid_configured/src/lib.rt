@@ -2,6 +2,7 @@
 #![tactic(auto)]
 
 mod commands;
+mod contents;
 mod lists;
 mod network;
 mod parts;
