@@ -13,7 +13,7 @@ use Rattle.grid_configured.specs.declared.network.BusSwitch.{BusSwitch}
 use Rattle.grid_configured.specs.declared.network.Item.{Item}
 use Rattle.grid_configured.specs.declared.network.ConfiguredLevel.{ConfiguredLevel}
 use Rattle.grid_configured.specs.Checks.{bus_check, bus_reasons, item_check, item_ids, item_reasons, list_check, part_ids, parts_check, switch_check, switch_ids, switch_reasons}
-use Rattle.grid_configured.specs.Standing.{Knows}
+use Rattle.grid_configured.specs.Seen.{Knows}
 use Rattle.grid_configured.proofs.Checking.{each_alike, next_one}
 use Rattle.grid_configured.proofs.Seeing.{knows-append, knows_next}
 
@@ -115,3 +115,17 @@ module _ (ids seen own more : List (List ℕ)) (total : ℕ) (l : ConfiguredLeve
 pub fails_on : (r : Result ⊤ ReadError) (e : ReadError) (x : Result ⊤ Fault) → IsErrAnd r (λ f. f ≡ e) → Fails e x → Gives r x
 fails_on (Ok done) e x h g = absurd h
 fails_on (Err f) e x h g = subst (λ z. Fails z x) (sym h) g
+
+-- ---- sets with the same ids
+
+pub parts_alike : (seen ids : List (List ℕ)) (total : ℕ) (l : ConfiguredLevel) → Knows seen ids → parts_check seen total l ≡ parts_check ids total l
+unfolding parts_check bus_check switch_check item_check
+parts_alike seen ids total l known =
+    let buses : list_check (bus_check seen) (codes "buses") l.buses ≡ list_check (bus_check ids) (codes "buses") l.buses =
+    ap (under (codes "buses")) (each_alike (bus_check seen) (bus_check ids) l.buses (λ earlier bus. ap (λ t. bus_reasons t (length earlier)) (knows-append seen ids earlier known bus))) in
+    let switches : list_check (switch_check (seen ++ l.buses) l.buses total) (codes "switches") l.switches ≡ list_check (switch_check (ids ++ l.buses) l.buses total) (codes "switches") l.switches =
+    switches_alike ids (seen ++ l.buses) l.buses total l (knows-append seen ids l.buses known) (λ q. refl) in
+    let items : list_check (item_check (seen ++ (l.buses ++ switch_ids l.switches)) l.buses (length l.buses) (length l.switches) (total + length l.switches)) (codes "injections") l.items
+    ≡ list_check (item_check (ids ++ (l.buses ++ switch_ids l.switches)) l.buses (length l.buses) (length l.switches) (total + length l.switches)) (codes "injections") l.items =
+    items_alike ids (seen ++ l.buses) l.buses total l (knows-append seen ids l.buses known) (λ q. refl) (seen ++ (l.buses ++ switch_ids l.switches)) (λ q. ap (λ z. has_id z q) (sym (append_assoc seen l.buses (switch_ids l.switches)))) (length l.buses) (length l.switches) (total + length l.switches) in
+    rw (buses, switches, items) refl

@@ -1,4 +1,5 @@
 pub mod Names
 pub mod Checks
+pub mod Seen
 pub mod Standing
 pub mod Jobs

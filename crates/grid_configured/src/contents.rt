@@ -2,7 +2,7 @@
 ghost use Rattle.std.specs.Prelude.{◌≡◌, ◌+◌, ◌≤◌, [], ◌++◌, OnOk, codes, length};
 ghost use Rattle.grid_json.specs.Reading.{Gives, under};
 ghost use Rattle.grid_configured.specs.Checks.{bus_check, each_check, item_check, item_ids, level_edges, level_nodes, list_check, part_ids, parts_check, switch_check, switch_ids};
-ghost use Rattle.grid_configured.specs.Standing.{Knows};
+ghost use Rattle.grid_configured.specs.Seen.{Knows};
 
 use crate::network::{BusSwitch, ConfiguredLevel, Item};
 use crate::reasons::{Counts, check_bus, check_item, check_switch};

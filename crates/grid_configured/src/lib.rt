@@ -9,6 +9,7 @@ mod parts;
 mod plain;
 mod reasons;
 mod seen;
+mod standing;
 
 pub use network::{
     BusEnd, BusSwitch, BusSwitches, ConfiguredJob, ConfiguredLevel, ConfiguredLevels,

@@ -5,7 +5,7 @@ ghost use Rattle.grid_ids.specs.Refusing.{refuse_by};
 ghost use Rattle.grid_kinds.specs.Records.{level_fault, injection_fault};
 ghost use Rattle.grid_json.specs.Reading.{Gives, here};
 ghost use Rattle.grid_configured.specs.Checks.{bus_reasons, buses_reasons, id_reasons, item_reasons, level_reasons, record_fault, switch_reasons, terminal_reasons};
-ghost use Rattle.grid_configured.specs.Standing.{Knows};
+ghost use Rattle.grid_configured.specs.Seen.{Knows};
 
 use crate::network::{BusSwitch, ConfiguredLevel, Item};
 use crate::seen::SeenIds;
@@ -35,8 +35,8 @@ pub(crate) struct Counts {
     pub switches: usize,
 }
 
-// A fault that an edit of the same kind would be refused with.
-fn refused(alloc: Global, fault: EditFault) -> ReadError
+/// A fault that an edit of the same kind would be refused with.
+pub(crate) fn refused(alloc: Global, fault: EditFault) -> ReadError
     ensures { result ≡ ReadError.Fault (here (Reason.Load fault)) }
 {
     ReadError::here(alloc, Reason::Load(fault))

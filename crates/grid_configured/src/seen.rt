@@ -1,7 +1,7 @@
 // Sets of ids that were named before.
 ghost use Rattle.std.specs.Prelude.{◌≡◌, [], ◌∷◌, ◌++◌, not, IfOk, OnOk};
 ghost use Rattle.grid_ids.specs.Name.{has_id};
-ghost use Rattle.grid_configured.specs.Standing.{Knows};
+ghost use Rattle.grid_configured.specs.Seen.{Knows};
 
 use grid_ids::{Duplicate, Id, Memory};
 use std::alloc::Global;
