@@ -1,12 +1,16 @@
 -- Checking things one after the other, as a loop does.
-use Rattle.std.proofs.Common.{◌≡◌, refl, sym, ap, ◌∙◌, ℕ, suc, ◌+◌, ◌<◌, ◌≤◌, List, [], ◌∷◌, ◌++◌, length, get_or, take, drop, Result, Ok, Err, add-one, drop-cons}
+use Rattle.std.proofs.Common.{◌≡◌, refl, sym, ap, ◌∙◌, ℕ, suc, ◌+◌, ◌<◌, ◌≤◌, List, [], ◌∷◌, ◌++◌, length, get_or, take, drop, Result, Ok, Err, add-one, drop-cons, arith}
 use Rattle.std.specs.Prelude.{decimal, ⊤}
-use Rattle.std.proofs.lemmas.List.{take_more, drop_all}
+use Rattle.std.proofs.lemmas.List.{take_more, drop_all, length-take-le}
 use Rattle.grid_json.specs.declared.fault.Fault.{Fault}
 use Rattle.grid_json.specs.declared.fault.ReadError.{ReadError}
 use Rattle.grid_json.specs.declared.fault.ReadError.TheVariants as errors
 use Rattle.grid_json.specs.Reading.{Fails, IsUnder, placed}
 use Rattle.grid_configured.specs.Checks.{each_check}
+
+-- as many as were taken
+pub taken : {A : Type 0} (xs : List A) (i : ℕ) → i < length xs → length (take i xs) ≡ i
+taken xs i lt = length-take-le i xs (omega (arith, lt))
 
 -- one thing more
 pub next_one : {A : Type 0} (xs : List A) (i : ℕ) (x : A) → i < length xs → x ≡ get_or xs i x → take (i + 1) xs ≡ take i xs ++ x ∷ []

@@ -2,7 +2,7 @@
 use Rattle.std.proofs.Common.{◌≡◌, refl, sym, ap, ◌∙◌, ℕ, suc, ◌+◌, ◌<◌, ◌≤◌, List, [], ◌∷◌, ◌++◌, ◌&&◌, length, get_or, map, take, append_assoc, subst, arith, Result, Ok, Err}
 use Rattle.std.specs.Prelude.{⊤, codes}
 use Rattle.std.specs.Result.{IsErrAnd}
-use Rattle.std.proofs.lemmas.List.{length-take-le, map-append}
+use Rattle.std.proofs.lemmas.List.{map-append}
 use Rattle.grid_ids.specs.Name.{has_id, same_id}
 use Rattle.grid_json.specs.declared.fault.Fault.{Fault}
 use Rattle.grid_json.specs.declared.fault.ReadError.{ReadError}
@@ -14,12 +14,8 @@ use Rattle.grid_configured.specs.declared.network.Item.{Item}
 use Rattle.grid_configured.specs.declared.network.ConfiguredLevel.{ConfiguredLevel}
 use Rattle.grid_configured.specs.Checks.{bus_check, bus_reasons, item_check, item_ids, item_reasons, list_check, part_ids, parts_check, switch_check, switch_ids, switch_reasons}
 use Rattle.grid_configured.specs.Seen.{Knows}
-use Rattle.grid_configured.proofs.Checking.{each_alike, next_one}
+use Rattle.grid_configured.proofs.Checking.{each_alike, next_one, taken}
 use Rattle.grid_configured.proofs.Seeing.{knows-append, knows_next}
-
--- as many as were taken
-taken : {A : Type 0} (xs : List A) (i : ℕ) → i < length xs → length (take i xs) ≡ i
-taken xs i lt = length-take-le i xs (omega (arith, lt))
 
 module _ (ids seen : List (List ℕ)) where
   -- ---- buses

@@ -1,6 +1,7 @@
 //! Networks whose levels have configured buses: their reading from JSON.
 #![tactic(auto)]
 
+mod checks;
 mod commands;
 mod contents;
 mod lists;
