@@ -1,5 +1,5 @@
 -- A job with configured buses, or its first fault: each member in the order in which it is read.
-use Rattle.std.specs.Prelude.{ℕ, ℤ, pos, Bool, false, List, [], ◌∷◌, Option, Some, None, Result, Ok, Err, codes, if◌then◌else◌, ⊤}
+use Rattle.std.specs.Prelude.{◌≡◌, ℕ, ℤ, pos, true, false, length, map, List, [], ◌∷◌, Option, Some, None, Result, Ok, Err, codes, if◌then◌else◌, ⊤}
 use Rattle.std.specs.Ordering.{int_eq}
 use Rattle.serde_json.specs.Data.{Data}
 use Rattle.grid_core.specs.declared.request.Request.{Request}
@@ -15,7 +15,7 @@ use Rattle.grid_json.specs.Bytes.{reading}
 use Rattle.grid_json.specs.Reading.{◌>>=◌, here, under, whole_at, flag_at, id_at, array_at, member_at, member_or, optional_at, only_at, object_at, word_at}
 use Rattle.grid_json.specs.Kinds.{injection_kind_at}
 use Rattle.grid_json.specs.Network.{two_at, item_names, item_at}
-use Rattle.grid_json.specs.Job.{max_workers, few_at, counted_scripts, order_at}
+use Rattle.grid_json.specs.Job.{max_workers, few_at, counted_scripts, is_order, natural_of, order_at}
 use Rattle.grid_json.specs.Whole.{or_bad_job}
 use Rattle.grid_configured.specs.declared.commands.Verb.{Verb}
 use Rattle.grid_configured.specs.declared.commands.Verb.TheVariants as verbs
@@ -171,6 +171,11 @@ format_at d = whole_at d >>= first_format
 
 unfoldable pub workers_at : Data → Result (List (List Request)) Fault
 workers_at d = few_at max_workers TooManyWorkers (array_at command_at) d >>= counted_scripts
+
+-- an order that is given has each worker's number as often as its script has commands, and no other number
+abbrev pub IsOrdered : List (List Request) → Option (List ℕ) → Type 0
+IsOrdered scripts None = Unit {0}
+IsOrdered scripts (Some order) = (numbers : List ℤ) × (is_order (map length scripts) numbers ≡ true) × (order ≡ map natural_of numbers)
 
 -- all members are read, and then the network is checked
 unfoldable pub configured_at : Data → Result ConfiguredJob Fault

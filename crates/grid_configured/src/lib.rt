@@ -8,6 +8,7 @@ mod lists;
 mod network;
 mod parts;
 mod plain;
+mod read;
 mod reasons;
 mod seen;
 mod standing;
@@ -16,3 +17,4 @@ pub use network::{
     BusEnd, BusSwitch, BusSwitches, ConfiguredJob, ConfiguredLevel, ConfiguredLevels,
     ConfiguredLine, ConfiguredLines, ConfiguredNetwork, Item, Items,
 };
+pub use read::read_configured;

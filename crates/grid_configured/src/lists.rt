@@ -46,7 +46,8 @@ pub(crate) fn read_each<R: Reader>(
     alloc: Global,
     items: &[Value],
 ) -> Result<Seq<R::Item>, ReadError>
-    ensures { Gives result (items_at R.reads 0 (items_view items.now)) }
+    ensures items { Gives result (items_at R.reads 0 (items_view items.now)) }
+    ensures count { IfOk result (λ list. length list ≡ length items.now) }
 {
     let mut list = Seq::empty(alloc);
     for (i, item) in items.iter().enumerate() {

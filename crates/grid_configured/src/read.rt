@@ -1,11 +1,11 @@
 // Jobs with configured buses from JSON.
 ghost use Rattle.std.specs.Prelude.{◌≡◌, ◌≤◌, [], IfOk, OnOk, Ok, codes, length, IsTrue, All};
 ghost use Rattle.serde_json.specs.View.{view};
-ghost use Rattle.grid_json.specs.Job.{command_total, max_commands, max_workers};
-ghost use Rattle.grid_json.specs.Reading.{Gives, member_or, under};
+ghost use Rattle.grid_json.specs.Job.{command_total, few_at, max_commands, max_workers};
+ghost use Rattle.grid_json.specs.Reading.{Gives, array_at, member_or, under};
 ghost use Rattle.grid_json.specs.Whole.{JobGives};
 ghost use Rattle.grid_configured.specs.Checks.{network_check, IsTranslatable};
-ghost use Rattle.grid_configured.specs.Jobs.{format_at, workers_at, configured_at, configured_job_of};
+ghost use Rattle.grid_configured.specs.Jobs.{IsOrdered, command_at, format_at, workers_at, configured_at, configured_job_of};
 ghost use Rattle.grid_configured.specs.Names.{IsConfiguredRequest};
 
 use crate::checks::check_network;
@@ -20,7 +20,7 @@ use grid_json::{
 use serde_json::Value;
 use std::alloc::Global;
 
-/// Reads the format of a job, which must be the first.
+/// Readings the format of a job, which must be the first.
 struct FirstFormat;
 
 impl Reader for FirstFormat {
@@ -37,12 +37,11 @@ impl Reader for FirstFormat {
     }
 }
 
-// The scripts of all workers; their number is looked at before them, and the number of all commands after them.
-#[tactic(auto, unfolding(crate::specs::Jobs::workers_at))]
-fn read_workers(alloc: Global, value: &Value) -> Result<Scripts, ReadError>
-    ensures scripts { Gives result (workers_at (view value.now)) }
+// The scripts of all workers; their number is looked at before them.
+#[tactic(auto, using(grid_json::proofs::Items::items_len_is))]
+fn read_few(alloc: Global, value: &Value) -> Result<Scripts, ReadError>
+    ensures scripts { Gives result (few_at max_workers Reason.TooManyWorkers (array_at command_at) (view value.now)) }
     ensures few { IfOk result (λ scripts. length scripts ≤ max_workers) }
-    ensures total { IfOk result (λ scripts. command_total scripts ≤ max_commands) }
 {
     let Some(items) = value.as_array() else {
         return Err(ReadError::here(alloc, Reason::WrongKind));
@@ -50,7 +49,17 @@ fn read_workers(alloc: Global, value: &Value) -> Result<Scripts, ReadError>
     if items.len() > MOST_WORKERS {
         return Err(ReadError::here(alloc, Reason::TooManyWorkers));
     }
-    let scripts = read_each::<Commands>(alloc, items.as_slice())?;
+    read_each::<Commands>(alloc, items.as_slice())
+}
+
+// The scripts of all workers, which together have few commands.
+#[tactic(auto, unfolding(crate::specs::Jobs::workers_at))]
+fn read_workers(alloc: Global, value: &Value) -> Result<Scripts, ReadError>
+    ensures scripts { Gives result (workers_at (view value.now)) }
+    ensures few { IfOk result (λ scripts. length scripts ≤ max_workers) }
+    ensures total { IfOk result (λ scripts. command_total scripts ≤ max_commands) }
+{
+    let scripts = read_few(alloc, value)?;
     if are_too_many(scripts.slice()) {
         return Err(ReadError::here(alloc, Reason::TooManyCommands));
     }
@@ -58,7 +67,7 @@ fn read_workers(alloc: Global, value: &Value) -> Result<Scripts, ReadError>
 }
 
 // The scripts, or none.
-#[tactic(auto, unfolding(crate::specs::Jobs::workers_at))]
+#[tactic(auto, unfolding(grid_json::specs::Job::command_total))]
 fn scripts_of(alloc: Global, value: &Value) -> Result<Scripts, ReadError>
     ensures scripts { Gives result (member_or [] workers_at (codes "workers") (view value.now)) }
     ensures few { IfOk result (λ scripts. length scripts ≤ max_workers) }
@@ -84,9 +93,12 @@ fn check_member(alloc: Global, network: &ConfiguredNetwork) -> Result<(), ReadEr
 }
 
 // The job of a value.
-#[tactic(auto, unfolding(crate::specs::Jobs::configured_at))]
+#[tactic(auto, unfolding(crate::specs::Jobs::configured_at), using(crate::proofs::Readings::well_ordered))]
 fn read_root(alloc: Global, value: &Value) -> Result<ConfiguredJob, ReadError>
     ensures job { Gives result (configured_at (view value.now)) }
+    ensures network { IfOk result (λ job. IsTranslatable job.network) }
+    ensures requests { IfOk result (λ job. All (All IsConfiguredRequest) job.scripts) }
+    ensures order { IfOk result (λ job. IsOrdered job.scripts job.order) }
     ensures few { IfOk result (λ job. length job.scripts ≤ max_workers) }
     ensures total { IfOk result (λ job. command_total job.scripts ≤ max_commands) }
 {
@@ -112,11 +124,12 @@ fn read_root(alloc: Global, value: &Value) -> Result<ConfiguredJob, ReadError>
 /// (NoBus, 75), both ends of a switch are one bus (SameBus, 76), a record breaks its rule, or a limit is passed, against
 /// which a bus counts as one node, and a terminal as one node, one edge and one switch. The rules and their order are this
 /// project's own.
-#[tactic(auto, unfolding(crate::specs::Jobs::configured_job_of), using(crate::proofs::Reads::translatable, crate::proofs::Reads::all_configured))]
+#[tactic(auto, unfolding(crate::specs::Jobs::configured_job_of))]
 pub fn read_configured(alloc: Global, bytes: &[u8]) -> Result<ConfiguredJob, JobFault>
     ensures job { JobGives result (configured_job_of bytes.now) }
     ensures network { IfOk result (λ job. IsTranslatable job.network) }
     ensures requests { IfOk result (λ job. All (All IsConfiguredRequest) job.scripts) }
+    ensures order { IfOk result (λ job. IsOrdered job.scripts job.order) }
     ensures few { IfOk result (λ job. length job.scripts ≤ max_workers) }
     ensures total { IfOk result (λ job. command_total job.scripts ≤ max_commands) }
 {
