@@ -117,9 +117,9 @@ module _ (earlier : List ConfiguredLevel) (old : Standing) (l : ConfiguredLevel)
         record {
           known = λ q. ap (λ z. has_id z q) same_ids ∙ parts q ∙ knows-append seen (ids_of earlier ++ l.id ∷ []) (part_ids l) knows_id q ∙ ap (λ z. has_id z q) (sym (ids_next earlier l));
           found = λ q.
-            let one = tally_next earlier l own (tally_at old.levels q) q (bytes_eq l.id q) refl buses unused (stands.found q) in
-            let level : option_or (level_of earlier q) (cond (bytes_eq l.id q) (Some l) None) ≡ level_of (earlier ++ l ∷ []) q = ap (λ t. option_or (level_of earlier q) (cond t (Some l) None)) (same_flip l.id q) ∙ sym (level_next earlier l q) in
-            subst (λ z. IsTally z (tally_at new.levels q)) level (subst (IsTally (option_or (level_of earlier q) (cond (bytes_eq l.id q) (Some l) None))) (sym (put q)) one);
+              let one = tally_next earlier l own (tally_at old.levels q) q (bytes_eq l.id q) refl buses unused (stands.found q) in
+              let level : option_or (level_of earlier q) (cond (bytes_eq l.id q) (Some l) None) ≡ level_of (earlier ++ l ∷ []) q = ap (λ t. option_or (level_of earlier q) (cond t (Some l) None)) (same_flip l.id q) ∙ sym (level_next earlier l q) in
+              subst (λ z. IsTally z (tally_at new.levels q)) level (subst (IsTally (option_or (level_of earlier q) (cond (bytes_eq l.id q) (Some l) None))) (sym (put q)) one);
           ended = λ q. ap (λ z. count_at z q) same_ends ∙ stands.ended q;
           counted = omega (arith, switches, stands.counted, total_next earlier l);
         }

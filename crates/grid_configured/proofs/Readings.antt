@@ -122,7 +122,9 @@ level_read d l is =
     let same : made ≡ l = cc in
     let kept : level_plain made ≡ true =
     rw (
-      plain_member (codes "id") d id.0 id.1, list_member plain_at is_plain plain_read (codes "buses") d buses.0 buses.1, list_member bus_switch_at switch_plain switch_read (codes "switches") d switches.0 switches.1,
+      plain_member (codes "id") d id.0 id.1,
+      list_member plain_at is_plain plain_read (codes "buses") d buses.0 buses.1,
+      list_member bus_switch_at switch_plain switch_read (codes "switches") d switches.0 switches.1,
       list_member injection_at item_plain item_read (codes "injections") d injections.0 injections.1,
     ) refl in
     subst (λ (z : ConfiguredLevel). level_plain z ≡ true) same kept

@@ -60,10 +60,7 @@ pub(crate) fn read_each<R: Reader>(
 }
 
 /// The items of an array.
-pub(crate) fn read_array<R: Reader>(
-    alloc: Global,
-    value: &Value,
-) -> Result<Seq<R::Item>, ReadError>
+pub(crate) fn read_array<R: Reader>(alloc: Global, value: &Value) -> Result<Seq<R::Item>, ReadError>
     ensures { Gives result (array_at R.reads (view value.now)) }
 {
     match value.as_array() {

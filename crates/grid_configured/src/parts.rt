@@ -4,9 +4,7 @@ ghost use Rattle.grid_json.specs.Reading.{texts};
 ghost use Rattle.grid_configured.specs.Jobs.{injection_names};
 
 use crate::lists::{PlainId, PlainIds, read_member};
-use crate::network::{
-    BusEnd, BusSwitch, ConfiguredLevel, ConfiguredLine, ConfiguredNetwork, Item,
-};
+use crate::network::{BusEnd, BusSwitch, ConfiguredLevel, ConfiguredLine, ConfiguredNetwork, Item};
 use grid_json::{Format, FromJson, InjectionKind, ReadError, Two, item_of, member, object, only};
 use serde_json::Value;
 use std::alloc::Global;

@@ -32,7 +32,7 @@ returns-clause-check c levels earlier stands =
 pub returns-clause-stands : goal.returns-clause-stands
 returns-clause-stands c =
     on_ok_weaker c.check_end-2.result (λ second levels earlier stands.
-      let line = c.args.line.now in
-      let ids = (ids_of levels ++ line_ids earlier) ++ line.id ∷ [] in
-      let first = id_stands levels earlier line c.args.standing.now stands c.check_id.new.ids c.in_ok-check_id.ensures.known in
-      line_stands levels earlier line c.check_end-2.new.self (second ids levels (line_ends earlier ++ line.end1 ∷ []) (c.in_ok-check_end.ensures.stands ids levels (line_ends earlier) first))) c.check_end-2.ensures.stands
+    let line = c.args.line.now in
+    let ids = (ids_of levels ++ line_ids earlier) ++ line.id ∷ [] in
+    let first = id_stands levels earlier line c.args.standing.now stands c.check_id.new.ids c.in_ok-check_id.ensures.known in
+    line_stands levels earlier line c.check_end-2.new.self (second ids levels (line_ends earlier ++ line.end1 ∷ []) (c.in_ok-check_end.ensures.stands ids levels (line_ends earlier) first))) c.check_end-2.ensures.stands
