@@ -1,6 +1,5 @@
 -- Levels behind the earlier ones, by what is kept.
-use Rattle.std.proofs.Common.{◌≡◌, refl, sym, ap, ◌∙◌, ℕ, ◌+◌, Bool, true, false, cond, ◌||◌, List, [], ◌∷◌, ◌++◌, length, append_assoc, subst, arith, Option, Some, None, Result, Ok, Err}
-use Rattle.std.specs.Prelude.{⊤}
+use Rattle.std.proofs.Common.{◌≡◌, refl, sym, ap, ◌∙◌, ℕ, ◌+◌, Bool, true, false, cond, ◌||◌, List, [], ◌∷◌, ◌++◌, length, append_assoc, subst, arith, Option, Some, None, Ok}
 use Rattle.std.specs.BTreeMap.{BTreeMap}
 use Rattle.std.specs.Str.{bytes_eq}
 use Rattle.std.specs.Option.{option_or}
@@ -11,14 +10,13 @@ use Rattle.std.proofs.lemmas.List.Sums.{sum_by-append}
 use Rattle.std.proofs.lemmas.Slice.Eq.{bytes_eq-Decides}
 use Rattle.grid_ids.specs.Name.{has_id, same_id}
 use Rattle.grid_kinds.specs.Records.{level_fault}
-use Rattle.grid_json.specs.declared.fault.Fault.{Fault}
 use Rattle.grid_json.specs.declared.fault.ReadError.{ReadError}
 use Rattle.grid_json.specs.declared.fault.ReadError.TheVariants as errors
 use Rattle.grid_json.specs.Reading.{Fails}
 use Rattle.grid_configured.specs.declared.network.ConfiguredLevel.{ConfiguredLevel}
 use Rattle.grid_configured.specs.declared.standing.Standing.{Standing}
 use Rattle.grid_configured.specs.declared.standing.Tally.{Tally}
-use Rattle.grid_configured.specs.Checks.{ends_in, ids_of, level_check, level_edges, level_ids, level_nodes, level_of, level_reasons, part_ids, parts_check, switch_total}
+use Rattle.grid_configured.specs.Checks.{ends_in, ids_of, level_check, level_edges, level_ids, level_of, level_reasons, part_ids, parts_check, switch_total}
 use Rattle.grid_configured.specs.Seen.{Knows}
 use Rattle.grid_configured.specs.Standing.{IsTally, Stands, count_at, tally_at, tally_of}
 use Rattle.grid_configured.proofs.Ends.{after_none}

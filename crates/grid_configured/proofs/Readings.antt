@@ -1,6 +1,6 @@
 -- What was read: plain ids, known commands, and a network that is right.
 use Rattle.std.proofs.Common.{◌≡◌, refl, sym, ap, ◌∙◌, ℕ, ℤ, pos, suc, Bool, true, false, cond, List, [], ◌∷◌, length, map, subst, inl, inr, Option, Some, None, Result, Ok, Err}
-use Rattle.std.specs.Prelude.{All, codes, decimal, nat_lt, if◌then◌else◌, slice_index_or, ◌&&◌, ◌⊎◌, ⊤}
+use Rattle.std.specs.Prelude.{All, codes, decimal, nat_lt, if◌then◌else◌, slice_index_or, ◌⊎◌}
 use Rattle.std.specs.List.{list_all}
 use Rattle.std.proofs.lemmas.List.Sums.{AllPass-from_list_all}
 use Rattle.serde_json.specs.Data.{Data, Items, no_items, item}

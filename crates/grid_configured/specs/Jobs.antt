@@ -4,7 +4,6 @@ use Rattle.std.specs.Ordering.{int_eq}
 use Rattle.serde_json.specs.Data.{Data}
 use Rattle.grid_core.specs.declared.request.Request.{Request}
 use Rattle.grid_core.specs.declared.request.Request.TheVariants as requests
-use Rattle.grid_json.specs.declared.ends.Two.{Two}
 use Rattle.grid_json.specs.declared.fault.Fault.{Fault}
 use Rattle.grid_json.specs.declared.fault.Reason.TheVariants.{Unknown, Reserved, TooManyWorkers}
 use Rattle.grid_json.specs.declared.format.Format.TheVariants.{Four}

@@ -6,7 +6,6 @@ use Rattle.std.specs.Ordering.{nat_cmp}
 use Rattle.grid_ids.specs.Name.{has_id}
 use Rattle.grid_configured.specs.declared.network.BusEnd.{BusEnd}
 use Rattle.grid_configured.specs.declared.network.ConfiguredLevel.{ConfiguredLevel}
-use Rattle.grid_configured.specs.declared.reasons.Counts.{Counts}
 use Rattle.grid_configured.specs.declared.standing.Spot.{Spot}
 use Rattle.grid_configured.specs.declared.standing.Standing.{Standing}
 use Rattle.grid_configured.specs.declared.standing.Tally.{Tally}

@@ -1,4 +1,4 @@
-use Rattle.std.proofs.Common.{◌≡◌, [], sym, subst, take}
+use Rattle.std.proofs.Common.{[], sym, subst, take}
 use Rattle.grid_configured.specs.Checks.{ids_of, level_check}
 use Rattle.grid_configured.specs.Standing.{Stands}
 use Rattle.grid_configured.proofs.Checking.{ends, goes_on, is_done, next_one, taken}

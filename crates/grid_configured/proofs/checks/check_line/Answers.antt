@@ -1,4 +1,4 @@
-use Rattle.std.proofs.Common.{◌≡◌, ◌++◌, ◌∷◌, []}
+use Rattle.std.proofs.Common.{◌++◌, ◌∷◌, []}
 use Rattle.std.proofs.lemmas.Result.{on_ok_weaker}
 use Rattle.grid_configured.specs.Checks.{ids_of, line_check, line_ends, line_ids}
 use Rattle.grid_configured.proofs.LevelParts.{fails_on}

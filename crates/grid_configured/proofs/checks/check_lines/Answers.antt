@@ -1,4 +1,4 @@
-use Rattle.std.proofs.Common.{◌≡◌, [], ◌++◌, sym, subst, take, ap, ◌∙◌}
+use Rattle.std.proofs.Common.{[], ◌++◌, sym, subst, take, ap, ◌∙◌}
 use Rattle.grid_configured.specs.Checks.{each_check, ids_of, line_check, line_ends, line_ids}
 use Rattle.grid_configured.specs.Standing.{Stands}
 use Rattle.grid_configured.proofs.Checking.{ends, goes_on, is_done, next_one}

@@ -1,4 +1,4 @@
-use Rattle.std.proofs.Common.{◌≡◌, sym, ◌∙◌, subst, arith}
+use Rattle.std.proofs.Common.{sym, ◌∙◌, subst, arith}
 use Rattle.grid_json.specs.Reading.{Fails}
 use Rattle.grid_configured.specs.Checks.{switch_check}
 use Rattle.grid_configured.proofs.Checking.{goes_on, ends, is_done}

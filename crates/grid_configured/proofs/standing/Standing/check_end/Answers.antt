@@ -1,4 +1,4 @@
-use Rattle.std.proofs.Common.{◌≡◌, sym, ◌∙◌}
+use Rattle.std.proofs.Common.{sym, ◌∙◌}
 use Rattle.grid_configured.specs.Checks.{end_check}
 use Rattle.grid_configured.specs.Standing.{count_at, spot_of, tally_at}
 use Rattle.grid_configured.proofs.Ends.{end_as, end_stands, no_level, nothing_found}

@@ -1,4 +1,4 @@
-use Rattle.std.proofs.Common.{◌≡◌, ◌∙◌}
+use Rattle.std.proofs.Common.{◌∙◌}
 use Rattle.grid_configured.specs.Checks.{level_check}
 use Rattle.grid_configured.proofs.LevelParts.{fails_on}
 use Rattle.grid_configured.proofs.Levels.{level_as, level_fails, level_stands, level_wrong}
