@@ -30,15 +30,15 @@ use Rattle.grid_configured.specs.Names.{IsConfiguredRequest, end_plain, is_plain
 
 -- ---- what a reading that went well read
 
-bound : {A B : Type 0} (first : Result A Fault) (rest : A → Result B Fault) (y : B) → (first >>= rest) ≡ Ok y → (x : A) × (first ≡ Ok x) × (rest x ≡ Ok y)
+pub bound : {A B : Type 0} (first : Result A Fault) (rest : A → Result B Fault) (y : B) → (first >>= rest) ≡ Ok y → (x : A) × (first ≡ Ok x) × (rest x ≡ Ok y)
 bound (Ok x) rest y is = (x, refl, is)
 bound (Err fault) rest y is = cc
 
-inside : {A : Type 0} (name : List ℕ) (read : Result A Fault) (x : A) → under name read ≡ Ok x → read ≡ Ok x
+pub inside : {A : Type 0} (name : List ℕ) (read : Result A Fault) (x : A) → under name read ≡ Ok x → read ≡ Ok x
 inside name (Ok y) x is = cc
 inside name (Err fault) x is = cc
 
-member_read : {A : Type 0} (read : Data → Result A Fault) (name : List ℕ) (found : Option Data) (x : A) → present read name found ≡ Ok x → (d : Data) × (read d ≡ Ok x)
+pub member_read : {A : Type 0} (read : Data → Result A Fault) (name : List ℕ) (found : Option Data) (x : A) → present read name found ≡ Ok x → (d : Data) × (read d ≡ Ok x)
 member_read read name None x is = cc
 member_read read name (Some d) x is = (d, inside name (read d) x is)
 
@@ -46,7 +46,7 @@ member_read read name (Some d) x is = (d, inside name (read d) x is)
 member_keeps : {A : Type 0} (read : Data → Result A Fault) (keeps : A → Bool) → ((d : Data) (x : A) → read d ≡ Ok x → keeps x ≡ true) → (name : List ℕ) (d : Data) (x : A) → member_at read name d ≡ Ok x → keeps x ≡ true
 member_keeps read keeps all name d x is = let found = member_read read name (get name d) x is in all found.0 x found.1
 
-items_keep : {A : Type 0} (read : Data → Result A Fault) (keeps : A → Bool) → ((d : Data) (x : A) → read d ≡ Ok x → keeps x ≡ true) → (ds : Items) (i : ℕ) (xs : List A) → items_at read i ds ≡ Ok xs → list_all keeps xs ≡ true
+pub items_keep : {A : Type 0} (read : Data → Result A Fault) (keeps : A → Bool) → ((d : Data) (x : A) → read d ≡ Ok x → keeps x ≡ true) → (ds : Items) (i : ℕ) (xs : List A) → items_at read i ds ≡ Ok xs → list_all keeps xs ≡ true
 unfolding items_at
 items_keep read keeps all no_items i xs is = let none : [] ≡ xs = cc in subst (λ z. list_all keeps z ≡ true) none refl
 items_keep read keeps all (item d ds) i xs is =
@@ -56,7 +56,7 @@ items_keep read keeps all (item d ds) i xs is =
     let first : keeps a.0 ≡ true = all d a.0 (inside (decimal i) (read d) a.0 a.1) in
     subst (λ z. list_all keeps z ≡ true) same (rw (first, items_keep read keeps all ds (suc i) b.0 b.1) refl)
 
-array_keeps : {A : Type 0} (read : Data → Result A Fault) (keeps : A → Bool) → ((d : Data) (x : A) → read d ≡ Ok x → keeps x ≡ true) → (d : Data) (xs : List A) → array_at read d ≡ Ok xs → list_all keeps xs ≡ true
+pub array_keeps : {A : Type 0} (read : Data → Result A Fault) (keeps : A → Bool) → ((d : Data) (x : A) → read d ≡ Ok x → keeps x ≡ true) → (d : Data) (xs : List A) → array_at read d ≡ Ok xs → list_all keeps xs ≡ true
 array_keeps read keeps all d xs is =
     let a = bound (or_fault WrongKind (as_array d)) (λ ds. items_at read 0 ds) xs is in
     items_keep read keeps all a.0 0 xs a.2
@@ -259,7 +259,7 @@ workers_read d scripts is =
     (few_keep max_workers TooManyWorkers (array_at command_at) (list_all request_plain) (array_keeps command_at request_plain command_read) listed.0 few.0 (nat_lt max_workers (items_len listed.0)) listed.2)
 
 -- a member that may be absent is the other value, or was read
-either_read : {A : Type 0} (otherwise : A) (read : Data → Result A Fault) (name : List ℕ) (found : Option Data) (x : A) → present_or otherwise read name found ≡ Ok x → (x ≡ otherwise) ⊎ ((d : Data) × (read d ≡ Ok x))
+pub either_read : {A : Type 0} (otherwise : A) (read : Data → Result A Fault) (name : List ℕ) (found : Option Data) (x : A) → present_or otherwise read name found ≡ Ok x → (x ≡ otherwise) ⊎ ((d : Data) × (read d ≡ Ok x))
 either_read otherwise read name None x is = inl cc
 either_read otherwise read name (Some d) x is = inr (d, inside name (read d) x is)
 
@@ -273,7 +273,7 @@ all_configured d scripts is =
 
 -- ---- the order
 
-some_read : {A : Type 0} (read : Result A Fault) (found : Option A) → some_of read ≡ Ok found → (x : A) × (read ≡ Ok x) × (found ≡ Some x)
+pub some_read : {A : Type 0} (read : Result A Fault) (found : Option A) → some_of read ≡ Ok found → (x : A) × (read ≡ Ok x) × (found ≡ Some x)
 some_read (Ok x) found is = (x, refl, cc)
 some_read (Err fault) found is = cc
 

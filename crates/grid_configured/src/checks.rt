@@ -1,5 +1,5 @@
 // A network's levels and lines, each behind the earlier ones.
-ghost use Rattle.std.specs.Prelude.{◌≡◌, ◌≤◌, [], ◌∷◌, ◌++◌, List, OnOk, codes};
+ghost use Rattle.std.specs.Prelude.{◌≤◌, [], ◌∷◌, ◌++◌, List, OnOk, codes};
 ghost use Rattle.grid_json.specs.Reading.{Gives};
 ghost use Rattle.grid_configured.specs.declared.network.ConfiguredLevel.{ConfiguredLevel as LevelAt};
 ghost use Rattle.grid_configured.specs.declared.network.ConfiguredLine.{ConfiguredLine as LineAt};

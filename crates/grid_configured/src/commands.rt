@@ -1,5 +1,5 @@
 // Commands on networks with configured buses from JSON.
-ghost use Rattle.std.specs.Prelude.{◌≡◌, codes};
+ghost use Rattle.std.specs.Prelude.{◌≡◌};
 ghost use Rattle.serde_json.specs.View.{view};
 ghost use Rattle.grid_json.specs.Reading.{Gives, texts};
 ghost use Rattle.grid_configured.specs.Jobs.{command_names, sided_at, clone_at, request_at};

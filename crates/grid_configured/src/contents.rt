@@ -1,6 +1,6 @@
 // What stands in a level: its buses, its switches and its injections, each behind the earlier ones.
 ghost use Rattle.std.specs.Prelude.{◌≡◌, ◌+◌, ◌≤◌, [], ◌++◌, OnOk, codes, length};
-ghost use Rattle.grid_json.specs.Reading.{Gives, under};
+ghost use Rattle.grid_json.specs.Reading.{Gives};
 ghost use Rattle.grid_configured.specs.Checks.{bus_check, each_check, item_check, item_ids, level_edges, level_nodes, list_check, part_ids, parts_check, switch_check, switch_ids};
 ghost use Rattle.grid_configured.specs.Seen.{Knows};
 

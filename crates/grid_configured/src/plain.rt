@@ -1,5 +1,5 @@
 // Plain ids.
-ghost use Rattle.std.specs.Prelude.{◌≡◌, not, nat_le, length};
+ghost use Rattle.std.specs.Prelude.{◌≡◌};
 ghost use Rattle.std.specs.List.{list_any};
 ghost use Rattle.serde_json.specs.View.{view};
 ghost use Rattle.grid_json.specs.Reading.{Gives};
