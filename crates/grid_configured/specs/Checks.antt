@@ -1,5 +1,5 @@
 -- What a network with configured buses must keep: each thing behind the earlier ones, with the first reason against it.
-use Rattle.std.specs.Prelude.{◌≡◌, ℕ, suc, ◌+◌, Bool, ◌&&◌, not, nat_le, Option, Some, None, List, [], ◌∷◌, ◌++◌, length, map, find, Result, Ok, Err, codes, decimal, ⊤, IsTrue, sum_by, count_by, flat_map}
+use Rattle.std.specs.Prelude.{◌≡◌, ℕ, suc, ◌+◌, Bool, ◌&&◌, not, nat_le, Option, None, List, [], ◌∷◌, ◌++◌, length, map, find, Result, Ok, codes, decimal, ⊤, IsTrue, sum_by, count_by, flat_map}
 use Rattle.grid_ids.specs.Name.{same_id, has_id}
 use Rattle.grid_ids.specs.Refusing.{refuse_if, refuse_by, found_or}
 use Rattle.grid_kinds.specs.declared.CheckFault.{CheckFault}

@@ -1,9 +1,20 @@
-//! Levels with configured buses: their views, and the machine that switches and connects in them.
+//! Networks whose levels have configured buses: their reading from JSON, their views, and the machine that switches and
+//! connects in them.
 #![tactic(auto)]
 
+mod checks;
+mod commands;
+mod contents;
+mod lists;
 mod network;
+mod parts;
+mod plain;
+mod read;
+mod reasons;
 mod reply;
 mod seeing;
+mod seen;
+mod standing;
 mod translation;
 mod view;
 mod world;
@@ -12,6 +23,7 @@ pub use network::{
     BusEnd, BusSwitch, BusSwitches, ConfiguredJob, ConfiguredLevel, ConfiguredLevels,
     ConfiguredLine, ConfiguredLines, ConfiguredNetwork, Item, Items,
 };
+pub use read::read_configured;
 pub use reply::ConfiguredReply;
 pub use translation::translate;
 pub use view::{ConfiguredBus, ConfiguredBuses, ConfiguredView};
