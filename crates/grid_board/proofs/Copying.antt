@@ -1,6 +1,6 @@
 -- Copies of levels by their places.
 use Rattle.std.proofs.Common.{◌≡◌, ◌≢◌, refl, sym, ap, ◌∙◌, subst, ℕ, arith, Bool, true, false, cond, [], ◌∷◌, Option, Some, None}
-use Rattle.std.specs.Prelude.{◌==◌, slice_get, Result, Ok, Err, OnOk, OnErr}
+use Rattle.std.specs.Prelude.{◌==◌, slice_get}
 use Rattle.std.specs.declared.cmp.Ordering.{Ordering}
 use Rattle.std.specs.declared.cmp.Ordering.TheVariants.{Less, Equal, Greater}
 use Rattle.std.specs.Ordering.{nat_cmp, is_eq, match_ordering}
@@ -13,13 +13,9 @@ use Rattle.grid_structure.specs.declared.Edit.{Edit}
 use Rattle.grid_structure.specs.Network.{Network}
 use Rattle.grid_structure.specs.Sites.{levels}
 use Rattle.grid_bench.specs.declared.Task.{Task}
-use Rattle.grid_bench.specs.Bases.{Basis}
 use Rattle.grid_core.specs.declared.request.Request.{Request}
 use Rattle.grid_core.specs.declared.request.Request.TheVariants as requests
-use Rattle.grid_core.specs.History.{History, Command, command, longer, structure, structure_after}
-use Rattle.grid_core.specs.Worlds.{worker_state}
-use Rattle.grid_board.specs.Boards.{IsBoard}
-use Rattle.grid_board.specs.Current.{IsAsked}
+use Rattle.grid_core.specs.History.{structure_after}
 use Rattle.grid_board.specs.Questions.{task_of}
 use Rattle.grid_board.specs.Copied.{Copied, copy_at, with_copy, AreCopies}
 
@@ -68,7 +64,7 @@ no_edit_stays net (requests.RemoveVariant name) apart = refl
 no_edit_stays net (requests.Change edit) apart = absurd (apart edit refl)
 
 -- an edit has no task
-asking_is_no_edit : (net : Network) (request : Request) (own : Task) → task_of net request ≡ Some own → (edit : Edit) → request ≢ requests.Change edit
+pub asking_is_no_edit : (net : Network) (request : Request) (own : Task) → task_of net request ≡ Some own → (edit : Edit) → request ≢ requests.Change edit
 unfolding task_of
 asking_is_no_edit net request own asked edit is =
     let nothing : ◌≡◌ {A = Option Task} None (Some own) = sym (ap (task_of net) is) ∙ asked in
@@ -83,22 +79,3 @@ same_place place = λ i other. equal_test place other i
 
 pub found_at : (place : ℕ) (copies : Copied) → lookup (λ other. is_eq (nat_cmp place other)) copies ≡ copy_at copies place
 found_at place copies = ap (λ test. lookup test copies) (same_place place)
-
--- ---- boards
-
-pub board_same : (old new : History) (first : Network) (copies : Copied) → new ≡ old → IsBoard old first copies → IsBoard new first copies
-board_same old new first copies same before = subst (λ h. IsBoard h first copies) (sym same) before
-
--- after a step that the copies follow
-pub board_followed : (old new : History) (first : Network) (copies after : Copied) (step : Command) → new ≡ longer old step → ((net : Network) → AreCopies net copies → AreCopies (structure_after net step.request) after) → IsBoard old first copies → IsBoard new first after
-unfolding structure
-board_followed old new first copies after step longer_by follows before =
-    board_same (longer old step) new first after longer_by (record { origin = before.origin; copied = follows (structure old.origin old.steps) before.copied })
-
--- after a step of a request that has a task
-pub board_asked : {A E : Type 0} (r : Result A E) (old new : History) (first : Network) (copies : Copied) (worker : ℕ) (request : Request) (base : Basis) (task : Task) (level : ℕ) → IsAsked old worker request base task level
-    → OnOk r (new ≡ longer old (command worker request)) → OnErr r (new ≡ old) → IsBoard old first copies → IsBoard new first copies
-board_asked (Ok x) old new first copies worker request base task level asked ok err before =
-    board_followed old new first copies copies (command worker request) ok
-    (λ net are. subst (λ n. AreCopies n copies) (sym (no_edit_stays net request (asking_is_no_edit (worker_state old worker).structure request asked.question.own asked.question.asked))) are) before
-board_asked (Err e) old new first copies worker request base task level asked ok err before = board_same old new first copies err before

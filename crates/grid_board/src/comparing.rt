@@ -1,9 +1,11 @@
-// Whether a base is the present one of a task. None of these takes memory.
+// Whether a base is the present one of a task. None of these takes memory. Where the base is known to be one of the same
+// structure, its levels and branches are not compared.
 ghost use Rattle.std.specs.Prelude.{◌≡◌, ◌↔◌, ◌<◌, [], ◌∷◌, length, map, filter_map, Some, IsTrue};
 ghost use Rattle.grid_structure.specs.Sites.{levels, branches, branch_ends};
 ghost use Rattle.grid_watts.specs.Watts as specs;
 ghost use Rattle.grid_bench.specs.Tasks.{level_of};
 ghost use Rattle.grid_core.specs.Fitting.{StateFits};
+ghost use Rattle.grid_board.specs.Edits.{IsTaken, IsLevelAt, AreLevels, WasWhole};
 ghost use Rattle.grid_board.specs.Questions as questions;
 ghost use Rattle.grid_core.specs.Solo.{state_seen};
 
@@ -32,6 +34,14 @@ fn same_watts(placed: &[Placed], powers: &Powers, watts: &[i64]) -> bool
     true
 }
 
+// Whether two levels are equal, which may be known.
+fn is_level(level: &Level, other: &Level, known: bool) -> bool
+    requires { IsTrue known → level.now ≡ other.now }
+    ensures { IsTrue result ↔ (level.now ≡ other.now) }
+{
+    known || (level.id().same(other.id()) && level.same(other))
+}
+
 // Whether a part is this level with these flags and the watts under what is listed.
 #[tactic(auto, unfolding(crate::specs::Questions::part_with, grid_watts::specs::Watts::level_watts))]
 fn is_part(
@@ -40,13 +50,14 @@ fn is_part(
     retained: &[bool],
     powers: &Powers,
     part: &BaseLevel,
+    known: bool,
 ) -> bool
+    requires { IsTrue known → level.now ≡ part.now.level }
     ensures { IsTrue result ↔ (questions.part_with powers.now.listed level.now opened.now retained.now ≡ part.now) }
 {
-    level.id().same(part.level.level().id())
-        && same_items(opened, part.states.slice())
+    same_items(opened, part.states.slice())
         && same_items(retained, part.retained.slice())
-        && level.same(part.level.level())
+        && is_level(level, part.level.level(), known)
         && same_watts(level.placed(), powers, part.powers.slice())
 }
 
@@ -58,9 +69,11 @@ fn is_alone(
     powers: &Powers,
     place: u32,
     base: &Base,
+    known: bool,
 ) -> bool
     requires fits { StateFits (state_seen structure.now opened.now retained.now powers.now.listed) }
     requires level { place < length (levels structure.now) }
+    requires known { IsTrue known → IsLevelAt structure.now place base.now.levels }
     ensures { IsTrue result ↔ (questions.alone (state_seen structure.now opened.now retained.now powers.now.listed) place ≡ Some base.now) }
 {
     let parts = base.levels();
@@ -76,6 +89,7 @@ fn is_alone(
         retained.row(place),
         powers,
         &parts[0],
+        known,
     )
 }
 
@@ -86,8 +100,10 @@ fn same_parts(
     retained: &States,
     powers: &Powers,
     parts: &[BaseLevel],
+    known: bool,
 ) -> bool
-    requires { StateFits (state_seen structure.now opened.now retained.now powers.now.listed) }
+    requires fits { StateFits (state_seen structure.now opened.now retained.now powers.now.listed) }
+    requires known { IsTrue known → AreLevels structure.now parts.now }
     ensures { IsTrue result ↔ (questions.parts_of (state_seen structure.now opened.now retained.now powers.now.listed) ≡ parts.now) }
 {
     if structure.level_count() as usize != parts.len() {
@@ -100,6 +116,7 @@ fn same_parts(
             retained.row(place),
             powers,
             &parts[place as usize],
+            known,
         ) {
             return false;
         }
@@ -133,6 +150,14 @@ fn same_branches(structure: &Structure, list: &[BenchBranch]) -> bool
     true
 }
 
+// Whether the list has the branches by the sites of their ends, which may be known.
+fn are_branches(structure: &Structure, list: &[BenchBranch], known: bool) -> bool
+    requires { IsTrue known → filter_map (questions.branch_of structure.now) (branches structure.now) ≡ list.now }
+    ensures { IsTrue result ↔ (filter_map (questions.branch_of structure.now) (branches structure.now) ≡ list.now) }
+{
+    known || same_branches(structure, list)
+}
+
 // Whether the base is the whole network.
 #[tactic(auto, unfolding(crate::specs::Questions::whole))]
 fn is_whole(
@@ -141,15 +166,18 @@ fn is_whole(
     retained: &States,
     powers: &Powers,
     base: &Base,
+    known: bool,
 ) -> bool
-    requires { StateFits (state_seen structure.now opened.now retained.now powers.now.listed) }
+    requires fits { StateFits (state_seen structure.now opened.now retained.now powers.now.listed) }
+    requires known { IsTrue known → WasWhole structure.now base.now }
     ensures { IsTrue result ↔ (questions.whole (state_seen structure.now opened.now retained.now powers.now.listed) ≡ base.now) }
 {
-    same_parts(structure, opened, retained, powers, base.levels())
-        && same_branches(structure, base.branches())
+    same_parts(structure, opened, retained, powers, base.levels(), known)
+        && are_branches(structure, base.branches(), known)
 }
 
-/// Whether the base is the present one of a task, which names a level of the structure by its place.
+/// Whether the base is the present one of a task, which names a level of the structure by its place. Where it is known that
+/// the base is one of this structure, only flags and watts are compared.
 #[tactic(auto, unfolding(crate::specs::Questions::base_of, grid_bench::specs::Tasks::level_of))]
 pub(crate) fn is_base_of(
     structure: &Structure,
@@ -158,13 +186,23 @@ pub(crate) fn is_base_of(
     powers: &Powers,
     task: Task,
     base: &Base,
+    known: bool,
 ) -> bool
     requires fits { StateFits (state_seen structure.now opened.now retained.now powers.now.listed) }
     requires level { level_of task < length (levels structure.now) }
+    requires known { IsTrue known → IsTaken structure.now task base.now }
     ensures { IsTrue result ↔ (questions.base_of (state_seen structure.now opened.now retained.now powers.now.listed) task ≡ Some base.now) }
 {
     match task {
-        Task::Components { .. } => is_whole(structure, opened, retained, powers, base),
-        _ => is_alone(structure, opened, retained, powers, level_of(task), base),
+        Task::Components { .. } => is_whole(structure, opened, retained, powers, base, known),
+        _ => is_alone(
+            structure,
+            opened,
+            retained,
+            powers,
+            level_of(task),
+            base,
+            known,
+        ),
     }
 }

@@ -3,7 +3,6 @@ ghost use Rattle.std.specs.Prelude.{◌≡◌, ◌++◌, ◌<◌, ◌^◌, [], �
 ghost use Rattle.grid_structure.specs.Sites.{levels};
 ghost use Rattle.grid_islands.specs.Islands as islands;
 ghost use Rattle.grid_core.specs.Fitting.{RowsFit};
-ghost use Rattle.grid_report.specs.Lines.{bus_name};
 ghost use Rattle.grid_hvdc.specs.Numbers as numbers;
 ghost use Rattle.grid_hvdc.specs.Names.{bus_names};
 ghost use Rattle.grid_hvdc.specs.Stations.{hvdc_links};
@@ -15,20 +14,10 @@ use crate::numbers::hvdc_numbers;
 use crate::{HvdcLine, HvdcNumber, HvdcNumbers};
 use grid_ids::{Id, Memory, Seq};
 use grid_islands::bus_pairs;
-use grid_report::Text;
+use grid_report::{Text, put_bus_name};
 use grid_states::States;
 use grid_structure::Structure;
 use std::alloc::Global;
-
-// Puts the name of a bus: its level's id and its least node.
-fn put_bus_name(out: &mut Text, level: &Id, least: u16) -> Result<(), Memory>
-    ensures ok { OnOk result (out.new ≡ out.old ++ bus_name level.now least) }
-    ensures err { OnErr result (out.new ≡ []) }
-{
-    out.put(level.text())?;
-    out.put("_")?;
-    out.put_unsigned(u64::from(least))
-}
 
 // Puts a component's number and size.
 fn put_component(out: &mut Text, number: u32, size: u32) -> Result<(), Memory>

@@ -13,6 +13,7 @@ mod reply;
 mod report;
 mod text;
 
+pub use bus::put_bus_name;
 pub use outcome::{BusViews, Outcome, VariantView, VariantViews};
 pub use pieces::{PIECE, Pieces, ReportFault};
 pub use report::{write_blocks, write_report};

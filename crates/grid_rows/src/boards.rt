@@ -5,7 +5,7 @@ use crate::jobs::duo_with;
 use grid_bench::{Answer, Base, Bench, Task};
 use grid_board::{Board, CommitFault};
 use grid_core::{Reply, Request, Script, World};
-use grid_ids::{Duplicate, Memory, Same};
+use grid_ids::{Duplicate, Id, Memory, Same};
 use grid_json::{Job, read_job};
 use grid_level::Flags;
 use grid_queue::Steps;
@@ -110,6 +110,17 @@ impl Both {
     }
 }
 
+/// Whether what a variant stands at is the same by a board and by a world.
+fn stands_alike(both: &Both, name: &Id) -> Result<bool, Fail> {
+    match (both.board.case(name)?, both.world.case(name)?) {
+        (Some(on_board), Some(in_world)) => Ok(
+            on_board.structure.same(&in_world.structure) && on_board.powers.same(&in_world.powers),
+        ),
+        (None, None) => Ok(true),
+        _ => Ok(false),
+    }
+}
+
 /// The next command of a script, whose cursor moves on.
 fn next<'a>(script: Option<&'a Script>, cursor: &mut usize) -> Option<&'a Request> {
     let request = script?.get(*cursor);
@@ -165,6 +176,12 @@ fn make(rt: &impl Abort, alloc: Global, scripts: &str, order: &str) -> Result<()
             return Ok(assert!(rt; false));
         };
         assert!(rt; both.agree(worker, request)?);
+    }
+    for name in ["InitialState", "VA"] {
+        let Ok(name) = Id::new(alloc, name) else {
+            return Ok(assert!(rt; false));
+        };
+        assert!(rt; stands_alike(&both, &name)?);
     }
     Ok(())
 }

@@ -1,8 +1,10 @@
-use Rattle.std.proofs.Common.{◌≡◌, List, length, get_or, ap, ◌∙◌, rules}
+use Rattle.std.proofs.Common.{◌≡◌, ◌<◌, List, length, get_or, refl, ap, ◌∙◌, rules}
+use Rattle.std.proofs.lemmas.Option.{slice_get_read}
 use Rattle.grid_bench.specs.declared.base.BaseLevel.{BaseLevel}
 use Rattle.grid_core.specs.Solo.{state_seen}
 use Rattle.grid_board.proofs.Questioning.{rows_there}
 use Rattle.grid_board.proofs.Compared.{never, alone_shape, alone_part}
+use Rattle.grid_board.proofs.Edits.{level_is}
 use Rattle.grid_board.proofs.comparing.is_alone.Goals as goal
 
 pub returns-then-parts-ne1 : goal.returns-then-parts-ne1
@@ -16,6 +18,13 @@ row-requires c = (rows_there (state_seen c.args.structure.now c.args.opened.now 
 
 pub row-requires-2 : goal.row-requires-2
 row-requires-2 c = (rows_there (state_seen c.args.structure.now c.args.opened.now c.args.retained.now c.args.powers.now.listed) c.args.place c.level.result.now c.requires.fits c.level.ensures).1
+
+pub is_part-requires : goal.is_part-requires
+is_part-requires c = λ t.
+    let below : 0 < length c.args.base.now.levels = search rules in
+    level_is c.args.structure.now c.args.place c.level.result.now c.index-parts-0.result c.level.ensures
+    (c.requires.known t c.index-parts-0.result
+    (slice_get_read c.args.base.now.levels (length c.args.base.now.levels) 0 c.index-parts-0.result refl below (c.index-parts-0.is ∙ ap (λ (ps : List BaseLevel). get_or ps 0 c.index-parts-0.result) c.levels-parts.ensures)))
 
 pub returns : goal.returns
 returns c =

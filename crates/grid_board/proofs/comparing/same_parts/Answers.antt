@@ -4,16 +4,23 @@ use Rattle.grid_board.specs.Questions.{part_with, parts_of}
 use Rattle.grid_core.specs.Solo.{state_seen}
 use Rattle.grid_board.proofs.Questioning.{rows_there}
 use Rattle.grid_board.proofs.Compared.{never, always, more, differ, done, part_count, part_at}
+use Rattle.grid_board.proofs.Edits.{level_is}
 use Rattle.grid_board.proofs.comparing.same_parts.Goals as goal
 
 pub returns-then-level_count-parts : goal.returns-then-level_count-parts
 returns-then-level_count-parts c = never (λ is. let long = sym (part_count (state_seen c.args.structure.now c.args.opened.now c.args.retained.now c.args.powers.now.listed)) ∙ ap length is in search (rules, long))
 
 pub row-requires : goal.row-requires
-row-requires c = (rows_there (state_seen c.args.structure.now c.args.opened.now c.args.retained.now c.args.powers.now.listed) c.loop-place.place c.level.result.now c.requires c.level.ensures).0
+row-requires c = (rows_there (state_seen c.args.structure.now c.args.opened.now c.args.retained.now c.args.powers.now.listed) c.loop-place.place c.level.result.now c.requires.fits c.level.ensures).0
 
 pub row-requires-in-loop-place : goal.row-requires-in-loop-place
-row-requires-in-loop-place c = (rows_there (state_seen c.args.structure.now c.args.opened.now c.args.retained.now c.args.powers.now.listed) c.loop-place.place c.level.result.now c.requires c.level.ensures).1
+row-requires-in-loop-place c = (rows_there (state_seen c.args.structure.now c.args.opened.now c.args.retained.now c.args.powers.now.listed) c.loop-place.place c.level.result.now c.requires.fits c.level.ensures).1
+
+pub is_part-requires : goal.is_part-requires
+is_part-requires c = λ t.
+    let below : c.loop-place.place < length c.args.parts.now = search rules in
+    level_is c.args.structure.now c.loop-place.place c.level.result.now c.index-parts-place.result c.level.ensures
+    (c.requires.known t c.loop-place.place c.index-parts-place.result (slice_get_read c.args.parts.now (length c.args.parts.now) c.loop-place.place c.index-parts-place.result refl below c.index-parts-place.is))
 
 pub returns-then-not-is_part : goal.returns-then-not-is_part
 returns-then-not-is_part c =
