@@ -13,3 +13,7 @@ pub mod Worlds
 pub mod Seen
 pub mod Standing
 pub mod Jobs
+pub mod Texts
+pub mod Reports
+pub mod Outcomes
+pub mod Blocks

@@ -1,6 +1,6 @@
 use Rattle.std.proofs.Common.{ap, ◌∙◌}
 use Rattle.grid_ids.specs.Name.{has_id}
-use Rattle.grid_configured.proofs.Seeing.{key_found}
+use Rattle.grid_configured.proofs.SeenIds.{key_found}
 use Rattle.grid_configured.proofs.seen.SeenIds.has.Goals as goal
 
 pub returns : goal.returns
