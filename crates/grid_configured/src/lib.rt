@@ -4,6 +4,8 @@
 mod network;
 mod reply;
 mod seeing;
+#[cfg(test)]
+mod tests;
 mod translation;
 mod view;
 mod world;
