@@ -9,6 +9,7 @@ mod tests;
 mod translation;
 mod view;
 mod world;
+mod write;
 
 pub use network::{
     BusEnd, BusSwitch, BusSwitches, ConfiguredJob, ConfiguredLevel, ConfiguredLevels,
@@ -18,3 +19,4 @@ pub use reply::ConfiguredReply;
 pub use translation::translate;
 pub use view::{ConfiguredBus, ConfiguredBuses, ConfiguredView};
 pub use world::ConfiguredWorld;
+pub use write::{put_level, put_step};

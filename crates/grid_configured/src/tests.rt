@@ -8,13 +8,7 @@ fn id(rt: &HostRuntime, text: &str) -> Result<Id, Fail> {
     Ok(Id::new(rt.alloc(), text)?)
 }
 
-fn load(
-    rt: &HostRuntime,
-    name: &str,
-    bus: &str,
-    connected: bool,
-    p0: i64,
-) -> Result<Item, Fail> {
+fn load(rt: &HostRuntime, name: &str, bus: &str, connected: bool, p0: i64) -> Result<Item, Fail> {
     Ok(Item {
         id: id(rt, name)?,
         bus: id(rt, bus)?,
@@ -74,6 +68,11 @@ fn a_terminal_is_connected_by_itself(rt: HostRuntime) -> Result<(), Fail> {
         id: id(&rt, "X1")?,
         side: 1,
     };
-    assert!(rt; matches!(world.step(0, &bus)?, ConfiguredReply::Refused(Refusal::NoEquipment)));
+    assert!(rt;
+        matches!(
+            world.step(0, &bus)?,
+            ConfiguredReply::Refused(Refusal::NoEquipment)
+        )
+    );
     Ok(())
 }

@@ -154,11 +154,7 @@ fn end_at(end: &BusEnd, node: i64) -> Result<End, Memory> {
 }
 
 // Puts a line at the next nodes of its levels, with the breakers of its ends.
-fn add_line(
-    alloc: Global,
-    structure: &mut Structure,
-    line: &ConfiguredLine,
-) -> Result<(), Memory> {
+fn add_line(alloc: Global, structure: &mut Structure, line: &ConfiguredLine) -> Result<(), Memory> {
     let node1 = next_node(structure, &line.end1.level);
     let mut node2 = next_node(structure, &line.end2.level);
     if line.end2.level.same(&line.end1.level) {
@@ -171,11 +167,25 @@ fn add_line(
     made(structure.add_branch(&line.id, &shape))?;
     let first = &line.end1;
     add_breaker(
-        alloc, structure, &line.id, 1, &first.level, &first.bus, node1, first.connected,
+        alloc,
+        structure,
+        &line.id,
+        1,
+        &first.level,
+        &first.bus,
+        node1,
+        first.connected,
     )?;
     let second = &line.end2;
     add_breaker(
-        alloc, structure, &line.id, 2, &second.level, &second.bus, node2, second.connected,
+        alloc,
+        structure,
+        &line.id,
+        2,
+        &second.level,
+        &second.bus,
+        node2,
+        second.connected,
     )
 }
 
