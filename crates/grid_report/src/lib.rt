@@ -13,7 +13,9 @@ mod reply;
 mod report;
 mod text;
 
+pub use command::put_command;
 pub use outcome::{BusViews, Outcome, VariantView, VariantViews};
 pub use pieces::{PIECE, Pieces, ReportFault};
+pub use refusal::put_refusal;
 pub use report::{write_blocks, write_report};
 pub use text::{Shown, Text};
