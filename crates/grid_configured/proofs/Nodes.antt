@@ -104,7 +104,7 @@ node_numbers level =
     ∙ range_join 0 (length level.buses) (length level.buses) (length level.outlets) (omega arith)
 
 -- both ends of each switch are below a count
-pub EndsUnder : ℕ → List Switch → Type 0
+unfoldable pub EndsUnder : ℕ → List Switch → Type 0
 EndsUnder count [] = Unit {0}
 EndsUnder count (s ∷ rest) = (s.node1 < count) × (s.node2 < count) × EndsUnder count rest
 
