@@ -1,0 +1,125 @@
+-- A network whose levels stand each in a substation of its own, under the edits of one level.
+use Rattle.std.proofs.Common.{◌≡◌, refl, sym, ap, ◌∙◌, subst, ℕ, ℤ, zero, suc, ◌+◌, ◌<◌, ◌≤◌, Bool, true, false, cond, not, ◌||◌, List, [], ◌∷◌, ◌++◌, length, Option, Some, None, Ok, arith}
+use Rattle.std.specs.Prelude.{pos, map, find, flat_map, nat_le}
+use Rattle.std.specs.List.{list_any}
+use Rattle.std.proofs.lemmas.Bool.{lt-leb, or_parts, cases_Bool}
+use Rattle.std.proofs.lemmas.List.{map-append}
+use Rattle.std.proofs.lemmas.Slice.Eq.{bytes_eq-Decides}
+use Rattle.grid_ids.specs.Name.{same_id, has_id}
+use Rattle.grid_ids.specs.Refusing.{◌>>=◌, refuse_if, refuse_by, found_or, map_fault}
+use Rattle.grid_kinds.specs.declared.SwitchKind.TheVariants.{Breaker}
+use Rattle.grid_kinds.specs.declared.Injection.{Injection}
+use Rattle.grid_kinds.specs.Records.{injection_fault}
+use Rattle.grid_level.specs.declared.Stand.TheVariants.{Busbar, Feeder}
+use Rattle.grid_level.specs.VoltageLevel.{VoltageLevel}
+use Rattle.grid_level.specs.LevelEdits.{level_with_switch, level_with_terminal}
+use Rattle.grid_structure.specs.declared.NamedBranch.{NamedBranch}
+use Rattle.grid_structure.specs.declared.Edit.TheVariants as edits
+use Rattle.grid_structure.specs.Network.{Network, Substation}
+use Rattle.grid_structure.specs.Sites.{levels, switches, level_named, taken}
+use Rattle.grid_structure.specs.Editing.{max_switches, substation_with_levels, with_levels, with_level, apply}
+use Rattle.grid_configured.specs.declared.network.ConfiguredLevel.{ConfiguredLevel}
+use Rattle.grid_configured.specs.declared.network.ConfiguredNetwork.{ConfiguredNetwork}
+use Rattle.grid_configured.specs.Levels.{placed_level, placed_levels}
+use Rattle.grid_configured.specs.Translation.{substation_id, substation_of, translated_level, translated_line, translated}
+
+-- the substation of a level
+unfoldable pub home : VoltageLevel → Substation
+home level = record { id = substation_id level.id; levels = level ∷ []; transformers = [] }
+
+unfoldable pub housed : List ℕ → List VoltageLevel → List NamedBranch → Network
+housed id ls lines = record { id = id; substations = map home ls; lines = lines }
+
+-- a network with configured buses stands so in node/breaker form
+homes_from : (network : ConfiguredNetwork) (ls : List ConfiguredLevel) → map (substation_of network) ls ≡ map home (map translated_level (map (placed_level network) ls))
+unfolding substation_of home translated_level placed_level
+homes_from network [] = refl
+homes_from network (l ∷ ls) = ap (λ z. substation_of network l ∷ z) (homes_from network ls)
+
+pub translated_housed : (network : ConfiguredNetwork) → translated network ≡ housed network.id (map translated_level (placed_levels network)) (map (translated_line network) network.lines)
+unfolding translated housed placed_levels
+translated_housed network = ap (λ (z : List Substation). record { id = network.id; substations = z; lines = map (translated_line network) network.lines }) (homes_from network network.levels)
+
+levels_of : (ls : List VoltageLevel) → flat_map (λ s. s.levels) (map home ls) ≡ ls
+unfolding home
+levels_of [] = refl
+levels_of (l ∷ ls) = ap (λ z. l ∷ z) (levels_of ls)
+
+pub levels_housed : (id : List ℕ) (ls : List VoltageLevel) (lines : List NamedBranch) → levels (housed id ls lines) ≡ ls
+unfolding levels housed
+levels_housed id ls lines = levels_of ls
+
+-- ---- one level changed
+
+abbrev changed : VoltageLevel → VoltageLevel → VoltageLevel
+changed new l = cond (same_id new.id l.id) new l
+
+home_changed : (new l : VoltageLevel) (t : Bool) → same_id new.id l.id ≡ t → record (home l) { levels = cond t new l ∷ [] } ≡ home (cond t new l)
+unfolding home
+home_changed new l true e = ap (λ (z : List ℕ). record { id = substation_id z; levels = new ∷ []; transformers = [] }) (sym ((bytes_eq-Decides new.id l.id).0 e))
+home_changed new l false e = refl
+
+homes_changed : (new : VoltageLevel) (ls : List VoltageLevel) → map (substation_with_levels (changed new)) (map home ls) ≡ map home (map (changed new) ls)
+unfolding substation_with_levels home
+homes_changed new [] = refl
+homes_changed new (l ∷ ls) = ap (λ z. z ∷ map (substation_with_levels (changed new)) (map home ls)) (home_changed new l (same_id new.id l.id) refl) ∙ ap (λ z. home (changed new l) ∷ z) (homes_changed new ls)
+
+unchanged : (new : VoltageLevel) (ls : List VoltageLevel) → has_id (map (λ l. l.id) ls) new.id ≡ false → map (changed new) ls ≡ ls
+unfolding has_id
+unchanged new [] h = refl
+unchanged new (l ∷ ls) h =
+    let parts = or_parts (same_id new.id l.id) (list_any (same_id new.id) (map (λ l. l.id) ls)) h in
+    ap (λ t. cond t new l ∷ map (changed new) ls) parts.0 ∙ ap (λ z. l ∷ z) (unchanged new ls parts.1)
+
+-- a level between others of other ids
+pub record Stands (front : List VoltageLevel) (old : VoltageLevel) (back : List VoltageLevel) : Type 0 where
+  pub before : has_id (map (λ l. l.id) front) old.id ≡ false
+  pub behind : has_id (map (λ l. l.id) back) old.id ≡ false
+
+module _ (id : List ℕ) (front back : List VoltageLevel) (old : VoltageLevel) (lines : List NamedBranch) (stands : Stands front old back) where
+  all : Network
+  all = housed id (front ++ old ∷ back) lines
+
+  itself : same_id old.id old.id ≡ true
+  itself = (bytes_eq-Decides old.id old.id).1 refl
+
+  found_behind : (ls : List VoltageLevel) → has_id (map (λ l. l.id) ls) old.id ≡ false → find (λ l. same_id old.id l.id) (ls ++ old ∷ back) ≡ Some old
+  unfolding has_id
+  found_behind [] h = ap (λ t. cond t (Some old) (find (λ l. same_id old.id l.id) back)) itself
+  found_behind (l ∷ ls) h =
+      let parts = or_parts (same_id old.id l.id) (list_any (same_id old.id) (map (λ l. l.id) ls)) h in
+      ap (λ t. cond t (Some l) (find (λ l. same_id old.id l.id) (ls ++ old ∷ back))) parts.0 ∙ found_behind ls parts.1
+
+  named : level_named (housed id (front ++ old ∷ back) lines) old.id ≡ Some old
+  unfolding level_named
+  named = ap (find (λ l. same_id old.id l.id)) (levels_housed id (front ++ old ∷ back) lines) ∙ found_behind front stands.before
+
+  put : (new : VoltageLevel) → new.id ≡ old.id → with_level new (housed id (front ++ old ∷ back) lines) ≡ housed id (front ++ new ∷ back) lines
+  unfolding with_level with_levels housed
+  put new e =
+      let P : List ℕ → Type 0 = λ z. (has_id (map (λ l. l.id) front) z ≡ false) × (has_id (map (λ l. l.id) back) z ≡ false) × (same_id z old.id ≡ true) in
+      let here = subst P (sym e) (stands.before, stands.behind, itself) in
+      ap (λ (z : List Substation). record { id = id; substations = z; lines = lines })
+      (homes_changed new (front ++ old ∷ back)
+      ∙ ap (map home) (map-append (changed new) front (old ∷ back) ∙ ap (λ z. z ++ map (changed new) (old ∷ back)) (unchanged new front here.0)
+      ∙ ap (λ t. front ++ cond t new old ∷ map (changed new) back) here.2 ∙ ap (λ z. front ++ new ∷ z) (unchanged new back here.1)))
+
+  -- a busbar section at a node of the level
+  pub busbar_put : (bus : List ℕ) (node : ℤ) (new : VoltageLevel) → taken (housed id (front ++ old ∷ back) lines) bus ≡ false → level_with_terminal old node (record { equipment = bus; side = 1 }) Busbar ≡ Ok new → new.id ≡ old.id
+      → apply (housed id (front ++ old ∷ back) lines) (edits.AddBusbar bus old.id node) ≡ Ok (housed id (front ++ new ∷ back) lines)
+  unfolding apply
+  busbar_put bus node new fresh made e = rw (fresh, named, made) (ap Ok (put new e))
+
+  -- an injection at a node of the level
+  pub injection_put : (item : List ℕ) (node : ℤ) (what : Injection) (new : VoltageLevel) → taken (housed id (front ++ old ∷ back) lines) item ≡ false → injection_fault what ≡ None → level_with_terminal old node (record { equipment = item; side = 1 }) (Feeder what) ≡ Ok new → new.id ≡ old.id
+      → apply (housed id (front ++ old ∷ back) lines) (edits.AddInjection item old.id node what) ≡ Ok (housed id (front ++ new ∷ back) lines)
+  unfolding apply
+  injection_put item node what new fresh right made e = rw (fresh, named, right, made) (ap Ok (put new e))
+
+  -- a breaker between two nodes of the level
+  pub breaker_put : (switch : List ℕ) (node1 node2 : ℤ) (opened retained : Bool) (new : VoltageLevel) → taken (housed id (front ++ old ∷ back) lines) switch ≡ false → length (switches (housed id (front ++ old ∷ back) lines)) < max_switches
+      → level_with_switch old switch Breaker node1 node2 opened retained false ≡ Ok new → new.id ≡ old.id
+      → apply (housed id (front ++ old ∷ back) lines) (edits.AddSwitch switch old.id Breaker node1 node2 opened retained false) ≡ Ok (housed id (front ++ new ∷ back) lines)
+  unfolding apply
+  breaker_put switch node1 node2 opened retained new fresh few made e =
+      rw (fresh, named, lt-leb max_switches (length (switches (housed id (front ++ old ∷ back) lines))) few, made) (ap Ok (put new e))
