@@ -1,8 +1,9 @@
 -- A network whose levels stand each in a substation of its own, under the edits of one level.
 use Rattle.std.proofs.Common.{◌≡◌, refl, sym, ap, ◌∙◌, subst, ℕ, ℤ, zero, suc, ◌+◌, ◌<◌, ◌≤◌, Bool, true, false, cond, not, ◌||◌, List, [], ◌∷◌, ◌++◌, length, Option, Some, None, Ok, arith}
-use Rattle.std.specs.Prelude.{pos, map, find, flat_map, nat_le}
+use Rattle.std.specs.Prelude.{pos, map, filter, find, flat_map, nat_le}
 use Rattle.std.specs.List.{list_any}
-use Rattle.std.proofs.lemmas.Bool.{lt-leb, or_parts, cases_Bool}
+use Rattle.std.proofs.lemmas.Bool.{lt-leb, or_parts, or_from}
+use Rattle.std.proofs.lemmas.List.Folds.{list_any-append}
 use Rattle.std.proofs.lemmas.List.{map-append}
 use Rattle.std.proofs.lemmas.Slice.Eq.{bytes_eq-Decides}
 use Rattle.grid_ids.specs.Name.{same_id, has_id}
@@ -10,14 +11,17 @@ use Rattle.grid_ids.specs.Refusing.{◌>>=◌, refuse_if, refuse_by, found_or, m
 use Rattle.grid_kinds.specs.declared.SwitchKind.TheVariants.{Breaker}
 use Rattle.grid_kinds.specs.declared.Injection.{Injection}
 use Rattle.grid_kinds.specs.Records.{injection_fault}
-use Rattle.grid_level.specs.declared.Stand.TheVariants.{Busbar, Feeder}
+use Rattle.grid_level.specs.declared.Stand.TheVariants.{Busbar, Feeder, BranchEnd}
+use Rattle.grid_level.specs.Passing.{is_branch_end}
 use Rattle.grid_level.specs.VoltageLevel.{VoltageLevel}
 use Rattle.grid_level.specs.LevelEdits.{level_with_switch, level_with_terminal}
 use Rattle.grid_structure.specs.declared.NamedBranch.{NamedBranch}
+use Rattle.grid_structure.specs.declared.End.{End}
+use Rattle.grid_structure.specs.declared.Branch.TheVariants.{Line}
 use Rattle.grid_structure.specs.declared.Edit.TheVariants as edits
 use Rattle.grid_structure.specs.Network.{Network, Substation}
-use Rattle.grid_structure.specs.Sites.{levels, switches, level_named, taken}
-use Rattle.grid_structure.specs.Editing.{max_switches, substation_with_levels, with_levels, with_level, apply}
+use Rattle.grid_structure.specs.Sites.{levels, branches, switches, level_named, level_ids, switch_ids, single_ids, branch_ids, equipment_ids, all_ids, taken, branch_ends, home_of}
+use Rattle.grid_structure.specs.Editing.{max_switches, substation_with_levels, with_levels, with_level, in_home, place_end, place_ends, refuse_home, with_branch, apply}
 use Rattle.grid_configured.specs.declared.network.ConfiguredLevel.{ConfiguredLevel}
 use Rattle.grid_configured.specs.declared.network.ConfiguredNetwork.{ConfiguredNetwork}
 use Rattle.grid_configured.specs.Levels.{placed_level, placed_levels}
@@ -123,3 +127,55 @@ module _ (id : List ℕ) (front back : List VoltageLevel) (old : VoltageLevel) (
   unfolding apply
   breaker_put switch node1 node2 opened retained new fresh few made e =
       rw (fresh, named, lt-leb max_switches (length (switches (housed id (front ++ old ∷ back) lines))) few, made) (ap Ok (put new e))
+
+  -- an end of a branch at a node of the level
+  pub end_put : (branch : List ℕ) (side : ℕ) (node : ℤ) (new : VoltageLevel) → level_with_terminal old node (record { equipment = branch; side = side }) BranchEnd ≡ Ok new → new.id ≡ old.id
+      → place_end None branch side (record { level = old.id; node = node }) (housed id (front ++ old ∷ back) lines) ≡ Ok (housed id (front ++ new ∷ back) lines)
+  unfolding place_end in_home
+  end_put branch side node new made e = rw (named, made) (ap Ok (put new e))
+
+-- a line, whose ends are placed one after the other
+pub line_put : (net middle : Network) (id : List ℕ) (ls : List VoltageLevel) (lines : List NamedBranch) (line : List ℕ) (end1 end2 : End) → taken net line ≡ false
+    → place_end None line 1 end1 net ≡ Ok middle → place_end None line 2 end2 middle ≡ Ok (housed id ls lines)
+    → apply net (edits.AddBranch line (Line end1 end2)) ≡ Ok (housed id ls (lines ++ record { id = line; shape = Line end1 end2 } ∷ []))
+unfolding apply refuse_home home_of branch_ends place_ends with_branch housed
+line_put net middle id ls lines line end1 end2 fresh first second =
+    let next : 1 + 1 ≡ 2 = refl in
+    rw (fresh, first, second) refl
+
+-- ---- ids that nothing has
+
+-- ids of busbar sections and injections
+abbrev pub own_ids : VoltageLevel → List (List ℕ)
+own_ids l = map (λ p. p.terminal.equipment) (filter (λ p. not (is_branch_end p.stand)) l.placed)
+
+no_transformers : (ls : List VoltageLevel) → flat_map (λ s. s.transformers) (map home ls) ≡ []
+unfolding home
+no_transformers [] = refl
+no_transformers (l ∷ ls) = no_transformers ls
+
+home_ids : (ls : List VoltageLevel) → map (λ s. s.id) (map home ls) ≡ map (λ l. substation_id l.id) ls
+unfolding home
+home_ids [] = refl
+home_ids (l ∷ ls) = ap (λ z. substation_id l.id ∷ z) (home_ids ls)
+
+switch_names : (ls : List VoltageLevel) → map (λ s. s.id) (flat_map (λ l. l.switches) ls) ≡ flat_map (λ l. map (λ s. s.id) l.switches) ls
+switch_names [] = refl
+switch_names (l ∷ ls) = map-append (λ s. s.id) l.switches (flat_map (λ l. l.switches) ls) ∙ ap (λ z. map (λ s. s.id) l.switches ++ z) (switch_names ls)
+
+either_none : (xs ys : List (List ℕ)) (q : List ℕ) → has_id xs q ≡ false → has_id ys q ≡ false → has_id (xs ++ ys) q ≡ false
+unfolding has_id
+either_none xs ys q h k = list_any-append (same_id q) xs ys ∙ or_from (list_any (same_id q) xs) (list_any (same_id q) ys) h k
+
+-- what no substation, no level, no switch and no equipment has
+pub fresh_by : (id : List ℕ) (ls : List VoltageLevel) (lines : List NamedBranch) (q : List ℕ) → has_id (map (λ l. substation_id l.id) ls) q ≡ false → has_id (map (λ l. l.id) ls) q ≡ false
+    → has_id (flat_map (λ l. map (λ s. s.id) l.switches) ls) q ≡ false → has_id (flat_map own_ids ls) q ≡ false → has_id (map (λ b. b.id) lines) q ≡ false → taken (housed id ls lines) q ≡ false
+unfolding taken all_ids level_ids switch_ids equipment_ids single_ids branch_ids switches branches levels housed
+fresh_by id ls lines q a b c d e =
+    either_none (map (λ s. s.id) (map home ls) ++ map (λ l. l.id) (flat_map (λ s. s.levels) (map home ls)) ++ map (λ s. s.id) (flat_map (λ l. l.switches) (flat_map (λ s. s.levels) (map home ls))))
+    (flat_map own_ids (flat_map (λ s. s.levels) (map home ls)) ++ map (λ b. b.id) (flat_map (λ s. s.transformers) (map home ls) ++ lines)) q
+    (either_none (map (λ s. s.id) (map home ls) ++ map (λ l. l.id) (flat_map (λ s. s.levels) (map home ls))) (map (λ s. s.id) (flat_map (λ l. l.switches) (flat_map (λ s. s.levels) (map home ls)))) q
+    (either_none (map (λ s. s.id) (map home ls)) (map (λ l. l.id) (flat_map (λ s. s.levels) (map home ls))) q (ap (λ z. has_id z q) (home_ids ls) ∙ a) (ap (λ z. has_id (map (λ l. l.id) z) q) (levels_of ls) ∙ b))
+    (ap (λ z. has_id (map (λ s. s.id) (flat_map (λ l. l.switches) z)) q) (levels_of ls) ∙ ap (λ z. has_id z q) (switch_names ls) ∙ c))
+    (either_none (flat_map own_ids (flat_map (λ s. s.levels) (map home ls))) (map (λ b. b.id) (flat_map (λ s. s.transformers) (map home ls) ++ lines)) q
+    (ap (λ z. has_id (flat_map own_ids z) q) (levels_of ls) ∙ d) (ap (λ z. has_id (map (λ b. b.id) (z ++ lines)) q) (no_transformers ls) ∙ e))
