@@ -10,7 +10,7 @@ use Rattle.grid_ids.specs.Name.{same_id, has_id}
 use Rattle.grid_ids.specs.Refusing.{◌>>=◌, refuse_if, refuse_by, found_or, map_fault}
 use Rattle.grid_kinds.specs.declared.SwitchKind.TheVariants.{Breaker}
 use Rattle.grid_kinds.specs.declared.Injection.{Injection}
-use Rattle.grid_kinds.specs.Records.{injection_fault}
+use Rattle.grid_kinds.specs.Records.{level_fault, injection_fault}
 use Rattle.grid_level.specs.declared.Stand.TheVariants.{Busbar, Feeder, BranchEnd}
 use Rattle.grid_level.specs.Passing.{is_branch_end}
 use Rattle.grid_level.specs.VoltageLevel.{VoltageLevel}
@@ -20,8 +20,8 @@ use Rattle.grid_structure.specs.declared.End.{End}
 use Rattle.grid_structure.specs.declared.Branch.TheVariants.{Line}
 use Rattle.grid_structure.specs.declared.Edit.TheVariants as edits
 use Rattle.grid_structure.specs.Network.{Network, Substation}
-use Rattle.grid_structure.specs.Sites.{levels, branches, switches, level_named, level_ids, switch_ids, single_ids, branch_ids, equipment_ids, all_ids, taken, branch_ends, home_of}
-use Rattle.grid_structure.specs.Editing.{max_switches, substation_with_levels, with_levels, with_level, in_home, place_end, place_ends, refuse_home, with_branch, apply}
+use Rattle.grid_structure.specs.Sites.{levels, substation_named, branches, switches, level_named, level_ids, switch_ids, single_ids, branch_ids, equipment_ids, all_ids, taken, branch_ends, home_of}
+use Rattle.grid_structure.specs.Editing.{max_levels, max_switches, with_substation, substation_with_levels, with_levels, with_level, in_home, place_end, place_ends, refuse_home, with_branch, apply}
 use Rattle.grid_configured.specs.declared.network.ConfiguredLevel.{ConfiguredLevel}
 use Rattle.grid_configured.specs.declared.network.ConfiguredNetwork.{ConfiguredNetwork}
 use Rattle.grid_configured.specs.Levels.{placed_level, placed_levels}
@@ -179,3 +179,50 @@ fresh_by id ls lines q a b c d e =
     (ap (λ z. has_id (map (λ s. s.id) (flat_map (λ l. l.switches) z)) q) (levels_of ls) ∙ ap (λ z. has_id z q) (switch_names ls) ∙ c))
     (either_none (flat_map own_ids (flat_map (λ s. s.levels) (map home ls))) (map (λ b. b.id) (flat_map (λ s. s.transformers) (map home ls) ++ lines)) q
     (ap (λ z. has_id (flat_map own_ids z) q) (levels_of ls) ∙ d) (ap (λ z. has_id (map (λ b. b.id) (z ++ lines)) q) (no_transformers ls) ∙ e))
+
+-- ---- a level more
+
+-- a level of nothing
+abbrev pub bare_level : List ℕ → ℤ → VoltageLevel
+bare_level id nominal_v = record { id = id; nominal_v = nominal_v; low_v = None; high_v = None; switches = []; internals = []; placed = [] }
+
+abbrev bare_home : List ℕ → Substation
+bare_home id = record { id = id; levels = []; transformers = [] }
+
+-- its substation, before it
+unfoldable pub opened_home : List ℕ → List VoltageLevel → List NamedBranch → List ℕ → Network
+opened_home id ls lines level = record { id = id; substations = map home ls ++ bare_home (substation_id level) ∷ []; lines = lines }
+
+pub home_put : (id : List ℕ) (ls : List VoltageLevel) (lines : List NamedBranch) (level : List ℕ) → taken (housed id ls lines) (substation_id level) ≡ false
+    → apply (housed id ls lines) (edits.AddSubstation (substation_id level)) ≡ Ok (opened_home id ls lines level)
+unfolding apply housed opened_home
+home_put id ls lines level fresh = rw fresh refl
+
+named_last : (ls : List VoltageLevel) (home_id : List ℕ) → has_id (map (λ l. substation_id l.id) ls) home_id ≡ false → find (λ s. same_id home_id s.id) (map home ls ++ bare_home home_id ∷ []) ≡ Some (bare_home home_id)
+unfolding has_id home
+named_last [] home_id h = ap (λ t. cond t (Some (bare_home home_id)) None) ((bytes_eq-Decides home_id home_id).1 refl)
+named_last (l ∷ ls) home_id h =
+    let parts = or_parts (same_id home_id (substation_id l.id)) (list_any (same_id home_id) (map (λ l. substation_id l.id) ls)) h in
+    ap (λ t. cond t (Some (home l)) (find (λ s. same_id home_id s.id) (map home ls ++ bare_home home_id ∷ []))) parts.0 ∙ named_last ls home_id parts.1
+
+filled_last : (ls : List VoltageLevel) (level : VoltageLevel) → has_id (map (λ l. substation_id l.id) ls) (substation_id level.id) ≡ false
+    → map (λ (s : Substation). cond (same_id (substation_id level.id) s.id) (record s { levels = s.levels ++ level ∷ [] }) s) (map home ls ++ bare_home (substation_id level.id) ∷ []) ≡ map home (ls ++ level ∷ [])
+unfolding has_id home
+filled_last [] level h = ap (λ t. cond t (record (bare_home (substation_id level.id)) { levels = level ∷ [] }) (bare_home (substation_id level.id)) ∷ []) ((bytes_eq-Decides (substation_id level.id) (substation_id level.id)).1 refl)
+filled_last (l ∷ ls) level h =
+    let parts = or_parts (same_id (substation_id level.id) (substation_id l.id)) (list_any (same_id (substation_id level.id)) (map (λ l. substation_id l.id) ls)) h in
+    ap (λ t. cond t (record (home l) { levels = l ∷ level ∷ [] }) (home l) ∷ map (λ (s : Substation). cond (same_id (substation_id level.id) s.id) (record s { levels = s.levels ++ level ∷ [] }) s) (map home ls ++ bare_home (substation_id level.id) ∷ [])) parts.0
+    ∙ ap (λ z. home l ∷ z) (filled_last ls level parts.1)
+
+opened_levels : (ls : List VoltageLevel) (home_id : List ℕ) → flat_map (λ s. s.levels) (map home ls ++ bare_home home_id ∷ []) ≡ ls
+unfolding home
+opened_levels [] home_id = refl
+opened_levels (l ∷ ls) home_id = ap (λ z. l ∷ z) (opened_levels ls home_id)
+
+pub level_put : (id : List ℕ) (ls : List VoltageLevel) (lines : List NamedBranch) (level : List ℕ) (nominal_v : ℤ) → taken (opened_home id ls lines level) level ≡ false → has_id (map (λ l. substation_id l.id) ls) (substation_id level) ≡ false
+    → length ls < max_levels → level_fault nominal_v None None ≡ None
+    → apply (opened_home id ls lines level) (edits.AddLevel level (substation_id level) nominal_v None None) ≡ Ok (housed id (ls ++ bare_level level nominal_v ∷ []) lines)
+unfolding apply housed opened_home substation_named with_substation levels
+level_put id ls lines level nominal_v fresh apart few right =
+    rw (fresh, named_last ls (substation_id level) apart, lt-leb max_levels (length (flat_map (λ s. s.levels) (map home ls ++ bare_home (substation_id level) ∷ []))) (let e = ap length (opened_levels ls (substation_id level)) in omega (arith, e, few)), right)
+    (ap (λ (z : List Substation). Ok (record { id = id; substations = z; lines = lines })) (filled_last ls (bare_level level nominal_v) apart))

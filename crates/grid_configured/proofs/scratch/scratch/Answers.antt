@@ -1,5 +1,5 @@
 use Rattle.std.proofs.Common.{refl}
-use Rattle.grid_configured.proofs.Homes.{fresh_by}
+use Rattle.grid_configured.proofs.Homes.{level_put}
 use Rattle.grid_configured.proofs.scratch.scratch.Goals as goal
 
 pub returns : goal.returns
