@@ -48,7 +48,7 @@ above_all m n (x ∷ ns) h i =
       | inr j ↦ above_all m n ns parts.1 j
     ]
 
-with_known : (n : ℕ) (ns : List ℕ) → is_rising ns ≡ true → In n ns → with_node n ns ≡ ns
+pub with_known : (n : ℕ) (ns : List ℕ) → is_rising ns ≡ true → In n ns → with_node n ns ≡ ns
 unfolding with_node is_rising
 with_known n [] h i = absurd (false≢true i)
 with_known n (m ∷ ns) h i =
@@ -93,7 +93,7 @@ map_alike f g same (x ∷ xs) = ap (λ y. y ∷ map f xs) (same x) ∙ ap (λ z.
 
 -- ---- the nodes of a level
 
-node_numbers : (level : PlacedLevel) → map (λ (p : Placed). p.node) (translated_level level).placed ≡ places (length level.buses + length level.outlets)
+pub node_numbers : (level : PlacedLevel) → map (λ (p : Placed). p.node) (translated_level level).placed ≡ places (length level.buses + length level.outlets)
 unfolding translated_level outlets_at bus_section outlet_placed places
 node_numbers level =
     map-append (λ (p : Placed). p.node) (map bus_section (enumerate_from 0 level.buses)) (map outlet_placed (enumerate_from (length level.buses) level.outlets))
@@ -104,11 +104,11 @@ node_numbers level =
     ∙ range_join 0 (length level.buses) (length level.buses) (length level.outlets) (omega arith)
 
 -- both ends of each switch are below a count
-pub EndsUnder : ℕ → List Switch → Type 0
+unfoldable pub EndsUnder : ℕ → List Switch → Type 0
 EndsUnder count [] = Unit {0}
 EndsUnder count (s ∷ rest) = (s.node1 < count) × (s.node2 < count) × EndsUnder count rest
 
-under_join : (count : ℕ) (xs ys : List Switch) → EndsUnder count xs → EndsUnder count ys → EndsUnder count (xs ++ ys)
+pub under_join : (count : ℕ) (xs ys : List Switch) → EndsUnder count xs → EndsUnder count ys → EndsUnder count (xs ++ ys)
 unfolding EndsUnder
 under_join count [] ys h k = k
 under_join count (x ∷ xs) ys h k = (h.0, h.1, under_join count xs ys h.2 k)
@@ -138,7 +138,7 @@ outlets_under most at count (t ∷ ts) le few h =
 abbrev pub StandsWell : ℕ → Outlet → Type 0
 StandsWell most t = (t.place < most) × (is_busbar t.stand ≡ false)
 
-placed_from : (most : ℕ) (ts : List Outlet) → All (StandsWell most) ts → PlacedUnder most ts
+pub placed_from : (most : ℕ) (ts : List Outlet) → All (StandsWell most) ts → PlacedUnder most ts
 placed_from most [] h = tt
 placed_from most (t ∷ ts) h = ((All-head (StandsWell most) t ts h).0, placed_from most ts (All-tail (StandsWell most) t ts h))
 
@@ -160,7 +160,7 @@ both_In n pair i = elim (or_cases (eqb n pair.0) (eqb n pair.1 || false) i) [
   | inr j ↦ elim (or_cases (eqb n pair.1) false j) [ inl e ↦ inr (eqb-true n pair.1 e) | inr f ↦ absurd (false≢true f) ]
 ]
 
-ends_In : (count : ℕ) (ss : List Switch) → EndsUnder count ss → (n : ℕ) → In n (flat_map (λ e. both (ends e)) (map switch_edge ss)) → n < count
+pub ends_In : (count : ℕ) (ss : List Switch) → EndsUnder count ss → (n : ℕ) → In n (flat_map (λ e. both (ends e)) (map switch_edge ss)) → n < count
 unfolding EndsUnder ends
 ends_In count [] h n i = absurd (false≢true i)
 ends_In count (s ∷ ss) h n i = elim (In_parts n (both (ends (switch_edge s))) (flat_map (λ e. both (ends e)) (map switch_edge ss)) i) [
@@ -173,7 +173,7 @@ no_internals : (level : PlacedLevel) → map switch_edge (translated_level level
 unfolding translated_level
 no_internals level = append-nil _
 
-places_rise : (count : ℕ) → is_rising (places count) ≡ true
+pub places_rise : (count : ℕ) → is_rising (places count) ≡ true
 unfolding places
 places_rise count = range_rises 0 count
 

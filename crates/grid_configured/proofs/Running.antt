@@ -38,7 +38,7 @@ use Rattle.grid_configured.specs.Histories.{ConfiguredHistory, ArePlain, longer,
 use Rattle.grid_configured.specs.Viewed.{told_view, seen_at}
 use Rattle.grid_configured.specs.declared.view.ConfiguredView.{ConfiguredView}
 use Rattle.grid_configured.specs.declared.reply.ConfiguredReply.TheVariants as told
-use Rattle.grid_configured.specs.Told.{told_reply, bus_refusal}
+use Rattle.grid_configured.specs.Told.{told_reply, bus_refusal, IsTerminalAsked, IsPassed, is_passed}
 use Rattle.grid_configured.specs.Worlds.{history_of, IsConfiguredWorld, bus_count, is_bus_site}
 use Rattle.grid_configured.proofs.Located.{levels_are, level_found, IsAt, sited}
 use Rattle.grid_configured.proofs.Mirrored.{NetworkFits, Mirrors}
@@ -267,6 +267,11 @@ module _ (network : ConfiguredNetwork) (world : History) (now : ConfiguredHistor
         by true e = sym (ap (λ t. cond t (told.Refused refusals.NoEquipment) (told.Refused refusals.NoVariant)) (sym e))
         by false e = sym (ap (λ t. cond t (told.Refused refusals.NoEquipment) (told.Refused refusals.NoVariant)) (sym e))
 
+    pub worker_plugged : (request : Request) (id : List ℕ) (answer : Reply) (bus live : Bool) → IsTrue (request_plain request) → asks_view request ≡ false → asks_bus now.network request ≡ has_id (bus_ids now.network) id → bus ≡ has_id (bus_ids now.network) id
+        → live ≡ is_live now.steps (working now.steps worker) → answer ≡ answers.reply world.origin world.steps (command worker request) → cond bus (bus_refusal live) (told_reply answer) ≡ reply now.network now.steps (command worker request)
+    worker_plugged request id answer true live plain view asked bus l e = worker_bus request live (asked ∙ sym bus) l
+    worker_plugged request id answer false live plain view asked bus l e = worker_told request answer plain view (asked ∙ sym bus) e
+
     -- the step is the newest one
     pub step_seen : (request : Request) (after : History) → after ≡ histories.longer world (command worker request) → history_of network after ≡ longer now (command worker request)
     step_seen request after e = ap (history_of network) e ∙ ap (λ z. longer z (command worker request)) seen
@@ -275,3 +280,18 @@ module _ (network : ConfiguredNetwork) (world : History) (now : ConfiguredHistor
     step_keeps request after plain e =
         subst (IsConfiguredWorld network) (sym e)
         (record { translatable = keeps.translatable; origin = keeps.origin; plain = All-cons IsPlainStep (command worker request) world.steps plain keeps.plain })
+
+-- ---- kinds of requests
+
+pub passed_parts : (network : ConfiguredNetwork) (request : Request) → IsPassed request → (asks_view request ≡ false) × (asks_bus network request ≡ false)
+unfolding is_passed asks_view asks_bus
+passed_parts network (requests.Connect id side) h = absurd (false≢true h)
+passed_parts network (requests.Disconnect id side) h = absurd (false≢true h)
+passed_parts network (requests.BusView level) h = absurd (false≢true h)
+passed_parts network other h = (refl, refl)
+
+pub asked_parts : (network : ConfiguredNetwork) (id : List ℕ) (request : Request) → IsTerminalAsked id request → (asks_view request ≡ false) × (asks_bus network request ≡ has_id (bus_ids network) id)
+unfolding asks_view asks_bus
+asked_parts network id (requests.Connect asked side) h = (refl, ap (has_id (bus_ids network)) (sym h))
+asked_parts network id (requests.Disconnect asked side) h = (refl, ap (has_id (bus_ids network)) (sym h))
+asked_parts network id other h = absurd h

@@ -1,5 +1,5 @@
 // Workers on the variants of a network with configured buses.
-ghost use Rattle.std.specs.Prelude.{◌≡◌, ◌<◌, length, slice_get, Some, IsTrue, OnOk, OnErr, IfOk};
+ghost use Rattle.std.specs.Prelude.{◌≡◌, ◌<◌, if◌then◌else◌, length, slice_get, Some, IsTrue, OnOk, OnErr, IfOk};
 ghost use Rattle.grid_ids.specs.Name.{has_id};
 ghost use Rattle.grid_core.specs.Fitting.{RowsFit};
 ghost use Rattle.grid_core.specs.History as histories;
@@ -45,12 +45,14 @@ impl Model for ConfiguredWorld {
     ghost invariant = { λ w. IsConfiguredWorld w.network w.world };
 }
 
-// The reply where a terminal of a bus is asked for in a variant that is live or not.
+// The reply where a terminal is asked for in a variant that is live or not: what was told, unless it is a bus's.
 #[tactic(auto, unfolding(crate::specs::Told::bus_refusal))]
-fn refuse_bus(live: bool) -> ConfiguredReply
-    ensures { result ≡ bus_refusal live }
+fn refuse_bus(bus: bool, live: bool, told: ConfiguredReply) -> ConfiguredReply
+    ensures { result ≡ if bus then bus_refusal live else told }
 {
-    if live {
+    if !bus {
+        told
+    } else if live {
         ConfiguredReply::Refused(Refusal::NoEquipment)
     } else {
         ConfiguredReply::Refused(Refusal::NoVariant)
@@ -149,15 +151,18 @@ impl ConfiguredWorld {
             return Ok(ConfiguredReply::Refused(Refusal::NoVariant));
         }
         match structure.find_level(level) {
-            Some(place) => Ok(ConfiguredReply::View(
-                self.seen(self.world.opened(worker), place)?,
-            )),
+            Some(place) => Ok(ConfiguredReply::View(self.seen(self.world.opened(worker), place)?)),
             None => Ok(ConfiguredReply::Refused(Refusal::NoLevel)),
         }
     }
 
     // A step that asks for the view of a level.
-    fn look(&mut self, worker: u32, request: &Request, level: &Id) -> Result<ConfiguredReply, Memory>
+    fn look(
+        &mut self,
+        worker: u32,
+        request: &Request,
+        level: &Id,
+    ) -> Result<ConfiguredReply, Memory>
         requires worker { worker < self.old.workers }
         requires view { request.now ≡ Request.BusView level.now }
         requires plain { IsConfiguredRequest request.now }
@@ -166,7 +171,7 @@ impl ConfiguredWorld {
         ensures err { OnErr result (self.new ≡ self.old) }
     {
         let reply = self.reply_view(worker, level)?;
-        self.world.step(worker, request)?;
+        drop(self.world.step(worker, request)?);
         Ok(reply)
     }
 
@@ -181,12 +186,8 @@ impl ConfiguredWorld {
     {
         let bus = self.is_bus(id);
         let live = self.is_live(worker);
-        let reply = self.world.step(worker, request)?;
-        if bus {
-            Ok(refuse_bus(live))
-        } else {
-            Ok(tell_reply(reply))
-        }
+        let told = tell_reply(self.world.step(worker, request)?);
+        Ok(refuse_bus(bus, live, told))
     }
 
     // A step of a switch or of variants.
@@ -198,13 +199,13 @@ impl ConfiguredWorld {
         ensures ok { OnOk result (self.new ≡ longer self.old (command worker request.now)) }
         ensures err { OnErr result (self.new ≡ self.old) }
     {
-        let reply = self.world.step(worker, request)?;
-        Ok(tell_reply(reply))
+        Ok(tell_reply(self.world.step(worker, request)?))
     }
 
     /// Makes one step of a worker, whose number is below the count, and answers its reply. The request is one of the eight
     /// commands `use`, `open`, `close`, `connect`, `disconnect`, `bus_view`, `clone` and `remove`, and its ids are plain.
     /// After want of memory the world is as before.
+    #[tactic(auto, unfolding(crate::specs::Told::is_passed))]
     pub fn step(&mut self, worker: u32, request: &Request) -> Result<ConfiguredReply, Memory>
         requires worker { worker < self.old.workers }
         requires plain { IsConfiguredRequest request.now }
@@ -217,7 +218,17 @@ impl ConfiguredWorld {
             Request::Connect { id, .. } | Request::Disconnect { id, .. } => {
                 self.plug(worker, request, id)
             }
-            _ => self.pass(worker, request),
+            Request::UseVariant { .. }
+            | Request::OpenSwitch { .. }
+            | Request::CloseSwitch { .. }
+            | Request::RetainSwitch { .. }
+            | Request::SetPower { .. }
+            | Request::Totals
+            | Request::BusBreakerView { .. }
+            | Request::Components { .. }
+            | Request::CloneVariant { .. }
+            | Request::RemoveVariant { .. }
+            | Request::Change { .. } => self.pass(worker, request),
         }
     }
 

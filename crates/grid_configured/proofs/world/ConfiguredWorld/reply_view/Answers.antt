@@ -1,5 +1,4 @@
 use Rattle.std.proofs.Common.{sym, ap, ◌∙◌}
-use Rattle.std.proofs.lemmas.Bool.{not-true, not-false}
 use Rattle.grid_structure.specs.Sites as sites
 use Rattle.grid_core.specs.Worlds.{worker_state}
 use Rattle.grid_configured.proofs.Running.{now_structure, level_outside, worker_alive, rows_fit, worker_view, worker_dead, worker_lost}
