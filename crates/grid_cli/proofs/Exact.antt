@@ -5,7 +5,7 @@ use Rattle.std.specs.Io.KnownBytes.{Consumes, IsAtEnd}
 use Rattle.std.proofs.lemmas.Bool.{le-ltb, lt-ltb}
 use Rattle.grid_source.specs.declared.whole.TheConstants.{MOST}
 use Rattle.grid_cli.specs.declared.words.Form.{Form}
-use Rattle.grid_cli.specs.declared.words.Form.TheVariants.{Check, Replay, Run, Print, Hvdc, Screen, Make, Trial}
+use Rattle.grid_cli.specs.declared.words.Form.TheVariants.{Check, Replay, Run, Print, Hvdc, Screen, Configured, Make, Trial}
 use Rattle.grid_cli.specs.declared.once.Status.{Status}
 use Rattle.grid_cli.specs.declared.once.Status.TheVariants as statuses
 use Rattle.grid_cli.specs.Once.{ReadsWhole, Outcome, OutcomeOf, WritesAlone, IsOutput, fault_in, fault_of, status_for, status_within, wanted, IsWanted, Exact, made_text}
@@ -30,6 +30,7 @@ Reads Run = ⊤
 Reads Print = ⊤
 Reads Hvdc = ⊤
 Reads Screen = ⊤
+Reads Configured = ⊤
 Reads (Make seed size) = ⊥
 Reads (Trial seed size) = ⊥
 
@@ -41,6 +42,7 @@ job_there Run b text r o = ap (λ read. status_for (fault_in read)) o.1
 job_there Print b text r o = ap (λ read. status_for (fault_in read)) o.1
 job_there Hvdc b text r o = ap (λ read. status_for (fault_in read)) o.1
 job_there Screen b text r o = ap (λ read. status_for (fault_in read)) o.1
+job_there Configured b text r o = ap (λ read. status_for (fault_in read)) o.1
 job_there (Make seed size) b text r o = absurd r
 job_there (Trial seed size) b text r o = absurd r
 
@@ -76,6 +78,7 @@ exact_form Run bytes left' old new s o = exact_some Run bytes left' old new s tt
 exact_form Print bytes left' old new s o = exact_some Print bytes left' old new s tt o
 exact_form Hvdc bytes left' old new s o = exact_some Hvdc bytes left' old new s tt o
 exact_form Screen bytes left' old new s o = exact_some Screen bytes left' old new s tt o
+exact_form Configured bytes left' old new s o = exact_some Configured bytes left' old new s tt o
 exact_form (Make seed size) bytes left' old new s o = written (made_text seed size) (Some bytes) left' old new s o
 exact_form (Trial seed size) bytes left' old new s o = written (trial_text seed size) (Some bytes) left' old new s o
 

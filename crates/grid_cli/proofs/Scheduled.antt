@@ -38,6 +38,11 @@ use Rattle.grid_screen.specs.declared.Contingency.{Contingency}
 use Rattle.grid_screen.specs.declared.ScreenJob.{ScreenJob}
 use Rattle.grid_screen.specs.Jobs as screens
 use Rattle.grid_screen.specs.Jobs.{contingencies_at, screen_at, screen_job_in, screen_job_of}
+use Rattle.grid_configured.specs.declared.network.ConfiguredJob.{ConfiguredJob}
+use Rattle.grid_configured.specs.Checks.{IsTranslatable}
+use Rattle.grid_configured.specs.Names.{IsConfiguredRequest}
+use Rattle.grid_configured.specs.Jobs.{IsOrdered}
+use Rattle.grid_cli.specs.Configured.{IsRunnable}
 use Rattle.grid_cli.specs.Orders.{order_of, IsScheduled}
 use Rattle.grid_cli.proofs.Stepping.{script_at}
 
@@ -345,3 +350,13 @@ screen_of_data (Some d) screened is = screen_read d screened (no_fault (screen_a
 pub screen_scheduled : (bytes : List ℕ) (screened : ScreenJob) → screen_job_of bytes ≡ Ok screened → IsScheduled screened.job
 unfolding screen_job_of
 screen_scheduled bytes screened is = screen_of_data (reading bytes) screened is
+
+-- ---- of a network with configured buses
+
+given_or_turns : (scripts : List (List Request)) (order : Option (List ℕ)) → IsOrdered scripts order → IsOrder scripts (chosen_order scripts order)
+unfolding chosen_order
+given_or_turns scripts None is = turns_are_order scripts
+given_or_turns scripts (Some order) is = subst (IsOrder scripts) (sym is.2) (given_orders scripts is.0 is.1)
+
+pub runnable : (job : ConfiguredJob) → IsTranslatable job.network → All (All IsConfiguredRequest) job.scripts → length job.scripts ≤ max_workers → IsOrdered job.scripts job.order → IsRunnable job
+runnable job network plain few order = record { network = network; plain = plain; few = few; ordered = given_or_turns job.scripts job.order order }

@@ -14,8 +14,9 @@ use Rattle.grid_json.specs.declared.whole.JobFault.TheVariants as jobs
 use Rattle.grid_json.specs.Whole.{job_of, JobGives}
 use Rattle.grid_hvdc.specs.declared.HvdcJob.{HvdcJob}
 use Rattle.grid_screen.specs.declared.ScreenJob.{ScreenJob}
+use Rattle.grid_configured.specs.declared.network.ConfiguredJob.{ConfiguredJob}
 use Rattle.grid_cli.specs.declared.words.Form.{Form}
-use Rattle.grid_cli.specs.declared.words.Form.TheVariants.{Check, Replay, Run, Print, Hvdc, Screen}
+use Rattle.grid_cli.specs.declared.words.Form.TheVariants.{Check, Replay, Run, Print, Hvdc, Screen, Configured}
 use Rattle.grid_cli.specs.declared.once.Answer.{Answer}
 use Rattle.grid_cli.specs.declared.once.Answer.TheVariants as answers
 use Rattle.grid_cli.specs.declared.once.Status.{Status}
@@ -23,7 +24,8 @@ use Rattle.grid_cli.specs.declared.once.Status.TheVariants as statuses
 use Rattle.grid_cli.specs.Orders.{order_of, replay_text}
 use Rattle.grid_cli.specs.Hvdc.{hvdc_text}
 use Rattle.grid_cli.specs.Screen.{screen_text}
-use Rattle.grid_cli.specs.Once.{ReadsWhole, ReadsJob, ReadsHvdc, ReadsScreen, ReadsNone, ReadsPart, Writes, WritesReport, OutcomeOf, IsOutput, fault_in, fault_of, job_fault, form_for, text_of, status_after, status_for}
+use Rattle.grid_cli.specs.Configured.{configured_job_text}
+use Rattle.grid_cli.specs.Once.{ReadsWhole, ReadsJob, ReadsHvdc, ReadsScreen, ReadsConfigured, ReadsNone, ReadsPart, Writes, WritesReport, OutcomeOf, IsOutput, fault_in, fault_of, job_fault, form_for, text_of, status_after, status_for}
 
 pub handed : (written : Result (Unit {0}) ReportFault) (text : List ℕ) (old new : Option (List ℕ)) → OnOk written (Appends old new text) → OnErr written (IsBegun old text new) → Writes text old new (status_after written)
 handed (Ok done) text old new ok err = ok
@@ -78,6 +80,10 @@ numbered left left' old new job status r w = wrote Hvdc left left' old new r.0 (
 -- the findings were written of a job with contingencies that was read
 pub screened : (left left' old new : Option (List ℕ)) (job : ScreenJob) (status : Status) → ReadsScreen left left' job → Writes (screen_text job) old new status → OutcomeOf Screen left left' old new status
 screened left left' old new job status r w = wrote Screen left left' old new r.0 (screen_text job) status r.1 (job, r.2, refl) w
+
+-- the report was written of a job with configured buses that was read
+pub configured : (left left' old new : Option (List ℕ)) (job : ConfiguredJob) (status : Status) → ReadsConfigured left left' job → Writes (configured_job_text job) old new status → OutcomeOf Configured left left' old new status
+configured left left' old new job status r w = wrote Configured left left' old new r.0 (configured_job_text job) status r.1 (job, r.2, refl) w
 
 -- nothing was read, and nothing written
 pub unread : (form : Form) (left left' old new : Option (List ℕ)) (status : Status) → ReadsNone (fault_of form) left left' status → Keeps old new → OutcomeOf form left left' old new status

@@ -4,5 +4,6 @@ pub mod Orders
 pub mod Trials
 pub mod Hvdc
 pub mod Screen
+pub mod Configured
 pub mod Once
 pub mod Threaded

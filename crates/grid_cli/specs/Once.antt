@@ -13,12 +13,15 @@ use Rattle.grid_hvdc.specs.declared.HvdcJob.{HvdcJob}
 use Rattle.grid_hvdc.specs.Jobs.{hvdc_job_of}
 use Rattle.grid_screen.specs.declared.ScreenJob.{ScreenJob}
 use Rattle.grid_screen.specs.Jobs.{screen_job_of}
+use Rattle.grid_configured.specs.declared.network.ConfiguredJob.{ConfiguredJob}
+use Rattle.grid_configured.specs.Jobs.{configured_job_of}
 use Rattle.grid_cli.specs.Hvdc.{hvdc_text}
 use Rattle.grid_cli.specs.Screen.{screen_text}
+use Rattle.grid_cli.specs.Configured.{configured_job_text}
 use Rattle.grid_print.specs.Job.{job_text, network_text}
 use Rattle.grid_make.specs.MadeJob.{made_job}
 use Rattle.grid_cli.specs.declared.words.Form.{Form}
-use Rattle.grid_cli.specs.declared.words.Form.TheVariants.{Check, Replay, Run, Print, Hvdc, Screen, Make, Trial}
+use Rattle.grid_cli.specs.declared.words.Form.TheVariants.{Check, Replay, Run, Print, Hvdc, Screen, Configured, Make, Trial}
 use Rattle.grid_cli.specs.declared.once.Answer.{Answer}
 use Rattle.grid_cli.specs.declared.once.Answer.TheVariants as answers
 use Rattle.grid_cli.specs.declared.once.Status.{Status}
@@ -63,6 +66,7 @@ IsOutput Run bytes text = IsOfJob (λ job. IsReport job text) bytes
 IsOutput Print bytes text = IsOfJob (λ job. text ≡ network_text job.network) bytes
 IsOutput Hvdc bytes text = (job : HvdcJob) × (hvdc_job_of bytes ≡ Ok job) × (text ≡ hvdc_text job)
 IsOutput Screen bytes text = (job : ScreenJob) × (screen_job_of bytes ≡ Ok job) × (text ≡ screen_text job)
+IsOutput Configured bytes text = (job : ConfiguredJob) × (configured_job_of bytes ≡ Ok job) × (text ≡ configured_job_text job)
 IsOutput (Make seed size) bytes text = text ≡ made_text seed size
 IsOutput (Trial seed size) bytes text = text ≡ trial_text seed size
 
@@ -93,6 +97,9 @@ hvdc_fault bytes = fault_in (hvdc_job_of bytes)
 abbrev pub screen_fault : List ℕ → Option JobFault
 screen_fault bytes = fault_in (screen_job_of bytes)
 
+abbrev pub configured_fault : List ℕ → Option JobFault
+configured_fault bytes = fault_in (configured_job_of bytes)
+
 -- of a form; `make` and `trial` read nothing
 abbrev pub fault_of : Form → List ℕ → Option JobFault
 fault_of Check bytes = job_fault bytes
@@ -101,6 +108,7 @@ fault_of Run bytes = job_fault bytes
 fault_of Print bytes = job_fault bytes
 fault_of Hvdc bytes = hvdc_fault bytes
 fault_of Screen bytes = screen_fault bytes
+fault_of Configured bytes = configured_fault bytes
 fault_of (Make seed size) bytes = None
 fault_of (Trial seed size) bytes = None
 
@@ -115,6 +123,10 @@ ReadsHvdc left left' job = (bytes : List ℕ) × ReadsWhole left left' bytes × 
 -- the same with contingencies
 abbrev pub ReadsScreen : Option (List ℕ) → Option (List ℕ) → ScreenJob → Type 0
 ReadsScreen left left' job = (bytes : List ℕ) × ReadsWhole left left' bytes × (screen_job_of bytes ≡ Ok job)
+
+-- the same of a network with configured buses
+abbrev pub ReadsConfigured : Option (List ℕ) → Option (List ℕ) → ConfiguredJob → Type 0
+ReadsConfigured left left' job = (bytes : List ℕ) × ReadsWhole left left' bytes × (configured_job_of bytes ≡ Ok job)
 
 -- why nothing of what bytes may be was read, and what was read of the input
 abbrev pub ReadsNone : (List ℕ → Option JobFault) → Option (List ℕ) → Option (List ℕ) → Status → Type 0
@@ -180,6 +192,7 @@ Outcome (Some Run) left left' old new status = OutcomeOf Run left left' old new 
 Outcome (Some Print) left left' old new status = OutcomeOf Print left left' old new status
 Outcome (Some Hvdc) left left' old new status = OutcomeOf Hvdc left left' old new status
 Outcome (Some Screen) left left' old new status = OutcomeOf Screen left left' old new status
+Outcome (Some Configured) left left' old new status = OutcomeOf Configured left left' old new status
 
 -- ---- the status that is wanted
 
@@ -204,6 +217,7 @@ wanted Run bytes = status_within Run bytes
 wanted Print bytes = status_within Print bytes
 wanted Hvdc bytes = status_within Hvdc bytes
 wanted Screen bytes = status_within Screen bytes
+wanted Configured bytes = status_within Configured bytes
 
 -- A fault of the source or the sink may come in place of the status that is wanted, and so may want of memory.
 abbrev pub IsWanted : Status → Status → Type 0

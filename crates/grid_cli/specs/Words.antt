@@ -4,7 +4,7 @@ use Rattle.std.specs.List.{range_with_len}
 use Rattle.std.specs.Str.{bytes_eq}
 use Rattle.grid_cli.specs.declared.words.TheConstants.{MOST_SEED, MOST_SIZE}
 use Rattle.grid_cli.specs.declared.words.Form.{Form}
-use Rattle.grid_cli.specs.declared.words.Form.TheVariants.{Check, Replay, Run, Print, Hvdc, Screen, Make, Trial}
+use Rattle.grid_cli.specs.declared.words.Form.TheVariants.{Check, Replay, Run, Print, Hvdc, Screen, Configured, Make, Trial}
 
 -- the number from the least to the most whose decimal digits are the text
 unfoldable pub number_among : ℕ → ℕ → List ℕ → Option ℕ
@@ -23,7 +23,8 @@ form_by_name word =
     else (if bytes_eq word (codes "run") then Some Run
     else (if bytes_eq word (codes "print") then Some Print
     else (if bytes_eq word (codes "hvdc") then Some Hvdc
-    else (if bytes_eq word (codes "screen") then Some Screen else None)))))
+    else (if bytes_eq word (codes "screen") then Some Screen
+    else (if bytes_eq word (codes "configured") then Some Configured else None))))))
 
 -- the form of a seed and a size, where both are there
 abbrev pub with_numbers : (ℕ → ℕ → Form) → Option ℕ → Option ℕ → Option Form
@@ -58,6 +59,7 @@ IsWithin Run = ⊤
 IsWithin Print = ⊤
 IsWithin Hvdc = ⊤
 IsWithin Screen = ⊤
+IsWithin Configured = ⊤
 IsWithin (Make seed size) = (seed ≤ MOST_SEED) × (1 ≤ size) × (size ≤ MOST_SIZE)
 IsWithin (Trial seed size) = (seed ≤ MOST_SEED) × (1 ≤ size) × (size ≤ MOST_SIZE)
 
@@ -70,6 +72,7 @@ on_one_thread (Some Check) = Some Check
 on_one_thread (Some Replay) = Some Replay
 on_one_thread (Some Print) = Some Print
 on_one_thread (Some Hvdc) = Some Hvdc
+on_one_thread (Some Configured) = Some Configured
 on_one_thread (Some (Make seed size)) = Some (Make seed size)
 on_one_thread (Some (Trial seed size)) = Some (Trial seed size)
 
@@ -88,3 +91,4 @@ ReadsNothing (Some Run) = ⊥
 ReadsNothing (Some Print) = ⊥
 ReadsNothing (Some Hvdc) = ⊥
 ReadsNothing (Some Screen) = ⊥
+ReadsNothing (Some Configured) = ⊥

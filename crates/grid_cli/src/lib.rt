@@ -1,6 +1,7 @@
 //! The top call.
 #![tactic(auto)]
 
+mod configured;
 mod counts;
 mod hvdc;
 mod once;

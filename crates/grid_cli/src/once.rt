@@ -9,6 +9,7 @@ ghost use Rattle.grid_cli.specs.Orders.{IsScheduled, replay_text};
 ghost use Rattle.grid_cli.specs.Once as once;
 ghost use Rattle.grid_cli.specs.Once.{Outcome, OutcomeOf, form_for, Exact, Writes, ReadsWhole, ReadsPart, ReadsNone, ReadsJob, job_fault, status_after, text_of, made_text, exit_number};
 
+use crate::configured::read_and_configure;
 use crate::counts::write_counts;
 use crate::hvdc::read_and_number;
 use crate::running::run_job;
@@ -108,6 +109,7 @@ fn run<S: Source, K: Sink>(alloc: Global, words: &[String], source: &mut S, sink
         Form::Run | Form::Screen => Status::Usage,
         Form::Print => read_and_answer(alloc, Answer::Network, source, sink),
         Form::Hvdc => read_and_number(alloc, source, sink),
+        Form::Configured => read_and_configure(alloc, source, sink),
         Form::Make { seed, size } => make(alloc, seed, size, sink),
         Form::Trial { seed, size } => status_of(write_trial(alloc, seed, size, sink)),
     }

@@ -101,7 +101,11 @@ fn variant_views(alloc: Global, world: &World) -> Result<VariantViews, Memory>
 }
 
 /// The order that is given, or else the workers in turn.
-fn chosen_order(alloc: Global, order: Option<Order>, scripts: &[Script]) -> Result<Order, Memory>
+pub(crate) fn chosen_order(
+    alloc: Global,
+    order: Option<Order>,
+    scripts: &[Script],
+) -> Result<Order, Memory>
     requires { length scripts.now ≤ max_workers }
     ensures { IfOk result (λ found. found ≡ chosen_order scripts.now order) }
 {

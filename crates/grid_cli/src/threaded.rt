@@ -76,6 +76,7 @@ fn served_by(form: Option<Form>) -> Served
             | Form::Replay
             | Form::Print
             | Form::Hvdc
+            | Form::Configured
             | Form::Make { .. }
             | Form::Trial { .. },
         )

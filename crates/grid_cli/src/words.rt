@@ -28,6 +28,8 @@ pub enum Form {
     /// Reads a job with contingencies, runs its commands in order, and writes what each contingency would do to the initial
     /// variant, found by several threads.
     Screen,
+    /// Reads a job of a network with configured buses, runs its commands in order, and writes the report.
+    Configured,
     /// Writes the made job of a seed and a size. It reads nothing.
     Make { seed: u32, size: u32 },
     /// Runs the made job of a seed and a size, and writes a line that counts what came of it. It reads nothing.
@@ -35,7 +37,7 @@ pub enum Form {
 }
 
 /// What the words ask for; None exactly where they are no form. The forms are `check`, `replay`, `run`, `print`, `hvdc`,
-/// `screen`, `make SEED SIZE` and `trial SEED SIZE`. A number is written in decimal digits without a leading zero; a seed is from 0 to
+/// `screen`, `configured`, `make SEED SIZE` and `trial SEED SIZE`. A number is written in decimal digits without a leading zero; a seed is from 0 to
 /// `MOST_SEED`, a size from 1 to `MOST_SIZE`. The program's name is not among the words. It takes no memory.
 pub fn read_words(words: &[String]) -> Option<Form>
     ensures form { result ≡ form_of (map string_bytes words.now) }
@@ -59,6 +61,7 @@ fn form_named(word: &str) -> Option<Form>
         "print" => Some(Form::Print),
         "hvdc" => Some(Form::Hvdc),
         "screen" => Some(Form::Screen),
+        "configured" => Some(Form::Configured),
         _ => None,
     }
 }

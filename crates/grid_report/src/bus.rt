@@ -29,7 +29,8 @@ pub fn put_bus_name(out: &mut Text, level: &Id, least: u16) -> Result<(), Memory
     out.put_unsigned(u64::from(least))
 }
 
-fn put_terminals(out: &mut Text, terminals: &[Terminal]) -> Result<(), Memory>
+/// Puts each terminal behind a space, or a dash where there is none. Where memory is wanting, the text is empty.
+pub fn put_terminals(out: &mut Text, terminals: &[Terminal]) -> Result<(), Memory>
     ensures ok { OnOk result (out.new ≡ out.old ++ terminals_text terminals.now) }
     ensures err { OnErr result (out.new ≡ []) }
 {
@@ -40,7 +41,8 @@ fn put_terminals(out: &mut Text, terminals: &[Terminal]) -> Result<(), Memory>
     }
 }
 
-fn put_flows(out: &mut Text, load: &i128, generation: &i128) -> Result<(), Memory>
+/// Puts the load and the generation of a bus, in W, and ends the line. Where memory is wanting, the text is empty.
+pub fn put_flows(out: &mut Text, load: &i128, generation: &i128) -> Result<(), Memory>
     ensures ok { OnOk result (out.new ≡ out.old ++ flows_text load.now generation.now) }
     ensures err { OnErr result (out.new ≡ []) }
 {

@@ -86,9 +86,9 @@ fn put_clone(out: &mut Text, from: &Id, to: &Id, overwrite: bool) -> Result<(), 
     }
 }
 
-/// Puts a command by its words.
+/// Puts a command by its words. Where memory is wanting, the text is empty.
 #[tactic(auto, unfolding(crate::specs::Commands::command_text))]
-pub(crate) fn put_command(out: &mut Text, request: &Request) -> Result<(), Memory>
+pub fn put_command(out: &mut Text, request: &Request) -> Result<(), Memory>
     ensures ok { OnOk result (out.new ≡ out.old ++ command_text request.now) }
     ensures err { OnErr result (out.new ≡ []) }
 {

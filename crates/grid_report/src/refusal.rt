@@ -72,9 +72,9 @@ fn put_fault(out: &mut Text, fault: &EditFault) -> Result<(), Memory>
     }
 }
 
-/// Puts a refusal: its number, its words, and the values that it names.
+/// Puts a refusal: its number, its words, and the values that it names. Where memory is wanting, the text is empty.
 #[tactic(auto, unfolding(crate::specs::Refusals::refusal_text))]
-pub(crate) fn put_refusal(out: &mut Text, refusal: &Refusal) -> Result<(), Memory>
+pub fn put_refusal(out: &mut Text, refusal: &Refusal) -> Result<(), Memory>
     ensures ok { OnOk result (out.new ≡ out.old ++ refusal_text refusal.now) }
     ensures err { OnErr result (out.new ≡ []) }
 {

@@ -130,8 +130,8 @@ impl Shown for Id {
     }
 }
 
-/// Each item behind a space.
-pub(crate) fn put_spaced<T: Shown>(out: &mut Text, items: &[T]) -> Result<(), Memory>
+/// Puts each item behind a space. Where memory is wanting, the text is empty.
+pub fn put_spaced<T: Shown>(out: &mut Text, items: &[T]) -> Result<(), Memory>
     ensures ok { OnOk result (out.new ≡ out.old ++ flat_map (λ x. 32 ∷ T.shown x) items.now) }
     ensures err { OnErr result (out.new ≡ []) }
 {
@@ -142,8 +142,8 @@ pub(crate) fn put_spaced<T: Shown>(out: &mut Text, items: &[T]) -> Result<(), Me
     Ok(())
 }
 
-/// Puts words and a value behind them.
-pub(crate) fn put_named<T: Shown>(out: &mut Text, words: &str, value: &T) -> Result<(), Memory>
+/// Puts words and a value behind them. Where memory is wanting, the text is empty.
+pub fn put_named<T: Shown>(out: &mut Text, words: &str, value: &T) -> Result<(), Memory>
     ensures ok { OnOk result (out.new ≡ out.old ++ (words.now ++ T.shown value.now)) }
     ensures err { OnErr result (out.new ≡ []) }
 {

@@ -1,0 +1,98 @@
+// The form `configured`: jobs of networks with configured buses.
+ghost use Rattle.std.specs.Prelude.{◌≡◌, ◌≢◌, ◌≤◌, Err, IfOk, IfErr, All, length};
+ghost use Rattle.grid_source.specs.Causes.{Rose};
+ghost use Rattle.grid_json.specs.Job.{max_workers};
+ghost use Rattle.grid_report.specs.Histories as histories;
+ghost use Rattle.grid_report.specs.Histories.{IsOrder};
+ghost use Rattle.grid_configured.specs.Checks.{IsTranslatable};
+ghost use Rattle.grid_configured.specs.Names.{IsConfiguredRequest};
+ghost use Rattle.grid_configured.specs.Reports.{history_of, report_after};
+ghost use Rattle.grid_cli.specs.declared.words.Form.{Form};
+ghost use Rattle.grid_cli.specs.Configured.{IsRunnable, configured_job_text};
+ghost use Rattle.grid_cli.specs.Once.{OutcomeOf, Writes, ReadsConfigured, ReadsNone, configured_fault};
+
+use crate::once::{Status, read_source, status_for, status_of};
+use crate::running::chosen_order;
+use grid_configured::{
+    ConfiguredJob, ConfiguredNetwork, ConfiguredOutcome, read_configured, run_configured,
+    write_configured,
+};
+use grid_core::Script;
+use grid_ids::Memory;
+use grid_json::Order;
+use grid_source::{Sink, Source};
+use std::alloc::Global;
+
+/// What comes of scripts on a network, in the order that is given or else the workers in turn.
+fn run_in_order(
+    alloc: Global,
+    network: ConfiguredNetwork,
+    scripts: &[Script],
+    order: Option<Order>,
+) -> Result<ConfiguredOutcome, Memory>
+    requires network { IsTranslatable network }
+    requires plain { All (All IsConfiguredRequest) scripts.now }
+    requires few { length scripts.now ≤ max_workers }
+    requires order { IsOrder scripts.now (histories.chosen_order scripts.now order) }
+    ensures { IfOk result (λ outcome. outcome ≡ report_after (history_of network scripts.now (histories.chosen_order scripts.now order))) }
+{
+    let order = chosen_order(alloc, order, scripts)?;
+    run_configured(alloc, network, scripts, order.slice())
+}
+
+/// Runs a job in its order, and writes its report.
+#[tactic(auto, using(grid_report::proofs::Begun::at_start, crate::proofs::Written::handed, crate::proofs::Written::calm))]
+fn write_report_of<K: Sink>(alloc: Global, job: ConfiguredJob, sink: &mut K) -> Status
+    requires { IsRunnable job }
+    ensures written { Writes (configured_job_text job) (K.written sink.old) (K.written sink.new) result }
+    ensures fault { result ≡ Status.WriteFault → Rose (K.faults sink.old) (K.faults sink.new) }
+    ensures stays { result ≢ Status.WriteFault → K.faults sink.new ≡ K.faults sink.old }
+{
+    let ConfiguredJob {
+        network,
+        scripts,
+        order,
+    } = job;
+    match run_in_order(alloc, network, scripts.slice(), order) {
+        Ok(outcome) => status_of(write_configured(alloc, &outcome, sink)),
+        Err(Memory) => Status::NoMemory,
+    }
+}
+
+/// The job of the source's bytes, which are given up then, or why there is none.
+#[tactic(auto, using(crate::proofs::Written::partly, crate::proofs::Written::faulty))]
+fn read_configured_from<S: Source>(alloc: Global, source: &mut S) -> Result<ConfiguredJob, Status>
+    ensures job { IfOk result (ReadsConfigured (S.left source.old) (S.left source.new)) }
+    ensures runnable { IfOk result IsRunnable }
+    ensures none { IfErr result (ReadsNone configured_fault (S.left source.old) (S.left source.new)) }
+    ensures fault { result ≡ Err Status.ReadFault → Rose (S.faults source.old) (S.faults source.new) }
+    ensures stays { result ≢ Err Status.ReadFault → S.faults source.new ≡ S.faults source.old }
+{
+    let bytes = match read_source(alloc, source) {
+        Ok(bytes) => bytes,
+        Err(status) => return Err(status),
+    };
+    match read_configured(alloc, bytes.as_slice()) {
+        Ok(job) => Ok(job),
+        Err(fault) => Err(status_for(fault)),
+    }
+}
+
+/// Reads a job of a network with configured buses, and writes its report.
+#[tactic(auto, using(crate::proofs::Written::configured, crate::proofs::Written::unread))]
+pub(crate) fn read_and_configure<S: Source, K: Sink>(
+    alloc: Global,
+    source: &mut S,
+    sink: &mut K,
+) -> Status
+    ensures outcome { OutcomeOf Form.Configured (S.left source.old) (S.left source.new) (K.written sink.old) (K.written sink.new) result }
+    ensures read_fault { result ≡ Status.ReadFault → Rose (S.faults source.old) (S.faults source.new) }
+    ensures reads_stay { result ≢ Status.ReadFault → S.faults source.new ≡ S.faults source.old }
+    ensures write_fault { result ≡ Status.WriteFault → Rose (K.faults sink.old) (K.faults sink.new) }
+    ensures writes_stay { result ≢ Status.WriteFault → K.faults sink.new ≡ K.faults sink.old }
+{
+    match read_configured_from(alloc, source) {
+        Ok(job) => write_report_of(alloc, job, sink),
+        Err(status) => status,
+    }
+}

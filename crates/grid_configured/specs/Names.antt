@@ -1,0 +1,62 @@
+-- Plain ids: those that a job with configured buses may have. Ids of other forms are kept for what its translation adds.
+use Rattle.std.specs.Prelude.{ℕ, Bool, false, ◌&&◌, ◌==◌, not, nat_le, List, length, IsTrue}
+use Rattle.std.specs.List.{list_any, list_all}
+use Rattle.grid_core.specs.declared.request.Request.{Request}
+use Rattle.grid_core.specs.declared.request.Request.TheVariants as requests
+use Rattle.grid_configured.specs.declared.network.BusSwitch.{BusSwitch}
+use Rattle.grid_configured.specs.declared.network.Item.{Item}
+use Rattle.grid_configured.specs.declared.network.BusEnd.{BusEnd}
+use Rattle.grid_configured.specs.declared.network.ConfiguredLine.{ConfiguredLine}
+use Rattle.grid_configured.specs.declared.network.ConfiguredLevel.{ConfiguredLevel}
+use Rattle.grid_configured.specs.declared.network.ConfiguredNetwork.{ConfiguredNetwork}
+
+-- the byte `!`
+abbrev pub is_mark : ℕ → Bool
+is_mark byte = byte == 33
+
+-- without the byte `!`, and of at most 100 bytes
+unfoldable pub is_plain : List ℕ → Bool
+is_plain id = not (list_any is_mark id) && nat_le (length id) 100
+
+-- ---- the ids of a network
+
+unfoldable pub switch_plain : BusSwitch → Bool
+switch_plain s = is_plain s.id && is_plain s.bus1 && is_plain s.bus2
+
+unfoldable pub item_plain : Item → Bool
+item_plain t = is_plain t.id && is_plain t.bus
+
+unfoldable pub end_plain : BusEnd → Bool
+end_plain e = is_plain e.level && is_plain e.bus
+
+unfoldable pub line_plain : ConfiguredLine → Bool
+line_plain l = is_plain l.id && end_plain l.end1 && end_plain l.end2
+
+unfoldable pub level_plain : ConfiguredLevel → Bool
+level_plain l = is_plain l.id && list_all is_plain l.buses && list_all switch_plain l.switches && list_all item_plain l.items
+
+-- all ids that a network has or names, its own among them
+unfoldable pub network_plain : ConfiguredNetwork → Bool
+network_plain n = is_plain n.id && list_all level_plain n.levels && list_all line_plain n.lines
+
+-- ---- the ids of commands
+
+-- one of the eight commands of a network with configured buses, and its ids are plain
+unfoldable pub request_plain : Request → Bool
+request_plain (requests.UseVariant name) = is_plain name
+request_plain (requests.OpenSwitch id) = is_plain id
+request_plain (requests.CloseSwitch id) = is_plain id
+request_plain (requests.RetainSwitch id retained) = false
+request_plain (requests.SetPower id watts) = false
+request_plain requests.Totals = false
+request_plain (requests.Connect id side) = is_plain id
+request_plain (requests.Disconnect id side) = is_plain id
+request_plain (requests.BusBreakerView level) = false
+request_plain (requests.BusView level) = is_plain level
+request_plain (requests.Components level) = false
+request_plain (requests.CloneVariant from to overwrite) = is_plain from && is_plain to
+request_plain (requests.RemoveVariant name) = is_plain name
+request_plain (requests.Change edit) = false
+
+abbrev pub IsConfiguredRequest : Request → Type 0
+IsConfiguredRequest request = IsTrue (request_plain request)

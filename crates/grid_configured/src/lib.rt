@@ -1,0 +1,42 @@
+//! Networks whose levels have configured buses: their reading from JSON, their views, and the machine that switches and
+//! connects in them.
+#![tactic(auto)]
+
+mod checks;
+mod commands;
+mod contents;
+mod lists;
+mod network;
+mod outcome;
+mod parts;
+mod plain;
+mod plan;
+mod read;
+mod reasons;
+mod replay;
+mod reply;
+mod report;
+mod seeing;
+mod seen;
+mod standing;
+#[cfg(test)]
+mod tests;
+mod texts;
+mod translation;
+mod view;
+mod world;
+
+pub use network::{
+    BusEnd, BusSwitch, BusSwitches, ConfiguredJob, ConfiguredLevel, ConfiguredLevels,
+    ConfiguredLine, ConfiguredLines, ConfiguredNetwork, Item, Items,
+};
+pub use outcome::{
+    ConfiguredOutcome, ConfiguredReplies, ConfiguredVariant, ConfiguredVariants, ConfiguredViews,
+};
+pub use read::read_configured;
+pub use replay::run_configured;
+pub use reply::ConfiguredReply;
+pub use report::write_configured;
+pub use translation::translate;
+pub use view::{ConfiguredBus, ConfiguredBuses, ConfiguredView};
+pub use world::ConfiguredWorld;

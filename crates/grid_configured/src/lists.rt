@@ -1,0 +1,96 @@
+// Members and lists by ways of reading them.
+ghost use Rattle.std.specs.Prelude.{◌≡◌, Result, IfOk, length};
+ghost use Rattle.serde_json.specs.Data.{Data};
+ghost use Rattle.serde_json.specs.View.{view, items_view};
+ghost use Rattle.grid_json.specs.declared.fault.Fault.{Fault as FaultAt};
+ghost use Rattle.grid_json.specs.Reading.{Gives, member_at, array_at, items_at};
+ghost use Rattle.grid_configured.specs.Jobs.{plain_at};
+
+use crate::plain::read_plain;
+use grid_ids::{Id, Ids, Seq};
+use grid_json::{ReadError, Reason};
+use serde_json::Value;
+use std::alloc::Global;
+
+/// A way of reading a JSON value.
+pub(crate) trait Reader {
+    /// What is read.
+    type Item: Drop;
+
+    // The value of a JSON value, or its first fault.
+    ghost reads: { Data → Result Self.Item FaultAt };
+
+    fn read(alloc: Global, value: &Value) -> Result<Self::Item, ReadError>
+        ensures { Gives result (reads (view value.now)) };
+}
+
+/// A member that must be there.
+pub(crate) fn read_member<R: Reader>(
+    alloc: Global,
+    value: &Value,
+    name: &str,
+) -> Result<R::Item, ReadError>
+    ensures { Gives result (member_at R.reads name.now (view value.now)) }
+{
+    match value.get(name) {
+        None => Err(ReadError::here(alloc, Reason::Missing).under(alloc, name)),
+        Some(found) => match R::read(alloc, found) {
+            Ok(read) => Ok(read),
+            Err(e) => Err(e.under(alloc, name)),
+        },
+    }
+}
+
+/// Each item, under its position.
+pub(crate) fn read_each<R: Reader>(
+    alloc: Global,
+    items: &[Value],
+) -> Result<Seq<R::Item>, ReadError>
+    ensures items { Gives result (items_at R.reads 0 (items_view items.now)) }
+    ensures count { IfOk result (λ list. length list ≡ length items.now) }
+{
+    let mut list = Seq::empty(alloc);
+    for (i, item) in items.iter().enumerate() {
+        match R::read(alloc, item) {
+            Ok(read) => list.push(read)?,
+            Err(e) => return Err(e.under_position(alloc, i)),
+        }
+    }
+    Ok(list)
+}
+
+/// The items of an array.
+pub(crate) fn read_array<R: Reader>(alloc: Global, value: &Value) -> Result<Seq<R::Item>, ReadError>
+    ensures { Gives result (array_at R.reads (view value.now)) }
+{
+    match value.as_array() {
+        None => Err(ReadError::here(alloc, Reason::WrongKind)),
+        Some(items) => read_each::<R>(alloc, items.as_slice()),
+    }
+}
+
+/// Reads a plain id.
+pub(crate) struct PlainId;
+
+impl Reader for PlainId {
+    type Item = Id;
+
+    ghost reads = { plain_at };
+
+    fn read(alloc: Global, value: &Value) -> Result<Id, ReadError> {
+        read_plain(alloc, value)
+    }
+}
+
+/// Reads an array of plain ids.
+pub(crate) struct PlainIds;
+
+impl Reader for PlainIds {
+    type Item = Ids;
+
+    ghost reads = { array_at plain_at };
+
+    fn read(alloc: Global, value: &Value) -> Result<Ids, ReadError> {
+        read_array::<PlainId>(alloc, value)
+    }
+}

@@ -1,0 +1,53 @@
+// Sets of ids that were named before.
+ghost use Rattle.std.specs.Prelude.{◌≡◌, [], ◌∷◌, ◌++◌, not, IfOk, OnOk};
+ghost use Rattle.grid_ids.specs.Name.{has_id};
+ghost use Rattle.grid_configured.specs.Seen.{Knows};
+
+use grid_ids::{Duplicate, Id, Memory};
+use std::alloc::Global;
+use std::collections::BTreeSet;
+use std::marker::Model;
+
+/// Ids that were named, by byte order.
+#[derive(Drop)]
+pub(crate) struct SeenIds {
+    ids: BTreeSet<Id>,
+}
+
+impl Model for SeenIds {
+    ghost use Rattle.std.specs.Prelude.{List, ℕ};
+
+    ghost Value = { List (List ℕ) };
+
+    ghost view = { λ seen. seen.ids.keys };
+}
+
+impl SeenIds {
+    /// No ids. It takes no memory.
+    pub fn empty(alloc: Global) -> SeenIds
+        ensures { result ≡ [] }
+    {
+        SeenIds {
+            ids: BTreeSet::new(alloc),
+        }
+    }
+
+    /// Whether the id is there. It takes no memory.
+    pub fn has(&self, id: &Id) -> bool
+        ensures { result ≡ has_id self.now id.now }
+    {
+        self.ids.contains(id)
+    }
+
+    /// Puts the id in, and tells whether it was not there.
+    pub fn add(&mut self, id: &Id) -> Result<bool, Memory>
+        ensures new { IfOk result (λ new. new ≡ not (has_id self.old id.now)) }
+        ensures known { OnOk result (Knows self.new (self.old ++ id.now ∷ [])) }
+    {
+        let name = id.copy()?;
+        match self.ids.insert(name) {
+            Ok(new) => Ok(new),
+            Err(_) => Err(Memory),
+        }
+    }
+}
