@@ -14,6 +14,7 @@ const FORMS: &str = "grid check < JOB
        grid print < JOB > JOB
        grid hvdc < JOB > COMPONENTS
        grid screen < JOB > FINDINGS
+       grid configured < JOB > REPORT
        grid make SEED SIZE > JOB
        grid trial SEED SIZE";
 
@@ -67,6 +68,11 @@ fn with_forms<'a>(alloc: Global, command: Command<'a>) -> Result<Command<'a>, Al
             alloc,
             "screen",
             "Reads a job with contingencies, runs its commands in order and writes what each outage would do to the initial variant",
+        ))?
+        .subcommand(form(
+            alloc,
+            "configured",
+            "Reads a job of a network with configured buses, runs its commands in order and writes the report",
         ))?
         .subcommand(form(alloc, "make", "Writes the job made of a seed and a size"))?
         .subcommand(form(
