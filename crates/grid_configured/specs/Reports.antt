@@ -1,15 +1,15 @@
 -- The report of scripts that are run in some order on a network with configured buses. It is told of the network's history
 -- alone.
-use Rattle.std.specs.Prelude.{ℕ, List, [], ◌∷◌, ◌++◌, length, map}
-use Rattle.std.specs.List.{filter_map, range_with_len}
+use Rattle.std.specs.Prelude.{◌≡◌, ℕ, List, [], ◌∷◌, ◌++◌, length, map, slice_get, codes, decimal}
+use Rattle.std.specs.List.{flat_map, filter_map, range_with_len}
 use Rattle.grid_core.specs.declared.request.Request.{Request}
 use Rattle.grid_core.specs.History.{Command, live, working}
-use Rattle.grid_report.specs.Histories.{steps_of}
+use Rattle.grid_report.specs.Histories.{steps_of, told_order, script_of, IsOrder}
 use Rattle.grid_configured.specs.declared.network.ConfiguredNetwork.{ConfiguredNetwork}
 use Rattle.grid_configured.specs.declared.reply.ConfiguredReply.{ConfiguredReply}
 use Rattle.grid_configured.specs.declared.outcome.ConfiguredVariant.{ConfiguredVariant}
 use Rattle.grid_configured.specs.Histories.{ConfiguredHistory, reply, view}
-use Rattle.grid_configured.specs.Texts.{Told, Report, report_of}
+use Rattle.grid_configured.specs.Texts.{Told, Report, order_line, steps_by, report_of}
 
 -- ---- steps
 
@@ -60,3 +60,13 @@ history_of network scripts order = record { network = network; workers = length 
 
 unfoldable pub configured_text : ConfiguredNetwork → List (List Request) → List ℕ → List ℕ
 configured_text network scripts order = report_of (report_after (history_of network scripts order))
+
+-- ---- what it shows
+
+-- the first line of the report of a history tells the order of its steps
+abbrev pub ReportShowsOrder : Type 0
+ReportShowsOrder = (network : ConfiguredNetwork) (steps : List Command) → order_line (told_steps network steps) ≡ codes "order" ++ flat_map (λ worker. codes " " ++ decimal worker) (told_order steps) ++ codes "\n"
+
+-- the report of scripts in an order of theirs has for each worker its script, in order
+abbrev pub ReportShowsScripts : Type 0
+ReportShowsScripts = (network : ConfiguredNetwork) (scripts : List (List Request)) (order : List ℕ) → IsOrder scripts order → (worker : ℕ) → map (λ t. t.request) (steps_by worker (told_steps network (steps_of scripts order))) ≡ script_of (slice_get scripts worker)

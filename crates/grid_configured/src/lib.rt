@@ -5,6 +5,7 @@
 mod checks;
 mod commands;
 mod contents;
+pub mod laws;
 mod lists;
 mod network;
 mod outcome;
