@@ -93,7 +93,7 @@ map_alike f g same (x ∷ xs) = ap (λ y. y ∷ map f xs) (same x) ∙ ap (λ z.
 
 -- ---- the nodes of a level
 
-node_numbers : (level : PlacedLevel) → map (λ (p : Placed). p.node) (translated_level level).placed ≡ places (length level.buses + length level.outlets)
+pub node_numbers : (level : PlacedLevel) → map (λ (p : Placed). p.node) (translated_level level).placed ≡ places (length level.buses + length level.outlets)
 unfolding translated_level outlets_at bus_section outlet_placed places
 node_numbers level =
     map-append (λ (p : Placed). p.node) (map bus_section (enumerate_from 0 level.buses)) (map outlet_placed (enumerate_from (length level.buses) level.outlets))
@@ -104,11 +104,11 @@ node_numbers level =
     ∙ range_join 0 (length level.buses) (length level.buses) (length level.outlets) (omega arith)
 
 -- both ends of each switch are below a count
-pub EndsUnder : ℕ → List Switch → Type 0
+unfoldable pub EndsUnder : ℕ → List Switch → Type 0
 EndsUnder count [] = Unit {0}
 EndsUnder count (s ∷ rest) = (s.node1 < count) × (s.node2 < count) × EndsUnder count rest
 
-under_join : (count : ℕ) (xs ys : List Switch) → EndsUnder count xs → EndsUnder count ys → EndsUnder count (xs ++ ys)
+pub under_join : (count : ℕ) (xs ys : List Switch) → EndsUnder count xs → EndsUnder count ys → EndsUnder count (xs ++ ys)
 unfolding EndsUnder
 under_join count [] ys h k = k
 under_join count (x ∷ xs) ys h k = (h.0, h.1, under_join count xs ys h.2 k)
