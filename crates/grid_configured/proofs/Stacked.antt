@@ -4,6 +4,7 @@ use Rattle.std.specs.Prelude.{ℤ, Option, Some, None, map, filter, find, flat_m
 use Rattle.std.specs.List.{list_any}
 use Rattle.std.proofs.lemmas.Bool.{cases_Bool, or_parts, lt-leb}
 use Rattle.std.proofs.lemmas.List.{append-nil, map-append}
+use Rattle.std.proofs.lemmas.List.Concat.{flat_map-append}
 use Rattle.std.proofs.lemmas.List.Folds.{list_any-append, find-append}
 use Rattle.std.proofs.lemmas.Slice.Eq.{bytes_eq-Decides}
 use Rattle.grid_ids.specs.Name.{same_id, has_id}
@@ -23,6 +24,7 @@ use Rattle.grid_structure.specs.declared.Edit.TheVariants as edits
 use Rattle.grid_structure.specs.Network.{Network, Substation}
 use Rattle.grid_structure.specs.Sites.{levels, branches, switches, level_named, substation_named, level_ids, switch_ids, single_ids, branch_ids, equipment_ids, all_ids, taken, branch_ends, home_of}
 use Rattle.grid_structure.specs.Editing.{max_levels, max_switches, substation_with_levels, with_levels, with_level, with_substation, place_end, place_ends, refuse_home, with_branch, in_home, apply}
+use Rattle.grid_structure.proofs.Adding.{bare, with_bare, apply_bare}
 use Rattle.grid_configured.specs.Translation.{substation_id}
 use Rattle.grid_configured.proofs.Located.{has_join}
 
@@ -226,19 +228,99 @@ singles_free q (v ∷ vs) h =
 pub join_free : (xs ys : List (List ℕ)) (q : List ℕ) → has_id xs q ≡ false → has_id ys q ≡ false → has_id (xs ++ ys) q ≡ false
 join_free xs ys q e f = has_join xs ys q ∙ neither (has_id xs q) (has_id ys q) e f
 
-module _ (name : List ℕ) (vs : List VoltageLevel) (lines : List NamedBranch) where
-  pub free_stack : (q : List ℕ) → Free vs lines q → taken (stack name vs lines) q ≡ false
-  unfolding taken all_ids level_ids switch_ids switches equipment_ids single_ids branch_ids stack
-  free_stack q free =
-      let homes = map (λ (s : Substation). s.id) (map lone vs) in
-      join_free ((homes ++ level_ids (stack name vs lines)) ++ switch_ids (stack name vs lines)) (equipment_ids (stack name vs lines)) q
-      (join_free (homes ++ level_ids (stack name vs lines)) (switch_ids (stack name vs lines)) q
-      (join_free homes (level_ids (stack name vs lines)) q (ap (λ z. has_id z q) (lone_ids vs) ∙ homes_free q vs free.each)
-      (ap (λ z. has_id (map (λ (l : VoltageLevel). l.id) z) q) (levels_stack name vs lines) ∙ levels_free q vs free.each))
-      (ap (λ z. has_id (map (λ (s : Switch). s.id) (flat_map (λ (l : VoltageLevel). l.switches) z)) q) (levels_stack name vs lines) ∙ switches_free q vs free.each))
-      (join_free (single_ids (stack name vs lines)) (branch_ids (stack name vs lines)) q
-      (ap (λ z. has_id (flat_map (λ (l : VoltageLevel). map (λ (p : Placed). p.terminal.equipment) (filter (λ (p : Placed). not (is_branch_end p.stand)) l.placed)) z) q) (levels_stack name vs lines) ∙ singles_free q vs free.each)
-      (ap (λ z. has_id (map (λ (b : NamedBranch). b.id) z) q) (branches_stack name vs lines) ∙ free.branches))
+-- of a network with these levels and branches
+pub free_net : (net : Network) (vs : List VoltageLevel) (lines : List NamedBranch) (q : List ℕ) → levels net ≡ vs → branches net ≡ lines → has_id (map (λ (s : Substation). s.id) net.substations) q ≡ false → Free vs lines q → taken net q ≡ false
+unfolding taken all_ids level_ids switch_ids switches equipment_ids single_ids branch_ids
+free_net net vs lines q at_levels at_branches homes free =
+    let ids = map (λ (s : Substation). s.id) net.substations in
+    join_free ((ids ++ level_ids net) ++ switch_ids net) (equipment_ids net) q
+    (join_free (ids ++ level_ids net) (switch_ids net) q
+    (join_free ids (level_ids net) q homes
+    (ap (λ z. has_id (map (λ (l : VoltageLevel). l.id) z) q) at_levels ∙ levels_free q vs free.each))
+    (ap (λ z. has_id (map (λ (s : Switch). s.id) (flat_map (λ (l : VoltageLevel). l.switches) z)) q) at_levels ∙ switches_free q vs free.each))
+    (join_free (single_ids net) (branch_ids net) q
+    (ap (λ z. has_id (flat_map (λ (l : VoltageLevel). map (λ (p : Placed). p.terminal.equipment) (filter (λ (p : Placed). not (is_branch_end p.stand)) l.placed)) z) q) at_levels ∙ singles_free q vs free.each)
+    (ap (λ z. has_id (map (λ (b : NamedBranch). b.id) z) q) at_branches ∙ free.branches))
+
+homes_stack : (q : List ℕ) (vs : List VoltageLevel) → Each (Lacks q) vs → has_id (map (λ (s : Substation). s.id) (map lone vs)) q ≡ false
+homes_stack q vs h = ap (λ z. has_id z q) (lone_ids vs) ∙ homes_free q vs h
+
+pub free_stack : (name : List ℕ) (vs : List VoltageLevel) (lines : List NamedBranch) (q : List ℕ) → Free vs lines q → taken (stack name vs lines) q ≡ false
+unfolding stack
+free_stack name vs lines q free = free_net (stack name vs lines) vs lines q (levels_stack name vs lines) (branches_stack name vs lines) (homes_stack q vs free.each) free
+
+-- a switch more leaves an id free that it doesn't have
+pub free_switched : (name : List ℕ) (vs : List VoltageLevel) (lines : List NamedBranch) (q level : List ℕ) (s : Switch) → Free vs lines q → same_id q s.id ≡ false → Free (map (on level (λ v. record v { switches = v.switches ++ s ∷ [] })) vs) lines q
+unfolding has_id
+free_switched name vs lines q level s free other = record {
+  each = each_map (Lacks q) (Lacks q) (on level (λ v. record v { switches = v.switches ++ s ∷ [] })) step vs free.each;
+  branches = free.branches;
+}
+  where
+    grown : (v : VoltageLevel) → Lacks q v → Lacks q (record v { switches = v.switches ++ s ∷ [] })
+    grown v h = record {
+      home = h.home;
+      own = h.own;
+      switches = ap (λ z. has_id z q) (map-append (λ (s : Switch). s.id) v.switches (s ∷ [])) ∙ join_free (map (λ (s : Switch). s.id) v.switches) (s.id ∷ []) q h.switches (neither (same_id q s.id) false other refl);
+      singles = h.singles;
+    }
+
+    step : (v : VoltageLevel) → Lacks q v → Lacks q (on level (λ v. record v { switches = v.switches ++ s ∷ [] }) v)
+    step v h = elim (cases_Bool (same_id level v.id)) [
+      | inl e ↦ subst (Lacks q) (sym (on_own level (λ v. record v { switches = v.switches ++ s ∷ [] }) v e)) (grown v h)
+      | inr e ↦ subst (Lacks q) (sym (on_other level (λ v. record v { switches = v.switches ++ s ∷ [] }) v e)) h
+    ]
+
+-- ---- one level more, in a substation of its own
+
+abbrev pub empty_level : List ℕ → ℤ → VoltageLevel
+empty_level id nominal_v = record { id = id; nominal_v = nominal_v; low_v = None; high_v = None; switches = []; internals = []; placed = [] }
+
+find_last : (home : Substation) (subs : List Substation) → has_id (map (λ (s : Substation). s.id) subs) home.id ≡ false → find (λ (s : Substation). same_id home.id s.id) (subs ++ home ∷ []) ≡ Some home
+unfolding has_id
+find_last home [] h = ap (λ t. cond t (Some home) None) (same_itself home.id)
+find_last home (s ∷ subs) h =
+    let parts = or_parts (same_id home.id s.id) (has_id (map (λ (s : Substation). s.id) subs) home.id) h in
+    ap (λ t. cond t (Some s) (find (λ (s : Substation). same_id home.id s.id) (subs ++ home ∷ []))) parts.0 ∙ find_last home subs parts.1
+
+change_last : (home : Substation) (change : Substation → Substation) (subs : List Substation) → has_id (map (λ (s : Substation). s.id) subs) home.id ≡ false
+    → map (λ (s : Substation). cond (same_id home.id s.id) (change s) s) (subs ++ home ∷ []) ≡ subs ++ change home ∷ []
+unfolding has_id
+change_last home change [] h = ap (λ t. cond t (change home) home ∷ []) (same_itself home.id)
+change_last home change (s ∷ subs) h =
+    let parts = or_parts (same_id home.id s.id) (has_id (map (λ (s : Substation). s.id) subs) home.id) h in
+    ap (λ t. cond t (change s) s ∷ map (λ (s : Substation). cond (same_id home.id s.id) (change s) s) (subs ++ home ∷ [])) parts.0 ∙ ap (λ z. s ∷ z) (change_last home change subs parts.1)
+
+module _ (name : List ℕ) (vs : List VoltageLevel) (lines : List NamedBranch) (id : List ℕ) (home_free : Free vs lines (substation_id id)) where
+  home : Substation
+  home = bare (substation_id id)
+
+  housed : Network
+  housed = with_bare (substation_id id) (stack name vs lines)
+
+  pub home_added : apply (stack name vs lines) (edits.AddSubstation (substation_id id)) ≡ Ok (with_bare (substation_id id) (stack name vs lines))
+  home_added = apply_bare (substation_id id) (stack name vs lines) (free_stack name vs lines (substation_id id) home_free)
+
+  levels_housed : levels housed ≡ vs
+  unfolding levels stack housed
+  levels_housed = flat_map-append (λ (s : Substation). s.levels) (map lone vs) (bare (substation_id id) ∷ []) ∙ append-nil (flat_map (λ (s : Substation). s.levels) (map lone vs)) ∙ lone_levels vs
+
+  branches_housed : branches housed ≡ lines
+  unfolding branches stack housed
+  branches_housed = ap (λ z. z ++ lines) (flat_map-append (λ (s : Substation). s.transformers) (map lone vs) (bare (substation_id id) ∷ []) ∙ append-nil (flat_map (λ (s : Substation). s.transformers) (map lone vs)) ∙ lone_transformers vs)
+
+  pub level_added : (nominal_v : ℤ) → Free vs lines id → same_id id (substation_id id) ≡ false → level_fault nominal_v None None ≡ None → length vs < max_levels
+      → apply (with_bare (substation_id id) (stack name vs lines)) (edits.AddLevel id (substation_id id) nominal_v None None) ≡ Ok (stack name (vs ++ empty_level id nominal_v ∷ []) lines)
+  unfolding apply substation_named with_substation stack lone housed has_id
+  level_added nominal_v free other right few =
+      let apart : has_id (map (λ (s : Substation). s.id) (map lone vs)) (substation_id id) ≡ false = homes_stack (substation_id id) vs home_free.each in
+      let not_home : has_id (map (λ (s : Substation). s.id) (map lone vs ++ bare (substation_id id) ∷ [])) id ≡ false =
+          ap (λ z. has_id z id) (map-append (λ (s : Substation). s.id) (map lone vs) (bare (substation_id id) ∷ []))
+          ∙ join_free (map (λ (s : Substation). s.id) (map lone vs)) (substation_id id ∷ []) id (homes_stack id vs free.each) (neither (same_id id (substation_id id)) false other refl) in
+      let count : length (levels housed) < max_levels = (let e = ap length levels_housed in omega (arith, e, few)) in
+      rw (free_net housed vs lines id levels_housed branches_housed not_home free, find_last (bare (substation_id id)) (map lone vs) apart, lt-leb max_levels (length (levels housed)) count, right)
+      (ap (λ z. Ok (record { id = name; substations = z; lines = lines }))
+      (change_last (bare (substation_id id)) (λ s. record s { levels = s.levels ++ empty_level id nominal_v ∷ [] }) (map lone vs) apart ∙ sym (map-append lone vs (empty_level id nominal_v ∷ []))))
 
 -- ---- one level changed
 
