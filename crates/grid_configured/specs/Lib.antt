@@ -10,3 +10,4 @@ pub mod Told
 pub mod Machine
 pub mod Histories
 pub mod Worlds
+pub mod Partial
