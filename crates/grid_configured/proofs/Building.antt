@@ -3,7 +3,7 @@ use Rattle.std.proofs.Common.{◌≡◌, refl, sym, ap, ◌∙◌, subst, ℕ, z
 use Rattle.std.specs.Prelude.{ℤ, pos, Option, Some, None, map, find, flat_map, position, unwrap_or, slice_get, take, codes, decimal, ⊤, All, nat_le, sum_by}
 use Rattle.std.specs.List.{list_any, enumerate_from}
 use Rattle.std.proofs.lemmas.Bool.{and_parts, or_parts, true≢false, not-false, leb-false}
-use Rattle.std.proofs.lemmas.List.{append-nil, map-append, length-append, length-map}
+use Rattle.std.proofs.lemmas.List.{append-nil, map-append, map-id, length-append, length-map}
 use Rattle.std.proofs.lemmas.List.Concat.{flat_map-append}
 use Rattle.std.proofs.lemmas.List.Folds.{find-append}
 use Rattle.std.proofs.lemmas.List.FromFn.{length-enumerate_from}
@@ -146,3 +146,196 @@ fresh_part ls l id a b c d e =
     ∙ join_free (ids_of ls) (l.id ∷ (l.buses ++ (map (λ (s : BusSwitch). s.id) l.switches ++ map (λ (t : Item). t.id) l.items))) id a
     (join_free (l.id ∷ []) (l.buses ++ (map (λ (s : BusSwitch). s.id) l.switches ++ map (λ (t : Item). t.id) l.items)) id (ap (λ t. t || false) b)
     (join_free l.buses (map (λ (s : BusSwitch). s.id) l.switches ++ map (λ (t : Item). t.id) l.items) id c (join_free (map (λ (s : BusSwitch). s.id) l.switches) (map (λ (t : Item). t.id) l.items) id d e)))
+
+-- ---- what the checks say
+
+level_few : (earlier : List ConfiguredLevel) (l : ConfiguredLevel) → level_check earlier l ≡ Ok tt → (length earlier < max_levels) × (level_fault l.nominal_v None None ≡ None)
+unfolding level_check level_reasons
+level_few earlier l h =
+    let one = right_first (level_reasons (has_id (ids_of earlier) l.id) (length earlier) (level_fault l.nominal_v None None)) _ tt h in
+    let two = right_first (id_reasons (has_id (ids_of earlier) l.id)) _ tt one.1 in
+    let three = right_first (refuse_if (nat_le max_levels (length earlier)) _) _ tt two.2 in
+    (leb-false max_levels (length earlier) (not_refused (nat_le max_levels (length earlier)) _ _ three.1), none_of (level_fault l.nominal_v None None) three.2)
+  where
+    none_of : (o : Option CheckFault) → refuse_by record_fault o ≡ Ok tt → o ≡ None
+    none_of None e = refl
+    none_of (Some f) e = absurd (let k : Err (record_fault f) ≡ Ok tt = e in cc)
+
+bus_few : (ids earlier : List (List ℕ)) (bus : List ℕ) → bus_check ids earlier bus ≡ Ok tt → length earlier < max_nodes
+unfolding bus_check bus_reasons
+bus_few ids earlier bus h =
+    let one = right_first (id_reasons (has_id (ids ++ earlier) bus)) _ tt h in
+    leb-false max_nodes (length earlier) (not_refused (nat_le max_nodes (length earlier)) _ _ one.2)
+
+-- what is right with a switch
+record SwitchRight (buses : List (List ℕ)) (edges switches : ℕ) (s : BusSwitch) : Type 0 where
+  one : has_id buses s.bus1 ≡ true
+  two : has_id buses s.bus2 ≡ true
+  apart : same_id s.bus1 s.bus2 ≡ false
+  edges_few : edges < max_edges
+  switches_few : switches < max_switches
+
+switch_right : (ids buses : List (List ℕ)) (count : ℕ) (earlier : List BusSwitch) (s : BusSwitch) → switch_check ids buses count earlier s ≡ Ok tt → SwitchRight buses (length earlier) (count + length earlier) s
+unfolding switch_check switch_reasons buses_reasons
+switch_right ids buses count earlier s h =
+    let there = has_id buses s.bus1 && has_id buses s.bus2 in
+    let one = right_first (id_reasons _) _ tt h in
+    let two = right_first (buses_reasons there (same_id s.bus1 s.bus2)) _ tt one.2 in
+    let three = right_first (refuse_if (not there) _) _ tt two.1 in
+    let four = right_first (refuse_if (nat_le max_edges (length earlier)) _) _ tt two.2 in
+    let both = and_parts (has_id buses s.bus1) (has_id buses s.bus2) (not-false there (not_refused (not there) _ _ three.1)) in
+    record {
+      one = both.0;
+      two = both.1;
+      apart = not_refused (same_id s.bus1 s.bus2) _ _ three.2;
+      edges_few = leb-false max_edges (length earlier) (not_refused (nat_le max_edges (length earlier)) _ _ four.1);
+      switches_few = leb-false max_switches (count + length earlier) (not_refused (nat_le max_switches (count + length earlier)) _ _ four.2);
+    }
+
+-- what is right with a terminal, where there are so many nodes, edges and switches
+pub record TerminalRight (nodes edges switches : ℕ) : Type 0 where
+  pub nodes_few : nodes < max_nodes
+  pub edges_few : edges < max_edges
+  pub switches_few : switches < max_switches
+
+pub terminal_right : (nodes edges switches : ℕ) → terminal_reasons nodes edges switches ≡ Ok tt → TerminalRight nodes edges switches
+unfolding terminal_reasons
+terminal_right nodes edges switches h =
+    let one = right_first (refuse_if (nat_le max_nodes nodes) _) _ tt h in
+    let two = right_first (refuse_if (nat_le max_edges edges) _) _ tt one.2 in
+    record {
+      nodes_few = leb-false max_nodes nodes (not_refused (nat_le max_nodes nodes) _ _ one.1);
+      edges_few = leb-false max_edges edges (not_refused (nat_le max_edges edges) _ _ two.1);
+      switches_few = leb-false max_switches switches (not_refused (nat_le max_switches switches) _ _ two.2);
+    }
+
+-- what is right with an injection
+record ItemRight (buses : List (List ℕ)) (nodes edges switches : ℕ) (t : Item) : Type 0 where
+  there : has_id buses t.bus ≡ true
+  fault : injection_fault t.item ≡ None
+  few : TerminalRight nodes edges switches
+
+item_right : (ids buses : List (List ℕ)) (nodes edges count : ℕ) (earlier : List Item) (t : Item) → item_check ids buses nodes edges count earlier t ≡ Ok tt → ItemRight buses (nodes + length earlier) (edges + length earlier) (count + length earlier) t
+unfolding item_check item_reasons
+item_right ids buses nodes edges count earlier t h =
+    let one = right_first (id_reasons _) _ tt h in
+    let two = right_first (refuse_if (not (has_id buses t.bus)) _) _ tt one.2 in
+    let three = right_first (refuse_by record_fault (injection_fault t.item)) _ tt two.2 in
+    record {
+      there = not-false (has_id buses t.bus) (not_refused (not (has_id buses t.bus)) _ _ two.1);
+      fault = none_of (injection_fault t.item) three.1;
+      few = terminal_right (nodes + length earlier) (edges + length earlier) (count + length earlier) three.2;
+    }
+  where
+    none_of : (o : Option CheckFault) → refuse_by record_fault o ≡ Ok tt → o ≡ None
+    none_of None e = refl
+    none_of (Some f) e = absurd (let k : Err (record_fault f) ≡ Ok tt = e in cc)
+
+-- buses of different ids are at different places
+places_apart : (buses : List (List ℕ)) (a b : List ℕ) → has_id buses a ≡ true → has_id buses b ≡ true → same_id a b ≡ false → bus_place buses a ≡ bus_place buses b → ⊥
+unfolding bus_place has_id
+places_apart buses a b one two other e = by (position (same_id a) buses) refl (position (same_id b) buses) refl e
+  where
+    by : (o : Option ℕ) → position (same_id a) buses ≡ o → (q : Option ℕ) → position (same_id b) buses ≡ q → unwrap_or o 0 ≡ unwrap_or q 0 → ⊥
+    by None f q g same = true≢false (sym one ∙ position_none (same_id a) buses f)
+    by (Some i) f None g same = true≢false (sym two ∙ position_none (same_id b) buses g)
+    by (Some i) f (Some k) g same =
+        let at_a = position_found (same_id a) buses i f in
+        let at_b = position_found (same_id b) buses k g in
+        let x = get_or buses i [] in
+        let got = slice_get-get_or buses i [] at_a.0 in
+        let ax : a ≡ x = (bytes_eq-Decides a x).0 (at_a.1 x got) in
+        let bx : b ≡ x = (bytes_eq-Decides b x).0 (at_b.1 x (ap (slice_get buses) (sym same) ∙ got)) in
+        true≢false (sym ((bytes_eq-Decides a b).1 (ax ∙ sym bx)) ∙ other)
+
+-- ---- the steps
+
+module _ (n : ConfiguredNetwork) (ls : List ConfiguredLevel) (l : ConfiguredLevel) (new : has_id (ids_of ls) l.id ≡ false) (plain : Each PlainLevel ls) (own : Unmarked l.id) where
+  others : Each (λ (w : VoltageLevel). same_id l.id w.id ≡ false) (alone_levels ls)
+  others = others_from l.id ls new
+
+  levels_plain : PlainNetwork (levels_only n ls)
+  levels_plain = record { levels = plain; lines = tt }
+
+  levels_fresh : Fresh (levels_only n ls) l.id
+  unfolding has_id
+  levels_fresh = record { levels = new; lines = refl }
+
+  home_free : Free (alone_levels ls) [] (substation_id l.id)
+  home_free =
+      let P : List VoltageLevel → Type 0 = λ z. Free z [] (substation_id l.id) in
+      let Q : List ℕ → Type 0 = λ z. Free (shaped (levels_only n ls)) [] z in
+      subst P (shaped_alone n ls) (subst Q (sym (home_tagged l.id)) (free_tagged (levels_only n ls) l.id (codes "S") levels_plain own levels_fresh))
+
+  pub home_step : apply (translated (levels_only n ls)) (edits.AddSubstation (substation_id l.id)) ≡ Ok (with_bare (substation_id l.id) (translated (levels_only n ls)))
+  home_step = rw (alone_stack n ls) (home_added n.id (alone_levels ls) [] l.id home_free)
+
+  empty_alone : translated_level (alone (record l { buses = []; switches = []; items = [] })) ≡ empty_level l.id l.nominal_v
+  unfolding translated_level outlets_at
+  empty_alone = refl
+
+  pub level_step : level_check ls l ≡ Ok tt → apply (with_bare (substation_id l.id) (translated (levels_only n ls))) (edits.AddLevel l.id (substation_id l.id) l.nominal_v None None) ≡ Ok (translated (levels_only n (ls ++ record l { buses = []; switches = []; items = [] } ∷ [])))
+  level_step right =
+      let few = level_few ls l right in
+      let count : length (alone_levels ls) < max_levels = (let a = length-map (map alone ls) translated_level in let b = length-map ls alone in let c = few.0 in omega (arith, a, b, c)) in
+      let P : List VoltageLevel → Type 0 = λ z. Free z [] l.id in
+      let free : Free (alone_levels ls) [] l.id = subst P (shaped_alone n ls) (free_plain (levels_only n ls) l.id own levels_fresh) in
+      let other : same_id l.id (substation_id l.id) ≡ false = plain_apart l.id (substation_id l.id) own (ap is_marked (home_tagged l.id) ∙ tagged_marked l.id (codes "S")) in
+      ap (λ z. apply (with_bare (substation_id l.id) z) (edits.AddLevel l.id (substation_id l.id) l.nominal_v None None)) (alone_stack n ls)
+      ∙ level_added n.id (alone_levels ls) [] l.id home_free l.nominal_v free other few.1 count
+      ∙ ap (λ z. Ok (stack n.id (alone_levels ls ++ z ∷ []) [])) (sym empty_alone)
+      ∙ ap Ok (sym (part_stack n ls (record l { buses = []; switches = []; items = [] })))
+
+  -- a level of the same id as the last one
+  module _ (part : ConfiguredLevel) (same : part.id ≡ l.id) where
+    vs : List VoltageLevel
+    vs = alone_levels ls ++ translated_level (alone part) ∷ []
+
+    pub part_at : At l.id (translated_level (alone part)) (alone_levels ls ++ translated_level (alone part) ∷ [])
+    part_at = at_last l.id (alone_levels ls) (translated_level (alone part)) (ap (same_id l.id) (alone_id part ∙ same) ∙ same_itself l.id) others
+
+    part_changed : (change : VoltageLevel → VoltageLevel) → map (on l.id change) (alone_levels ls ++ translated_level (alone part) ∷ []) ≡ alone_levels ls ++ change (translated_level (alone part)) ∷ []
+    part_changed change = changed_last l.id change (alone_levels ls) (translated_level (alone part)) (ap (same_id l.id) (alone_id part ∙ same) ∙ same_itself l.id) others
+
+    part_plain : PlainLevel part → PlainNetwork (levels_only n (ls ++ part ∷ []))
+    part_plain p = record { levels = each_join PlainLevel ls (part ∷ []) plain (p, tt); lines = tt }
+
+    part_fresh : (id : List ℕ) → has_id (ids_of ls ++ l.id ∷ []) id ≡ false → has_id part.buses id ≡ false → has_id (map (λ (s : BusSwitch). s.id) part.switches) id ≡ false → has_id (map (λ (t : Item). t.id) part.items) id ≡ false
+        → Fresh (levels_only n (ls ++ part ∷ [])) id
+    unfolding has_id
+    part_fresh id a c d e =
+        let parts = join_parts (ids_of ls) (l.id ∷ []) id a in
+        record { levels = fresh_part ls part id parts.0 (ap (same_id id) same ∙ (or_parts (same_id id l.id) false parts.1).0) c d e; lines = refl }
+
+    part_free : (id : List ℕ) → Unmarked id → Fresh (levels_only n (ls ++ part ∷ [])) id → Free (alone_levels ls ++ translated_level (alone part) ∷ []) [] id
+    part_free id p f =
+        let P : List VoltageLevel → Type 0 = λ z. Free z [] id in
+        subst P (shaped_alone n (ls ++ part ∷ []) ∙ last_level ls part) (free_plain (levels_only n (ls ++ part ∷ [])) id p f)
+
+    part_tagged : (id text : List ℕ) → PlainLevel part → Unmarked id → Fresh (levels_only n (ls ++ part ∷ [])) id → Free (alone_levels ls ++ translated_level (alone part) ∷ []) [] (tagged id text)
+    part_tagged id text pl p f =
+        let P : List VoltageLevel → Type 0 = λ z. Free z [] (tagged id text) in
+        subst P (shaped_alone n (ls ++ part ∷ []) ∙ last_level ls part) (free_tagged (levels_only n (ls ++ part ∷ [])) id text (part_plain pl) p f)
+
+  no_places : (bs : List (List ℕ)) → PlacesFit (alone (record l { buses = bs; switches = []; items = [] }))
+  no_places bs = record { joints = All-nil _; outlets = All-nil _ }
+
+  -- one bus more
+  pub bus_step : (bs : List (List ℕ)) (b : List ℕ) → bus_check (ids_of ls ++ l.id ∷ []) bs b ≡ Ok tt → Unmarked b
+      → apply (translated (levels_only n (ls ++ record l { buses = bs; switches = []; items = [] } ∷ []))) (edits.AddBusbar b l.id (pos (length bs)))
+      ≡ Ok (translated (levels_only n (ls ++ record l { buses = bs ++ b ∷ []; switches = []; items = [] } ∷ [])))
+  unfolding has_id bus_section
+  bus_step bs b right marked =
+      let part : ConfiguredLevel = record l { buses = bs; switches = []; items = [] } in
+      let more : ConfiguredLevel = record l { buses = bs ++ b ∷ []; switches = []; items = [] } in
+      let v = translated_level (alone part) in
+      let few : length bs < max_nodes = bus_few (ids_of ls ++ l.id ∷ []) bs b right in
+      let fresh = join_parts (ids_of ls ++ l.id ∷ []) (map (λ b. b) bs) b (fresh_bus (ids_of ls ++ l.id ∷ []) bs b right) in
+      let free = part_free part refl b marked (part_fresh part refl b fresh.0 (ap (λ z. has_id z b) (sym (map-id bs)) ∙ fresh.1) refl refl) in
+      let under = level_under (alone part) (no_places bs) (omega (arith, few)) in
+      let fits = terminal_fit v (bus_section (length bs, b)) under (placed_below (alone part) (no_places bs) (length bs) (omega arith)) few in
+      ap (λ z. apply z (edits.AddBusbar b l.id (pos (length bs)))) (part_stack n ls part)
+      ∙ busbar_added n.id (alone_levels ls ++ v ∷ []) [] l.id v (part_at part refl) (placed_more (bus_section (length bs, b))) (λ v. refl) b (pos (length bs)) free fits
+      ∙ ap (λ z. Ok (stack n.id z [])) (part_changed part refl (placed_more (bus_section (length bs, b))))
+      ∙ ap (λ z. Ok (stack n.id (alone_levels ls ++ z ∷ []) [])) (bus_grown (alone part) b refl)
+      ∙ ap Ok (sym (part_stack n ls more))
