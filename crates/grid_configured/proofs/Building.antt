@@ -339,3 +339,131 @@ module _ (n : ConfiguredNetwork) (ls : List ConfiguredLevel) (l : ConfiguredLeve
       ∙ ap (λ z. Ok (stack n.id z [])) (part_changed part refl (placed_more (bus_section (length bs, b))))
       ∙ ap (λ z. Ok (stack n.id (alone_levels ls ++ z ∷ []) [])) (bus_grown (alone part) b refl)
       ∙ ap Ok (sym (part_stack n ls more))
+
+  -- one switch more
+  pub joint_step : (ss : List BusSwitch) (s : BusSwitch) → switch_check ((ids_of ls ++ l.id ∷ []) ++ l.buses) l.buses (checks.switch_total ls) ss s ≡ Ok tt → Unmarked s.id
+      → PlacesFit (alone (record l { switches = ss; items = [] })) → length l.buses ≤ max_nodes
+      → apply (translated (levels_only n (ls ++ record l { switches = ss; items = [] } ∷ []))) (edits.AddSwitch s.id l.id Breaker (pos (bus_place l.buses s.bus1)) (pos (bus_place l.buses s.bus2)) s.opened true false)
+      ≡ Ok (translated (levels_only n (ls ++ record l { switches = ss ++ s ∷ []; items = [] } ∷ [])))
+  unfolding has_id joint_breaker joint_of level_edges
+  joint_step ss s right marked fit few =
+      let part : ConfiguredLevel = record l { switches = ss; items = [] } in
+      let more : ConfiguredLevel = record l { switches = ss ++ s ∷ []; items = [] } in
+      let v = translated_level (alone part) in
+      let ids = (ids_of ls ++ l.id ∷ []) ++ l.buses in
+      let r = switch_right ids l.buses (checks.switch_total ls) ss s right in
+      let fresh = join_parts ids (map (λ (s : BusSwitch). s.id) ss) s.id (fresh_switch ids l.buses (checks.switch_total ls) ss s right) in
+      let base = join_parts (ids_of ls ++ l.id ∷ []) l.buses s.id fresh.0 in
+      let free = part_free part refl s.id marked (part_fresh part refl s.id base.0 base.1 fresh.1 refl) in
+      let under = level_under (alone part) fit (omega (arith, few)) in
+      let one : bus_place l.buses s.bus1 < length l.buses = bus_there l.buses s.bus1 r.one in
+      let two : bus_place l.buses s.bus2 < length l.buses = bus_there l.buses s.bus2 r.two in
+      let edges : length v.switches ≡ length ss + 0 = switch_count part in
+      let edges_few = r.edges_few in
+      let switches_few = r.switches_few in
+      let fits = switch_fits v (joint_breaker (joint_of l s)) under (omega (arith, one, few)) (omega (arith, two, few)) (places_apart l.buses s.bus1 s.bus2 r.one r.two r.apart) (omega (arith, edges, edges_few)) in
+      let count : length (flat_map (λ (v : VoltageLevel). v.switches) (alone_levels ls ++ v ∷ [])) < max_switches = (let e = part_counts ls v in omega (arith, e, edges, switches_few)) in
+      ap (λ z. apply z (edits.AddSwitch s.id l.id Breaker (pos (bus_place l.buses s.bus1)) (pos (bus_place l.buses s.bus2)) s.opened true false)) (part_stack n ls part)
+      ∙ switch_added n.id (alone_levels ls ++ v ∷ []) [] l.id v (part_at part refl) (switch_more (joint_breaker (joint_of l s))) (λ v. refl) s.id Breaker (pos (bus_place l.buses s.bus1)) (pos (bus_place l.buses s.bus2)) s.opened true false free count fits
+      ∙ ap (λ z. Ok (stack n.id z [])) (part_changed part refl (switch_more (joint_breaker (joint_of l s))))
+      ∙ ap (λ z. Ok (stack n.id (alone_levels ls ++ z ∷ []) [])) (joint_grown (alone part) (joint_of l s) refl)
+      ∙ ap (λ z. Ok (stack n.id (alone_levels ls ++ translated_level (record (alone more) { joints = z }) ∷ []) [])) (sym (map-append (joint_of l) ss (s ∷ [])))
+      ∙ ap Ok (sym (part_stack n ls more))
+
+  -- the level with the breaker of one injection more
+  abbrev pub next_breaker : List Item → Item → Switch
+  next_breaker ts t = outlet_breaker (next_node (alone (record l { items = ts })), item_outlet l t)
+
+  abbrev pub half : List Item → Item → Network
+  half ts t = stack n.id (alone_levels ls ++ switch_more (next_breaker ts t) (translated_level (alone (record l { items = ts }))) ∷ []) []
+
+  module _ (ts : List Item) (t : Item) (right : item_check (ids_of ls ++ l.id ∷ [] ++ (l.buses ++ map (λ s. s.id) l.switches)) l.buses (length l.buses) (length l.switches) (checks.switch_total ls + length l.switches) ts t ≡ Ok tt)
+      (marked : Unmarked t.id) (part_marked : PlainLevel (record l { items = ts })) (fit : PlacesFit (alone (record l { items = ts }))) where
+    abbrev part : ConfiguredLevel
+    part = record l { items = ts }
+
+    abbrev more : ConfiguredLevel
+    more = record l { items = ts ++ t ∷ [] }
+
+    abbrev v : VoltageLevel
+    v = translated_level (alone (record l { items = ts }))
+
+    abbrev s : Switch
+    s = next_breaker ts t
+
+    abbrev p : Placed
+    p = outlet_placed (next_node (alone (record l { items = ts })), item_outlet l t)
+
+    abbrev ids : List (List ℕ)
+    ids = ids_of ls ++ l.id ∷ [] ++ (l.buses ++ map (λ s. s.id) l.switches)
+
+    r : ItemRight l.buses (length l.buses + length ts) (length l.switches + length ts) (checks.switch_total ls + length l.switches + length ts) t
+    r = item_right ids l.buses (length l.buses) (length l.switches) (checks.switch_total ls + length l.switches) ts t right
+
+    item_fresh : Fresh (levels_only n (ls ++ record l { items = ts } ∷ [])) t.id
+    item_fresh =
+        let all = fresh_item ids l.buses (length l.buses) (length l.switches) (checks.switch_total ls + length l.switches) ts t right in
+        let one = join_parts ids (map (λ (t : Item). t.id) ts) t.id all in
+        let two = join_parts (ids_of ls ++ l.id ∷ []) (l.buses ++ map (λ s. s.id) l.switches) t.id one.0 in
+        let three = join_parts l.buses (map (λ (s : BusSwitch). s.id) l.switches) t.id two.1 in
+        part_fresh part refl t.id two.0 three.0 three.1 one.1
+
+    pub node_is : next_node (alone (record l { items = ts })) ≡ length l.buses + length ts
+    unfolding item_outlet
+    node_is = ap (λ z. length l.buses + z) (length-map ts (item_outlet l))
+
+    node_few : next_node (alone (record l { items = ts })) < max_nodes
+    node_few = let few = r.few.nodes_few in let e = node_is in omega (arith, few, e)
+
+    nodes_under : Under max_nodes v
+    nodes_under = let few = node_few in level_under (alone part) fit (omega (arith, few))
+
+    place_few : bus_place l.buses t.bus < length l.buses
+    place_few = bus_there l.buses t.bus r.there
+
+    edges_are : length v.switches ≡ length l.switches + length ts
+    unfolding level_edges
+    edges_are = switch_count part
+
+    breaker_step : apply (translated (levels_only n (ls ++ record l { items = ts } ∷ []))) (edits.AddSwitch (breaker_id (record { equipment = t.id; side = 1 })) l.id Breaker (pos (bus_place l.buses t.bus)) (pos (next_node (alone (record l { items = ts })))) (not t.connected) false false) ≡ Ok (half ts t)
+    unfolding outlet_breaker item_outlet
+    breaker_step =
+        let id = breaker_id (record { equipment = t.id; side = 1 }) in
+        let P : List ℕ → Type 0 = λ z. Free (alone_levels ls ++ v ∷ []) [] z in
+        let free = subst P (sym (breaker_tagged (record { equipment = t.id; side = 1 }))) (part_tagged part refl t.id (decimal 1) part_marked marked item_fresh) in
+        let place = place_few in
+        let few = node_few in
+        let edges = edges_are in
+        let edges_few = r.few.edges_few in
+        let switches_few = r.few.switches_few in
+        let fits = switch_fits v s nodes_under (omega (arith, place, few)) few (λ e. absurd (omega (arith, e, place))) (omega (arith, edges, edges_few)) in
+        let count : length (flat_map (λ (v : VoltageLevel). v.switches) (alone_levels ls ++ v ∷ [])) < max_switches = (let e = part_counts ls v in omega (arith, e, edges, switches_few)) in
+        ap (λ z. apply z (edits.AddSwitch id l.id Breaker (pos (bus_place l.buses t.bus)) (pos (next_node (alone part))) (not t.connected) false false)) (part_stack n ls part)
+        ∙ switch_added n.id (alone_levels ls ++ v ∷ []) [] l.id v (part_at part refl) (switch_more s) (λ v. refl) id Breaker (pos (bus_place l.buses t.bus)) (pos (next_node (alone part))) (not t.connected) false false free count fits
+        ∙ ap (λ z. Ok (stack n.id z [])) (part_changed part refl (switch_more s))
+
+    injection_step : apply (half ts t) (edits.AddInjection t.id l.id (pos (next_node (alone (record l { items = ts })))) t.item) ≡ Ok (translated (levels_only n (ls ++ record l { items = ts ++ t ∷ [] } ∷ [])))
+    unfolding outlet_placed item_outlet outlet_breaker joint_of
+    injection_step =
+        let place = place_few in
+        let few = node_few in
+        let w = switch_more s v in
+        let e = node_is in
+        let own_w : same_id l.id w.id ≡ true = ap (same_id l.id) (alone_id part) ∙ same_itself l.id in
+        let P : List VoltageLevel → Type 0 = λ z. Free z [] t.id in
+        let free = subst P (part_changed part refl (switch_more s))
+            (free_switched n.id (alone_levels ls ++ v ∷ []) [] t.id l.id s (part_free part refl t.id marked item_fresh)
+            (plain_apart t.id s.id marked (ap is_marked (breaker_tagged (record { equipment = t.id; side = 1 })) ∙ tagged_marked t.id (decimal 1)))) in
+        let fits = terminal_fit w p (switch_under v s nodes_under (omega (arith, place, few)) few) (placed_below (alone part) fit (next_node (alone part)) (omega arith)) few in
+        injection_added n.id (alone_levels ls ++ w ∷ []) [] l.id w (at_last l.id (alone_levels ls) w own_w others) (placed_more p) (λ v. refl) t.id (pos (next_node (alone part))) t.item free r.fault fits
+        ∙ ap (λ z. Ok (stack n.id z [])) (changed_last l.id (placed_more p) (alone_levels ls) w own_w others)
+        ∙ ap (λ z. Ok (stack n.id (alone_levels ls ++ z ∷ []) [])) (outlet_grown (alone part) (item_outlet l t))
+        ∙ ap (λ z. Ok (stack n.id (alone_levels ls ++ translated_level (record (alone more) { outlets = z }) ∷ []) [])) (sym (map-append (item_outlet l) ts (t ∷ [])))
+        ∙ ap Ok (sym (part_stack n ls more))
+
+    -- the breaker of one injection more, and then the injection
+    pub item_breaker : apply (translated (levels_only n (ls ++ record l { items = ts } ∷ []))) (edits.AddSwitch (breaker_id (record { equipment = t.id; side = 1 })) l.id Breaker (pos (bus_place l.buses t.bus)) (pos (length l.buses + length ts)) (not t.connected) false false) ≡ Ok (half ts t)
+    item_breaker = ap (λ z. apply (translated (levels_only n (ls ++ record l { items = ts } ∷ []))) (edits.AddSwitch (breaker_id (record { equipment = t.id; side = 1 })) l.id Breaker (pos (bus_place l.buses t.bus)) (pos z) (not t.connected) false false)) (sym node_is) ∙ breaker_step
+
+    pub item_step : apply (half ts t) (edits.AddInjection t.id l.id (pos (length l.buses + length ts)) t.item) ≡ Ok (translated (levels_only n (ls ++ record l { items = ts ++ t ∷ [] } ∷ [])))
+    item_step = ap (λ z. apply (half ts t) (edits.AddInjection t.id l.id (pos z) t.item)) (sym node_is) ∙ injection_step
