@@ -39,7 +39,7 @@ use Rattle.grid_configured.specs.Places.{Joint, Outlet, PlacedLevel, PlacesFit}
 use Rattle.grid_configured.specs.Levels.{bus_place, joint_of, item_outlet, line_outlets, outlets, placed_level, placed_levels}
 use Rattle.grid_configured.specs.Translation.{joint_breaker, breaker_id, outlet_breaker, bus_section, outlet_placed, outlets_at, translated_level, substation_id, translated_line, translated}
 use Rattle.grid_configured.proofs.Stacked.{Each, each_join, Lacks, Free, Keeps, At, at_changed, on, on_own, on_none, stack, free_switched, join_free, same_itself, same_back, empty_level, home_added, level_added, busbar_added, injection_added, switch_added}
-use Rattle.grid_configured.proofs.Growing.{Under, switch_more, placed_more, switch_fits, switch_under, terminal_fit, terminal_under, next_node, outlet_more, outlet_grown, joint_more, joint_grown, bus_more, bus_grown, placed_below, level_under}
+use Rattle.grid_configured.proofs.Enlarged.{Under, switch_more, placed_more, switch_fits, switch_under, terminal_fit, terminal_under, next_node, outlet_more, outlet_grown, joint_more, joint_grown, bus_more, bus_grown, placed_below, level_under}
 use Rattle.grid_configured.proofs.Tagged.{Unmarked, tagged, tagged_marked, plain_apart, breaker_tagged, home_tagged, PlainLevel, PlainNetwork, Fresh, join_parts, shaped, shaped_lines, translated_stack, free_plain, free_tagged}
 use Rattle.grid_configured.proofs.Checked.{right_first, right_under, not_refused, bus_there, fresh_bus, fresh_switch, fresh_item}
 use Rattle.grid_configured.proofs.Located.{is_marked}

@@ -313,7 +313,7 @@ level_stands earlier l h =
 
 -- ---- one level of an id
 
-times_levels : (q : List ℕ) (ls : List ConfiguredLevel) → times q (map (λ l. l.id) ls) ≤ times q (ids_of ls)
+pub times_levels : (q : List ℕ) (ls : List ConfiguredLevel) → times q (map (λ l. l.id) ls) ≤ times q (ids_of ls)
 unfolding level_ids
 times_levels q [] = omega arith
 times_levels q (l ∷ ls) =

@@ -222,7 +222,7 @@ pub translated_stack : (n : ConfiguredNetwork) → translated n ≡ stack n.id (
 unfolding translated stack placed_levels
 translated_stack n = ap (λ z. record { id = n.id; substations = z; lines = map (translated_line n) n.lines }) (homes_from n n.levels)
 
-line_ids_are : (n : ConfiguredNetwork) (lines : List ConfiguredLine) → map (λ (b : NamedBranch). b.id) (map (translated_line n) lines) ≡ map (λ (l : ConfiguredLine). l.id) lines
+pub line_ids_are : (n : ConfiguredNetwork) (lines : List ConfiguredLine) → map (λ (b : NamedBranch). b.id) (map (translated_line n) lines) ≡ map (λ (l : ConfiguredLine). l.id) lines
 unfolding translated_line
 line_ids_are n [] = refl
 line_ids_are n (l ∷ lines) = ap (λ z. l.id ∷ z) (line_ids_are n lines)

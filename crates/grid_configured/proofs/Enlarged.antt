@@ -134,7 +134,7 @@ terminal_fit v p under behind less =
     let all : length (with_node p.node (rising (named v))) ≤ max_nodes = few_below max_nodes (p.node ∷ named v) (and_from (nat_lt p.node max_nodes) _ (lt-ltb p.node max_nodes less) (named_below max_nodes v under)) in
     rw (node_inside p.node less, free_above p.node v.placed behind, le-ltb max_nodes (length (with_node p.node (rising (named v)))) all) (ap (λ z. Ok (record v { placed = z })) (placed_last p v.placed behind))
 
-below_more : (most : ℕ) (ps : List Placed) (p : Placed) → list_all (below most) (map (λ (x : Placed). x.node) ps) ≡ true → p.node < most → list_all (below most) (map (λ (x : Placed). x.node) (ps ++ p ∷ [])) ≡ true
+pub below_more : (most : ℕ) (ps : List Placed) (p : Placed) → list_all (below most) (map (λ (x : Placed). x.node) ps) ≡ true → p.node < most → list_all (below most) (map (λ (x : Placed). x.node) (ps ++ p ∷ [])) ≡ true
 below_more most [] p h less = and_from (nat_lt p.node most) true (lt-ltb p.node most less) refl
 below_more most (x ∷ ps) p h less =
     let parts = and_parts (nat_lt x.node most) (list_all (below most) (map (λ (x : Placed). x.node) ps)) h in
