@@ -624,3 +624,132 @@ module _ (n : ConfiguredNetwork) (line : ConfiguredLine) (right : line_check n.l
       line_added n.id line.id vs2 vs3 vs4 lines (record { level = a; node = pos node1 }) (record { level = b; node = pos node2 }) line_free
       (end_added n.id vs2 lines a (on b (switch_more s2) (on a (switch_more s1) (shape n level1))) at_third (placed_more p1) (keeps_placed p1) line.id 1 (pos node1) (terminal_fit (on b (switch_more s2) (on a (switch_more s1) (shape n level1))) p1 under_third behind_first high_placed))
       (end_added n.id vs3 lines b (on a (placed_more p1) (on b (switch_more s2) (on a (switch_more s1) (shape n level2)))) at_fourth (placed_more p2) (keeps_placed p2) line.id 2 (pos node2) (terminal_fit (on a (placed_more p1) (on b (switch_more s2) (on a (switch_more s1) (shape n level2)))) p2 under_fourth behind_second high_last))
+
+  -- ---- the levels with the line
+
+  abbrev more : ConfiguredNetwork
+  more = record n { lines = n.lines ++ line ∷ [] }
+
+  outlets_grown : (l : ConfiguredLevel) → outlets more l ≡ outlets n l ++ (end_outlets l line.id 1 line.end1 ++ end_outlets l line.id 2 line.end2)
+  unfolding outlets line_outlets
+  outlets_grown l =
+      ap (λ z. map (item_outlet l) l.items ++ z) (flat_map-append (line_outlets l) n.lines (line ∷ []) ∙ ap (λ z. flat_map (line_outlets l) n.lines ++ z) (append-nil (end_outlets l line.id 1 line.end1 ++ end_outlets l line.id 2 line.end2)))
+      ∙ sym (append_assoc (map (item_outlet l) l.items) (flat_map (line_outlets l) n.lines) (end_outlets l line.id 1 line.end1 ++ end_outlets l line.id 2 line.end2))
+
+  shape_grown : (l : ConfiguredLevel) → shape more l ≡ translated_level (record (placed_level n l) { outlets = outlets n l ++ (end_outlets l line.id 1 line.end1 ++ end_outlets l line.id 2 line.end2) })
+  unfolding placed_level
+  shape_grown l = ap (λ z. translated_level (record (placed_level n l) { outlets = z })) (outlets_grown l)
+
+  end_here : (l : ConfiguredLevel) (side : ℕ) (e : BusEnd) → same_id e.level l.id ≡ true → end_outlets l line.id side e ≡ record { terminal = record { equipment = line.id; side = side }; place = bus_place l.buses e.bus; connected = e.connected; stand = BranchEnd } ∷ []
+  unfolding end_outlets
+  end_here l side e h = ap (λ t. cond t (record { terminal = record { equipment = line.id; side = side }; place = bus_place l.buses e.bus; connected = e.connected; stand = BranchEnd } ∷ []) []) (same_back l.id e.level ∙ h)
+
+  end_away : (l : ConfiguredLevel) (side : ℕ) (e : BusEnd) → same_id e.level l.id ≡ false → end_outlets l line.id side e ≡ []
+  unfolding end_outlets
+  end_away l side e h = ap (λ t. cond t (record { terminal = record { equipment = line.id; side = side }; place = bus_place l.buses e.bus; connected = e.connected; stand = BranchEnd } ∷ []) []) (same_back l.id e.level ∙ h)
+
+  abbrev all_on : VoltageLevel → VoltageLevel
+  all_on v = on b (placed_more p2) (on a (placed_more p1) (on b (switch_more s2) (on a (switch_more s1) v)))
+
+  -- what a level's id says of the four changes
+  all_by : (v : VoltageLevel) (t u : Bool) → same_id a v.id ≡ t → same_id b v.id ≡ u
+      → all_on v ≡ cond u (placed_more p2 (cond t (placed_more p1 (switch_more s2 (switch_more s1 v))) (switch_more s2 v))) (cond t (placed_more p1 (switch_more s1 v)) v)
+  all_by v true true e f =
+      ap (λ z. on b (placed_more p2) (on a (placed_more p1) (on b (switch_more s2) z))) (on_own a (switch_more s1) v e)
+      ∙ ap (λ z. on b (placed_more p2) (on a (placed_more p1) z)) (on_own b (switch_more s2) (switch_more s1 v) f)
+      ∙ ap (on b (placed_more p2)) (on_own a (placed_more p1) (switch_more s2 (switch_more s1 v)) e)
+      ∙ on_own b (placed_more p2) (placed_more p1 (switch_more s2 (switch_more s1 v))) f
+  all_by v true false e f =
+      ap (λ z. on b (placed_more p2) (on a (placed_more p1) (on b (switch_more s2) z))) (on_own a (switch_more s1) v e)
+      ∙ ap (λ z. on b (placed_more p2) (on a (placed_more p1) z)) (on_other b (switch_more s2) (switch_more s1 v) f)
+      ∙ ap (on b (placed_more p2)) (on_own a (placed_more p1) (switch_more s1 v) e)
+      ∙ on_other b (placed_more p2) (placed_more p1 (switch_more s1 v)) f
+  all_by v false true e f =
+      ap (λ z. on b (placed_more p2) (on a (placed_more p1) (on b (switch_more s2) z))) (on_other a (switch_more s1) v e)
+      ∙ ap (λ z. on b (placed_more p2) (on a (placed_more p1) z)) (on_own b (switch_more s2) v f)
+      ∙ ap (on b (placed_more p2)) (on_other a (placed_more p1) (switch_more s2 v) e)
+      ∙ on_own b (placed_more p2) (switch_more s2 v) f
+  all_by v false false e f =
+      ap (λ z. on b (placed_more p2) (on a (placed_more p1) (on b (switch_more s2) z))) (on_other a (switch_more s1) v e)
+      ∙ ap (λ z. on b (placed_more p2) (on a (placed_more p1) z)) (on_other b (switch_more s2) v f)
+      ∙ ap (on b (placed_more p2)) (on_other a (placed_more p1) v e)
+      ∙ on_other b (placed_more p2) v f
+
+  abbrev Grows : ConfiguredLevel → Type 0
+  Grows l = all_on (shape n l) ≡ shape more l
+
+  grows_neither : (l : ConfiguredLevel) → same_id a l.id ≡ false → same_id b l.id ≡ false → Grows l
+  unfolding placed_level
+  grows_neither l e f =
+      all_by (shape n l) false false (ap (same_id a) (shape_id n l) ∙ e) (ap (same_id b) (shape_id n l) ∙ f)
+      ∙ sym (shape_grown l ∙ ap (λ z. translated_level (record (placed_level n l) { outlets = outlets n l ++ z })) (ap (λ z. z ++ end_outlets l line.id 2 line.end2) (end_away l 1 line.end1 e) ∙ end_away l 2 line.end2 f)
+      ∙ ap (λ z. translated_level (record (placed_level n l) { outlets = z })) (append-nil (outlets n l)))
+
+  grows_first : same_id b level1.id ≡ false → Grows level1
+  unfolding placed_level
+  grows_first f =
+      let e = found_own a level1 n.levels found1 in
+      all_by (shape n level1) true false (ap (same_id a) (shape_id n level1) ∙ e) (ap (same_id b) (shape_id n level1) ∙ f)
+      ∙ outlet_grown (placed_level n level1) outlet1
+      ∙ sym (shape_grown level1 ∙ ap (λ z. translated_level (record (placed_level n level1) { outlets = outlets n level1 ++ z })) (ap (λ z. z ++ end_outlets level1 line.id 2 line.end2) (end_here level1 1 line.end1 e) ∙ ap (λ z. outlet1 ∷ z) (end_away level1 2 line.end2 f)))
+
+  -- the second end's node, where its level is another one, and where it is the first end's
+  node2_other : same_id a level2.id ≡ false → node2 ≡ next_node (placed_level n level2)
+  node2_other e = let f : ◌≡◌ {A = ℕ} (cond (same_id a b) 1 0) 0 = ap (λ z. cond (same_id a z) 1 0) own2 ∙ ap (λ t. cond t 1 0) e in omega (arith, f)
+
+  grows_second : same_id a level2.id ≡ false → Grows level2
+  unfolding placed_level
+  grows_second e =
+      let f = found_own b level2 n.levels found2 in
+      all_by (shape n level2) false true (ap (same_id a) (shape_id n level2) ∙ e) (ap (same_id b) (shape_id n level2) ∙ f)
+      ∙ ap (λ z. placed_more (outlet_placed (z, outlet2)) (switch_more (outlet_breaker (z, outlet2)) (shape n level2))) (node2_other e)
+      ∙ outlet_grown (placed_level n level2) outlet2
+      ∙ sym (shape_grown level2 ∙ ap (λ z. translated_level (record (placed_level n level2) { outlets = outlets n level2 ++ z })) (ap (λ z. z ++ end_outlets level2 line.id 2 line.end2) (end_away level2 1 line.end1 e) ∙ end_here level2 2 line.end2 f))
+
+  grows_both : same_id b level1.id ≡ true → Grows level1
+  unfolding placed_level
+  grows_both f =
+      let e = found_own a level1 n.levels found1 in
+      let bs = (bytes_eq-Decides b level1.id).0 f in
+      let same : level2 ≡ level1 = some_same level2 level1 (sym found2 ∙ ap (λ z. find (λ (m : ConfiguredLevel). same_id z m.id) n.levels) (bs ∙ sym own1) ∙ found1) in
+      let at_one : same_id a b ≡ true = ap (same_id a) bs ∙ e in
+      let o2 : Outlet = record { terminal = record { equipment = line.id; side = 2 }; place = bus_place level1.buses line.end2.bus; connected = line.end2.connected; stand = BranchEnd } in
+      let same_outlet : outlet2 ≡ o2 = ap (λ (z : ConfiguredLevel). record { terminal = record { equipment = line.id; side = 2 }; place = bus_place z.buses line.end2.bus; connected = line.end2.connected; stand = BranchEnd }) same in
+      let pl = outlet_more outlet1 (placed_level n level1) in
+      let node_two : node2 ≡ next_node pl =
+          (let x = ap (λ z. next_node (placed_level n z)) same in let y : ◌≡◌ {A = ℕ} (cond (same_id a b) 1 0) 1 = ap (λ t. cond t 1 0) at_one in let z = length-append (placed_level n level1).outlets (outlet1 ∷ []) in omega (arith, x, y, z)) in
+      all_by (shape n level1) true true (ap (same_id a) (shape_id n level1) ∙ e) (ap (same_id b) (shape_id n level1) ∙ f)
+      ∙ ap (λ z. placed_more (outlet_placed (z, outlet2)) (switch_more (outlet_breaker (z, outlet2)) (placed_more p1 (switch_more s1 (shape n level1))))) node_two
+      ∙ ap (λ z. placed_more (outlet_placed (next_node pl, z)) (switch_more (outlet_breaker (next_node pl, z)) (placed_more p1 (switch_more s1 (shape n level1))))) same_outlet
+      ∙ ap (λ z. placed_more (outlet_placed (next_node pl, o2)) (switch_more (outlet_breaker (next_node pl, o2)) z)) (outlet_grown (placed_level n level1) outlet1)
+      ∙ outlet_grown pl o2
+      ∙ sym (shape_grown level1 ∙ ap (λ z. translated_level (record (placed_level n level1) { outlets = outlets n level1 ++ z })) (ap (λ z. z ++ end_outlets level1 line.id 2 line.end2) (end_here level1 1 line.end1 e) ∙ ap (λ z. outlet1 ∷ z) (end_here level1 2 line.end2 f))
+      ∙ ap (λ z. translated_level (record (placed_level n level1) { outlets = z })) (sym (append_assoc (outlets n level1) (outlet1 ∷ []) (o2 ∷ []))))
+
+  level_grows : (l : ConfiguredLevel) → (same_id a l.id ≡ true → l ≡ level1) → (same_id b l.id ≡ true → l ≡ level2) → Grows l
+  level_grows l one two = by (same_id a l.id) refl (same_id b l.id) refl
+    where
+      by : (t : Bool) → same_id a l.id ≡ t → (u : Bool) → same_id b l.id ≡ u → Grows l
+      by false e false f = grows_neither l e f
+      by true e false f = subst Grows (sym (one e)) (grows_first (ap (λ (z : ConfiguredLevel). same_id b z.id) (sym (one e)) ∙ f))
+      by false e true f = subst Grows (sym (two f)) (grows_second (ap (λ (z : ConfiguredLevel). same_id a z.id) (sym (two f)) ∙ e))
+      by true e true f = subst Grows (sym (one e)) (grows_both (ap (λ (z : ConfiguredLevel). same_id b z.id) (sym (one e)) ∙ f))
+
+  levels_grow : (ls : List ConfiguredLevel) → Only a level1 ls → Only b level2 ls → Each Grows ls
+  levels_grow [] one two = tt
+  levels_grow (l ∷ ls) one two = (level_grows l one.0 two.0, levels_grow ls one.1 two.1)
+
+  all_grown : vs4 ≡ shaped more
+  all_grown =
+      map_map (on b (placed_more p2)) (on a (placed_more p1)) vs2
+      ∙ map_map (λ v. on b (placed_more p2) (on a (placed_more p1) v)) (on b (switch_more s2)) vs1
+      ∙ map_map (λ v. on b (placed_more p2) (on a (placed_more p1) (on b (switch_more s2) v))) (on a (switch_more s1)) vs0
+      ∙ map_map all_on (shape n) n.levels
+      ∙ each_same (λ l. all_on (shape n l)) (shape more) n.levels (levels_grow n.levels only1 only2)
+      ∙ sym (shaped_is more)
+
+  pub line_placed : apply (stack n.id (map (on line.end2.level (switch_more (outlet_breaker (node2, outlet2)))) (map (on line.end1.level (switch_more (outlet_breaker (node1, outlet1)))) (map (shape n) n.levels))) lines)
+      (edits.AddBranch line.id (Line (record { level = line.end1.level; node = pos node1 }) (record { level = line.end2.level; node = pos node2 })))
+      ≡ Ok (stack n.id (shaped (record n { lines = n.lines ++ line ∷ [] })) (lines ++ record { id = line.id; shape = Line (record { level = line.end1.level; node = pos node1 }) (record { level = line.end2.level; node = pos node2 }) } ∷ []))
+  line_placed = ends_placed ∙ ap (λ z. Ok (stack n.id z (lines ++ record { id = line.id; shape = Line (record { level = a; node = pos node1 }) (record { level = b; node = pos node2 }) } ∷ []))) all_grown
+
