@@ -43,7 +43,7 @@ use Rattle.grid_configured.proofs.Nodes.{map_map}
 use Rattle.grid_configured.proofs.Checked.{right_first, right_under, not_refused, bus_there, fresh_line, times_levels}
 use Rattle.grid_configured.proofs.Stacked.{Each, each_map, each_same, Free, Keeps, At, at_changed, on, on_own, on_other, on_id, stack, free_switched, join_free, same_itself, same_back, switch_added, end_added, line_added}
 use Rattle.grid_configured.proofs.Enlarged.{Under, switch_more, placed_more, below, switch_fits, switch_under, terminal_fit, terminal_under, below_more, next_node, outlet_more, outlet_grown, placed_below, level_under}
-use Rattle.grid_configured.proofs.Tagged.{Unmarked, tagged, tagged_marked, plain_apart, breaker_tagged, PlainNetwork, Fresh, join_parts, shaped, shaped_lines, translated_stack, free_plain, free_tagged, line_ids_are}
+use Rattle.grid_configured.proofs.Tagged.{Unmarked, tagged, tagged_marked, plain_apart, breaker_tagged, PlainNetwork, Fresh, Other, outlets_other, join_parts, shaped, shaped_lines, translated_stack, free_plain, free_tagged, line_ids_are}
 use Rattle.grid_configured.proofs.Building.{TerminalRight, terminal_right}
 use Rattle.grid_configured.proofs.Located.{is_marked}
 
@@ -301,6 +301,41 @@ below_weaker low most (n ∷ ns) le h =
     let parts = and_parts (below low n) (list_all (below low) ns) h in
     let less : n < low = ltb-true n low parts.0 in
     and_from (below most n) (list_all (below most) ns) (lt-ltb n most (omega (arith, less, le))) (below_weaker low most ns le parts.1)
+
+-- ---- places of terminals
+
+position_behind : {X : Type 0} (p : X → Bool) (xs ys : List X) → list_any p xs ≡ false → position p (xs ++ ys) ≡ option_map (λ k. length xs + k) (position p ys)
+position_behind p [] ys none = by (position p ys)
+  where
+    by : (o : Option ℕ) → o ≡ option_map (λ k. 0 + k) o
+    by None = refl
+    by (Some k) = let e : k ≡ 0 + k = omega arith in ap Some e
+position_behind p (x ∷ xs) ys none =
+    let parts = or_parts (p x) (list_any p xs) none in
+    position-cons p x (xs ++ ys)
+    ∙ ap (λ t. cond t (Some 0) (option_map suc (position p (xs ++ ys)))) parts.0
+    ∙ ap (option_map suc) (position_behind p xs ys parts.1)
+    ∙ by (position p ys)
+  where
+    by : (o : Option ℕ) → option_map suc (option_map (λ k. length xs + k) o) ≡ option_map (λ k. suc (length xs) + k) o
+    by None = refl
+    by (Some k) = let e : suc (length xs + k) ≡ suc (length xs) + k = omega arith in ap Some e
+
+none_other : (id : List ℕ) (side : ℕ) (ts : List Outlet) → Each (Other id) ts → list_any (is_outlet id side) ts ≡ false
+unfolding is_outlet
+none_other id side [] h = refl
+none_other id side (t ∷ ts) h = ap (λ z. (z && eqb t.terminal.side side) || list_any (is_outlet id side) ts) h.0.0 ∙ none_other id side ts h.1
+
+find_placed : (n : ConfiguredNetwork) (id : List ℕ) (ls : List ConfiguredLevel) → find (λ (w : PlacedLevel). same_id id w.id) (map (placed_level n) ls) ≡ option_map (placed_level n) (find (λ (m : ConfiguredLevel). same_id id m.id) ls)
+unfolding placed_level
+find_placed n id [] = refl
+find_placed n id (m ∷ ls) =
+    ap (λ z. cond (same_id id m.id) (Some (placed_level n m)) z) (find_placed n id ls)
+    ∙ by (same_id id m.id)
+  where
+    by : (t : Bool) → cond t (Some (placed_level n m)) (option_map (placed_level n) (find (λ (m : ConfiguredLevel). same_id id m.id) ls)) ≡ option_map (placed_level n) (cond t (Some m) (find (λ (m : ConfiguredLevel). same_id id m.id) ls))
+    by true = refl
+    by false = refl
 
 -- ---- the steps of a line
 
@@ -753,3 +788,80 @@ module _ (n : ConfiguredNetwork) (line : ConfiguredLine) (right : line_check n.l
       ≡ Ok (stack n.id (shaped (record n { lines = n.lines ++ line ∷ [] })) (lines ++ record { id = line.id; shape = Line (record { level = line.end1.level; node = pos node1 }) (record { level = line.end2.level; node = pos node2 }) } ∷ []))
   line_placed = ends_placed ∙ ap (λ z. Ok (stack n.id z (lines ++ record { id = line.id; shape = Line (record { level = a; node = pos node1 }) (record { level = b; node = pos node2 }) } ∷ []))) all_grown
 
+
+  -- ---- the nodes of the ends, whatever lines follow
+
+  module _ (rest : List ConfiguredLine) where
+    abbrev whole : ConfiguredNetwork
+    whole = record n { lines = n.lines ++ line ∷ rest }
+
+    others_at : (l : ConfiguredLevel) (id : List ℕ) (side : ℕ) → find (λ (m : ConfiguredLevel). same_id id m.id) n.levels ≡ Some l → list_any (is_outlet line.id side) (outlets n l) ≡ false
+    others_at l id side found = none_other line.id side (outlets n l) (each_found (λ m. Each (Other line.id) (outlets n m)) (λ (m : ConfiguredLevel). same_id id m.id) n.levels l (outlets_other n line.id plain fresh) found)
+
+    abbrev behind : ConfiguredLevel → List Outlet
+    behind l = (end_outlets l line.id 1 line.end1 ++ end_outlets l line.id 2 line.end2) ++ flat_map (line_outlets l) rest
+
+    outlets_whole : (l : ConfiguredLevel) → outlets whole l ≡ outlets n l ++ behind l
+    unfolding outlets line_outlets
+    outlets_whole l =
+        ap (λ z. map (item_outlet l) l.items ++ z) (flat_map-append (line_outlets l) n.lines (line ∷ rest))
+        ∙ sym (append_assoc (map (item_outlet l) l.items) (flat_map (line_outlets l) n.lines) (behind l))
+
+    terminal_at : (l : ConfiguredLevel) (id : List ℕ) (side k : ℕ) → find (λ (m : ConfiguredLevel). same_id id m.id) n.levels ≡ Some l → position (is_outlet line.id side) (behind l) ≡ Some k
+        → node_in whole id line.id side ≡ next_node (placed_level n l) + k
+    unfolding node_in terminal_node placed_levels placed_level
+    terminal_at l id side k found at =
+        ap (λ z. elim z [ None ↦ 0 | Some l ↦ length l.buses + unwrap_or (position (is_outlet line.id side) l.outlets) 0 ]) (find_placed whole id n.levels ∙ ap (option_map (placed_level whole)) found)
+        ∙ ap (λ z. length l.buses + unwrap_or z 0)
+          (ap (position (is_outlet line.id side)) (outlets_whole l) ∙ position_behind (is_outlet line.id side) (outlets n l) (behind l) (others_at l id side found) ∙ ap (option_map (λ k. length (outlets n l) + k)) at)
+        ∙ omega arith
+
+    here_by : (side : ℕ) (t : Outlet) (ts : List Outlet) → is_outlet line.id side t ≡ true → position (is_outlet line.id side) (t ∷ ts) ≡ Some 0
+    here_by side t ts e = position-cons (is_outlet line.id side) t ts ∙ ap (λ z. cond z (Some 0) (option_map suc (position (is_outlet line.id side) ts))) e
+
+    next_by : (side k : ℕ) (t : Outlet) (ts : List Outlet) → is_outlet line.id side t ≡ false → position (is_outlet line.id side) ts ≡ Some k → position (is_outlet line.id side) (t ∷ ts) ≡ Some (suc k)
+    next_by side k t ts e f = position-cons (is_outlet line.id side) t ts ∙ ap (λ z. cond z (Some 0) (option_map suc (position (is_outlet line.id side) ts))) e ∙ ap (option_map suc) f
+
+    is_first : (place : ℕ) (connected : Bool) → is_outlet line.id 1 (record { terminal = record { equipment = line.id; side = 1 }; place = place; connected = connected; stand = BranchEnd }) ≡ true
+    unfolding is_outlet
+    is_first place connected = ap (λ t. t && eqb 1 1) (same_itself line.id) ∙ eq-eqb 1 1 refl
+
+    is_second : (place : ℕ) (connected : Bool) → is_outlet line.id 2 (record { terminal = record { equipment = line.id; side = 2 }; place = place; connected = connected; stand = BranchEnd }) ≡ true
+    unfolding is_outlet
+    is_second place connected = ap (λ t. t && eqb 2 2) (same_itself line.id) ∙ eq-eqb 2 2 refl
+
+    not_second : (place : ℕ) (connected : Bool) → is_outlet line.id 2 (record { terminal = record { equipment = line.id; side = 1 }; place = place; connected = connected; stand = BranchEnd }) ≡ false
+    unfolding is_outlet
+    not_second place connected = ap (λ t. t && eqb 1 2) (same_itself line.id)
+
+    first_at : node_in whole a line.id 1 ≡ node1
+    first_at =
+        let e = found_own a level1 n.levels found1 in
+        terminal_at level1 a 1 0 found1
+        (ap (λ z. position (is_outlet line.id 1) ((z ++ end_outlets level1 line.id 2 line.end2) ++ flat_map (line_outlets level1) rest)) (end_here level1 1 line.end1 e)
+        ∙ here_by 1 outlet1 (end_outlets level1 line.id 2 line.end2 ++ flat_map (line_outlets level1) rest) (is_first (bus_place level1.buses line.end1.bus) line.end1.connected))
+        ∙ omega arith
+
+    second_by : (t : Bool) → same_id a level2.id ≡ t → position (is_outlet line.id 2) (behind level2) ≡ Some (cond t 1 0)
+    second_by true e =
+        let f = found_own b level2 n.levels found2 in
+        ap (λ z. position (is_outlet line.id 2) ((z ++ end_outlets level2 line.id 2 line.end2) ++ flat_map (line_outlets level2) rest)) (end_here level2 1 line.end1 e)
+        ∙ ap (λ z. position (is_outlet line.id 2) ((record { terminal = record { equipment = line.id; side = 1 }; place = bus_place level2.buses line.end1.bus; connected = line.end1.connected; stand = BranchEnd } ∷ z) ++ flat_map (line_outlets level2) rest)) (end_here level2 2 line.end2 f)
+        ∙ next_by 2 0 (record { terminal = record { equipment = line.id; side = 1 }; place = bus_place level2.buses line.end1.bus; connected = line.end1.connected; stand = BranchEnd }) (outlet2 ∷ flat_map (line_outlets level2) rest) (not_second (bus_place level2.buses line.end1.bus) line.end1.connected)
+          (here_by 2 outlet2 (flat_map (line_outlets level2) rest) (is_second (bus_place level2.buses line.end2.bus) line.end2.connected))
+    second_by false e =
+        let f = found_own b level2 n.levels found2 in
+        ap (λ z. position (is_outlet line.id 2) ((z ++ end_outlets level2 line.id 2 line.end2) ++ flat_map (line_outlets level2) rest)) (end_away level2 1 line.end1 e)
+        ∙ ap (λ z. position (is_outlet line.id 2) (z ++ flat_map (line_outlets level2) rest)) (end_here level2 2 line.end2 f)
+        ∙ here_by 2 outlet2 (flat_map (line_outlets level2) rest) (is_second (bus_place level2.buses line.end2.bus) line.end2.connected)
+
+    second_at : node_in whole b line.id 2 ≡ node2
+    second_at =
+        terminal_at level2 b 2 (cond (same_id a level2.id) 1 0) found2 (second_by (same_id a level2.id) refl)
+        ∙ ap (λ z. next_node (placed_level n level2) + cond (same_id a z) 1 0) (sym own2)
+
+    pub line_named : translated_line (record n { lines = n.lines ++ line ∷ rest }) line ≡ record { id = line.id; shape = Line (record { level = line.end1.level; node = pos node1 }) (record { level = line.end2.level; node = pos node2 }) }
+    unfolding translated_line translated_end
+    line_named =
+        ap (λ z. record { id = line.id; shape = Line (record { level = a; node = pos z }) (record { level = b; node = pos (node_in whole b line.id 2) }) }) first_at
+        ∙ ap (λ z. record { id = line.id; shape = Line (record { level = a; node = pos node1 }) (record { level = b; node = pos z }) }) second_at

@@ -113,13 +113,13 @@ fresh_in l id h =
     let three = join_parts (map (λ (s : BusSwitch). s.id) l.switches) (map (λ (i : Item). i.id) l.items) id two.1 in
     record { own = one.0; buses = two.0; switches = three.0; items = three.1 }
 
-fresh_each : (ls : List ConfiguredLevel) (id : List ℕ) → has_id (ids_of ls) id ≡ false → Each (λ l. FreshIn l id) ls
+pub fresh_each : (ls : List ConfiguredLevel) (id : List ℕ) → has_id (ids_of ls) id ≡ false → Each (λ l. FreshIn l id) ls
 fresh_each [] id h = tt
 fresh_each (l ∷ ls) id h = let parts = join_parts (level_ids l) (ids_of ls) id h in (fresh_in l id parts.0, fresh_each ls id parts.1)
 
 -- ---- terminals of other equipment
 
-abbrev Other : List ℕ → Outlet → Type 0
+abbrev pub Other : List ℕ → Outlet → Type 0
 Other id t = (same_id id t.terminal.equipment ≡ false) × Unmarked t.terminal.equipment
 
 items_other : (l : ConfiguredLevel) (id : List ℕ) (items : List Item) → has_id (map (λ (i : Item). i.id) items) id ≡ false → Each Unmarked (map (λ (i : Item). i.id) items) → Each (Other id) (map (item_outlet l) items)
@@ -254,3 +254,15 @@ free_tagged n id text plain p fresh = record {
   each = each_tagged n n.levels id text p fresh.lines plain.lines plain.levels (fresh_each n.levels id fresh.levels);
   branches = ap (λ z. has_id z (tagged id text)) (line_ids_are n n.lines) ∙ none_marked (tagged id text) (map (λ (l : ConfiguredLine). l.id) n.lines) (tagged_marked id text) plain.lines;
 }
+
+outlets_from : (n : ConfiguredNetwork) (ls : List ConfiguredLevel) (id : List ℕ) → has_id (map (λ (l : ConfiguredLine). l.id) n.lines) id ≡ false → Each Unmarked (map (λ (l : ConfiguredLine). l.id) n.lines)
+    → Each PlainLevel ls → Each (λ l. FreshIn l id) ls → Each (λ l. Each (Other id) (outlets n l)) ls
+unfolding outlets
+outlets_from n [] id none lines plain h = tt
+outlets_from n (l ∷ ls) id none lines plain h =
+    (each_join (Other id) (map (item_outlet l) l.items) (flat_map (line_outlets l) n.lines) (items_other l id l.items h.0.items plain.0.items) (lines_other l id n.lines none lines),
+    outlets_from n ls id none lines plain.1 h.1)
+
+-- no terminal is of a new id
+pub outlets_other : (n : ConfiguredNetwork) (id : List ℕ) → PlainNetwork n → Fresh n id → Each (λ l. Each (Other id) (outlets n l)) n.levels
+outlets_other n id plain fresh = outlets_from n n.levels id fresh.lines plain.lines plain.levels (fresh_each n.levels id fresh.levels)
