@@ -161,21 +161,21 @@ level_few earlier l h =
     none_of None e = refl
     none_of (Some f) e = absurd (let k : Err (record_fault f) ≡ Ok tt = e in cc)
 
-bus_few : (ids earlier : List (List ℕ)) (bus : List ℕ) → bus_check ids earlier bus ≡ Ok tt → length earlier < max_nodes
+pub bus_few : (ids earlier : List (List ℕ)) (bus : List ℕ) → bus_check ids earlier bus ≡ Ok tt → length earlier < max_nodes
 unfolding bus_check bus_reasons
 bus_few ids earlier bus h =
     let one = right_first (id_reasons (has_id (ids ++ earlier) bus)) _ tt h in
     leb-false max_nodes (length earlier) (not_refused (nat_le max_nodes (length earlier)) _ _ one.2)
 
 -- what is right with a switch
-record SwitchRight (buses : List (List ℕ)) (edges switches : ℕ) (s : BusSwitch) : Type 0 where
-  one : has_id buses s.bus1 ≡ true
-  two : has_id buses s.bus2 ≡ true
-  apart : same_id s.bus1 s.bus2 ≡ false
-  edges_few : edges < max_edges
-  switches_few : switches < max_switches
+pub record SwitchRight (buses : List (List ℕ)) (edges switches : ℕ) (s : BusSwitch) : Type 0 where
+  pub one : has_id buses s.bus1 ≡ true
+  pub two : has_id buses s.bus2 ≡ true
+  pub apart : same_id s.bus1 s.bus2 ≡ false
+  pub edges_few : edges < max_edges
+  pub switches_few : switches < max_switches
 
-switch_right : (ids buses : List (List ℕ)) (count : ℕ) (earlier : List BusSwitch) (s : BusSwitch) → switch_check ids buses count earlier s ≡ Ok tt → SwitchRight buses (length earlier) (count + length earlier) s
+pub switch_right : (ids buses : List (List ℕ)) (count : ℕ) (earlier : List BusSwitch) (s : BusSwitch) → switch_check ids buses count earlier s ≡ Ok tt → SwitchRight buses (length earlier) (count + length earlier) s
 unfolding switch_check switch_reasons buses_reasons
 switch_right ids buses count earlier s h =
     let there = has_id buses s.bus1 && has_id buses s.bus2 in
@@ -210,12 +210,12 @@ terminal_right nodes edges switches h =
     }
 
 -- what is right with an injection
-record ItemRight (buses : List (List ℕ)) (nodes edges switches : ℕ) (t : Item) : Type 0 where
-  there : has_id buses t.bus ≡ true
-  fault : injection_fault t.item ≡ None
-  few : TerminalRight nodes edges switches
+pub record ItemRight (buses : List (List ℕ)) (nodes edges switches : ℕ) (t : Item) : Type 0 where
+  pub there : has_id buses t.bus ≡ true
+  pub fault : injection_fault t.item ≡ None
+  pub few : TerminalRight nodes edges switches
 
-item_right : (ids buses : List (List ℕ)) (nodes edges count : ℕ) (earlier : List Item) (t : Item) → item_check ids buses nodes edges count earlier t ≡ Ok tt → ItemRight buses (nodes + length earlier) (edges + length earlier) (count + length earlier) t
+pub item_right : (ids buses : List (List ℕ)) (nodes edges count : ℕ) (earlier : List Item) (t : Item) → item_check ids buses nodes edges count earlier t ≡ Ok tt → ItemRight buses (nodes + length earlier) (edges + length earlier) (count + length earlier) t
 unfolding item_check item_reasons
 item_right ids buses nodes edges count earlier t h =
     let one = right_first (id_reasons _) _ tt h in
