@@ -216,7 +216,7 @@ times_spread q (l ∷ ls) =
     let e = times-append q (map (λ s. s.id) l.switches) (map (λ t. t.id) l.items) in
     omega (arith, rest, a, b, c, d, e)
 
-absent_by : (id : List ℕ) (ids : List (List ℕ)) → times id ids ≡ 0 → has_id ids id ≡ false
+pub absent_by : (id : List ℕ) (ids : List (List ℕ)) → times id ids ≡ 0 → has_id ids id ≡ false
 absent_by id ids none = false_from_ne_true (has_id ids id) (λ h. let some = there id ids h in omega (arith, some, none))
 
 -- no injection and no line has the id of a bus

@@ -121,7 +121,7 @@ found_own id l (m ∷ ls) h = by (found_own id l ls) (same_id id m.id) refl h
     by again true e f = ap (λ (z : ConfiguredLevel). same_id id z.id) (sym (some_same m l f)) ∙ e
     by again false e f = again f
 
-find_shape : (n : ConfiguredNetwork) (id : List ℕ) (ls : List ConfiguredLevel) → find (λ (w : VoltageLevel). same_id id w.id) (map (shape n) ls) ≡ option_map (shape n) (find (λ (m : ConfiguredLevel). same_id id m.id) ls)
+pub find_shape : (n : ConfiguredNetwork) (id : List ℕ) (ls : List ConfiguredLevel) → find (λ (w : VoltageLevel). same_id id w.id) (map (shape n) ls) ≡ option_map (shape n) (find (λ (m : ConfiguredLevel). same_id id m.id) ls)
 find_shape n id [] = refl
 find_shape n id (m ∷ ls) =
     ap (λ z. cond (same_id id z) (Some (shape n m)) (find (λ (w : VoltageLevel). same_id id w.id) (map (shape n) ls))) (shape_id n m)
@@ -279,7 +279,7 @@ on_placed id s v = by (same_id id v.id)
     by true = refl
     by false = refl
 
-each_found : {X : Type 0} (P : X → Type 0) (p : X → Bool) (xs : List X) (x : X) → Each P xs → find p xs ≡ Some x → P x
+pub each_found : {X : Type 0} (P : X → Type 0) (p : X → Bool) (xs : List X) (x : X) → Each P xs → find p xs ≡ Some x → P x
 each_found P p [] x h f = absurd (some_none x f)
 each_found {X} P p (y ∷ xs) x h f = by (each_found P p xs x h.1) (p y) f
   where
@@ -321,7 +321,7 @@ position_behind p (x ∷ xs) ys none =
     by None = refl
     by (Some k) = let e : suc (length xs + k) ≡ suc (length xs) + k = omega arith in ap Some e
 
-none_other : (id : List ℕ) (side : ℕ) (ts : List Outlet) → Each (Other id) ts → list_any (is_outlet id side) ts ≡ false
+pub none_other : (id : List ℕ) (side : ℕ) (ts : List Outlet) → Each (Other id) ts → list_any (is_outlet id side) ts ≡ false
 unfolding is_outlet
 none_other id side [] h = refl
 none_other id side (t ∷ ts) h = ap (λ z. (z && eqb t.terminal.side side) || list_any (is_outlet id side) ts) h.0.0 ∙ none_other id side ts h.1

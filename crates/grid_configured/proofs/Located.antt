@@ -223,7 +223,7 @@ sides_found network id none =
 unfoldable pub placed_test : List ℕ → ℕ → Placed → Bool
 placed_test id side p = same_id id p.terminal.equipment && eqb p.terminal.side side
 
-found_bus : (id : List ℕ) (side at : ℕ) (buses : List (List ℕ)) → has_id buses id ≡ false → find (placed_test id side) (map bus_section (enumerate_from at buses)) ≡ None
+pub found_bus : (id : List ℕ) (side at : ℕ) (buses : List (List ℕ)) → has_id buses id ≡ false → find (placed_test id side) (map bus_section (enumerate_from at buses)) ≡ None
 unfolding placed_test bus_section has_id
 found_bus id side at [] none = refl
 found_bus id side at (b ∷ buses) none =
@@ -248,7 +248,7 @@ found_outlet id side at (t ∷ ts) =
     by true rest = let e : at ≡ at + 0 = omega arith in ap Some e
     by false rest = rest ∙ moved_on at (position (λ (t : Outlet). same_id id t.terminal.equipment && eqb t.terminal.side side) ts)
 
-none_or : (o : Option Placed) → option_or None o ≡ o
+pub none_or : (o : Option Placed) → option_or None o ≡ o
 none_or None = refl
 none_or (Some p) = refl
 

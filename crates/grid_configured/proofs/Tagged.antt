@@ -105,7 +105,7 @@ pub record FreshIn (l : ConfiguredLevel) (id : List ℕ) : Type 0 where
 pub join_parts : (xs ys : List (List ℕ)) (id : List ℕ) → has_id (xs ++ ys) id ≡ false → (has_id xs id ≡ false) × (has_id ys id ≡ false)
 join_parts xs ys id h = or_parts (has_id xs id) (has_id ys id) (sym (has_join xs ys id) ∙ h)
 
-fresh_in : (l : ConfiguredLevel) (id : List ℕ) → has_id (level_ids l) id ≡ false → FreshIn l id
+pub fresh_in : (l : ConfiguredLevel) (id : List ℕ) → has_id (level_ids l) id ≡ false → FreshIn l id
 unfolding level_ids has_id
 fresh_in l id h =
     let one = or_parts (same_id id l.id) _ h in
@@ -122,7 +122,7 @@ fresh_each (l ∷ ls) id h = let parts = join_parts (level_ids l) (ids_of ls) id
 abbrev pub Other : List ℕ → Outlet → Type 0
 Other id t = (same_id id t.terminal.equipment ≡ false) × Unmarked t.terminal.equipment
 
-items_other : (l : ConfiguredLevel) (id : List ℕ) (items : List Item) → has_id (map (λ (i : Item). i.id) items) id ≡ false → Each Unmarked (map (λ (i : Item). i.id) items) → Each (Other id) (map (item_outlet l) items)
+pub items_other : (l : ConfiguredLevel) (id : List ℕ) (items : List Item) → has_id (map (λ (i : Item). i.id) items) id ≡ false → Each Unmarked (map (λ (i : Item). i.id) items) → Each (Other id) (map (item_outlet l) items)
 unfolding has_id item_outlet
 items_other l id [] h p = tt
 items_other l id (i ∷ items) h p = let parts = or_parts (same_id id i.id) (has_id (map (λ (i : Item). i.id) items) id) h in ((parts.0, p.0), items_other l id items parts.1 p.1)
@@ -135,7 +135,7 @@ ends_other l id line side end h p = by (same_id l.id end.level)
     by true = ((h, p), tt)
     by false = tt
 
-lines_other : (l : ConfiguredLevel) (id : List ℕ) (lines : List ConfiguredLine) → has_id (map (λ (l : ConfiguredLine). l.id) lines) id ≡ false → Each Unmarked (map (λ (l : ConfiguredLine). l.id) lines) → Each (Other id) (flat_map (line_outlets l) lines)
+pub lines_other : (l : ConfiguredLevel) (id : List ℕ) (lines : List ConfiguredLine) → has_id (map (λ (l : ConfiguredLine). l.id) lines) id ≡ false → Each Unmarked (map (λ (l : ConfiguredLine). l.id) lines) → Each (Other id) (flat_map (line_outlets l) lines)
 unfolding has_id line_outlets
 lines_other l id [] h p = tt
 lines_other l id (line ∷ lines) h p =
