@@ -77,7 +77,7 @@ each_get P [] k x h e = absurd (some_none x e)
 each_get P (y ∷ xs) zero x h e = subst P (some_same y x e) h.0
 each_get P (y ∷ xs) (suc k) x h e = each_get P xs k x h.1 e
 
-take_ids : {X : Type 0} (key : X → List ℕ) (xs : List X) (k : ℕ) → map key (take k xs) ≡ take k (map key xs)
+pub take_ids : {X : Type 0} (key : X → List ℕ) (xs : List X) (k : ℕ) → map key (take k xs) ≡ take k (map key xs)
 take_ids key [] zero = refl
 take_ids key [] (suc k) = refl
 take_ids key (x ∷ xs) zero = refl
@@ -162,7 +162,7 @@ pub record LevelAt (n : ConfiguredNetwork) (k : ℕ) (l : ConfiguredLevel) : Typ
 pub level_of : (n : ConfiguredNetwork) (k : ℕ) (l : ConfiguredLevel) → IsTranslatable n → slice_get n.levels k ≡ Some l → LevelAt n k l
 level_of n k l h at = record { right = network_right n h.1; plain = plain_network n h.0; at = at }
 
-part_is : (part : ConfiguredLevel → ConfiguredLevel) (n : ConfiguredNetwork) (k : ℕ) (l : ConfiguredLevel) → slice_get n.levels k ≡ Some l → with_part part n k ≡ translated (levels_only n (take k n.levels ++ part l ∷ []))
+pub part_is : (part : ConfiguredLevel → ConfiguredLevel) (n : ConfiguredNetwork) (k : ℕ) (l : ConfiguredLevel) → slice_get n.levels k ≡ Some l → with_part part n k ≡ translated (levels_only n (take k n.levels ++ part l ∷ []))
 unfolding with_part
 part_is part n k l at = ap (λ z. elim z [ None ↦ translated (first_levels n k) | Some level ↦ translated (levels_only n (take k n.levels ++ part level ∷ [])) ]) at
 
@@ -173,16 +173,16 @@ module _ (n : ConfiguredNetwork) (k : ℕ) (l : ConfiguredLevel) (h : LevelAt n 
   right_here : level_check (take k n.levels) l ≡ Ok tt
   right_here = check_at level_check [] 0 n.levels k l h.right.levels h.at
 
-  level_is : LevelRight (take k n.levels) l
+  pub level_is : LevelRight (take k n.levels) l
   level_is = level_right (take k n.levels) l right_here
 
-  parts : PartsRight (ids_of (take k n.levels) ++ l.id ∷ []) (checks.switch_total (take k n.levels)) l
+  pub parts : PartsRight (ids_of (take k n.levels) ++ l.id ∷ []) (checks.switch_total (take k n.levels)) l
   parts = level_is.parts
 
-  plain_before : Each PlainLevel (take k n.levels)
+  pub plain_before : Each PlainLevel (take k n.levels)
   plain_before = each_take PlainLevel n.levels k h.plain.levels
 
-  plain_here : PlainLevel l
+  pub plain_here : PlainLevel l
   plain_here = each_get PlainLevel n.levels k l h.plain.levels h.at
 
   pub home_law : apply (translated (first_levels n k)) (edits.AddSubstation (substation_id l.id)) ≡ Ok (with_bare (substation_id l.id) (translated (first_levels n k)))

@@ -342,7 +342,7 @@ find_placed n id (m ∷ ls) =
 module _ (n : ConfiguredNetwork) (line : ConfiguredLine) (right : line_check n.levels n.lines line ≡ Ok tt) (plain : PlainNetwork n) (marked : Unmarked line.id)
     (once : (q : List ℕ) → times q (map (λ (l : ConfiguredLevel). l.id) n.levels) ≤ 1) (fits : Each (λ l. PlacesFit (placed_level n l)) n.levels)
     (lines : List NamedBranch) (named : map (λ (b : NamedBranch). b.id) lines ≡ map (λ (l : ConfiguredLine). l.id) n.lines) where
-  r : LineRight n.levels n.lines line
+  pub r : LineRight n.levels n.lines line
   r = line_right n.levels n.lines line right
 
   abbrev a : List ℕ
@@ -358,11 +358,11 @@ module _ (n : ConfiguredNetwork) (line : ConfiguredLine) (right : line_check n.l
   pub level2 : ConfiguredLevel
   level2 = r.second.level
 
-  found1 : find (λ (m : ConfiguredLevel). same_id a m.id) n.levels ≡ Some level1
+  pub found1 : find (λ (m : ConfiguredLevel). same_id a m.id) n.levels ≡ Some level1
   unfolding level_of level1
   found1 = r.first.found
 
-  found2 : find (λ (m : ConfiguredLevel). same_id b m.id) n.levels ≡ Some level2
+  pub found2 : find (λ (m : ConfiguredLevel). same_id b m.id) n.levels ≡ Some level2
   unfolding level_of level2
   found2 = r.second.found
 
@@ -378,10 +378,10 @@ module _ (n : ConfiguredNetwork) (line : ConfiguredLine) (right : line_check n.l
   own2 : b ≡ level2.id
   own2 = (bytes_eq-Decides b level2.id).0 (found_own b level2 n.levels found2)
 
-  fit1 : PlacesFit (placed_level n level1)
+  pub fit1 : PlacesFit (placed_level n level1)
   fit1 = each_found (λ l. PlacesFit (placed_level n l)) (λ (m : ConfiguredLevel). same_id a m.id) n.levels level1 fits found1
 
-  fit2 : PlacesFit (placed_level n level2)
+  pub fit2 : PlacesFit (placed_level n level2)
   fit2 = each_found (λ l. PlacesFit (placed_level n l)) (λ (m : ConfiguredLevel). same_id b m.id) n.levels level2 fits found2
 
   -- the nodes of the two ends

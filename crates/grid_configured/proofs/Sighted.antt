@@ -99,7 +99,7 @@ buses_same : (n : ConfiguredNetwork) (l : ConfiguredLevel) → (placed_level n l
 unfolding placed_level
 buses_same n l = refl
 
-times_level : (id : List ℕ) (l : ConfiguredLevel) → times id (level_ids l) ≡ cond (same_id id l.id) 1 0 + (times id l.buses + (times id (map (λ (s : BusSwitch). s.id) l.switches) + times id (map (λ (t : Item). t.id) l.items)))
+pub times_level : (id : List ℕ) (l : ConfiguredLevel) → times id (level_ids l) ≡ cond (same_id id l.id) 1 0 + (times id l.buses + (times id (map (λ (s : BusSwitch). s.id) l.switches) + times id (map (λ (t : Item). t.id) l.items)))
 unfolding level_ids
 times_level id l =
     let a = times-append id l.buses (map (λ (s : BusSwitch). s.id) l.switches ++ map (λ (t : Item). t.id) l.items) in
