@@ -169,6 +169,32 @@ pub record LineAt (n : ConfiguredNetwork) (i : ℕ) (line : ConfiguredLine) : Ty
 pub line_of : (n : ConfiguredNetwork) (i : ℕ) (line : ConfiguredLine) → IsTranslatable n → slice_get n.lines i ≡ Some line → LineAt n i line
 line_of n i line h at = record { right = network_right n h.1; plain = plain_network n h.0; at = at }
 
+find_place : (test : ConfiguredLevel → Bool) (ls : List ConfiguredLevel) (l : ConfiguredLevel) → find test ls ≡ Some l → (k : ℕ) × (slice_get ls k ≡ Some l)
+find_place test [] l h = absurd (some_none l h)
+find_place test (m ∷ ls) l h = by (find_place test ls l) (test m) h
+  where
+    by : (find test ls ≡ Some l → (k : ℕ) × (slice_get ls k ≡ Some l)) → (t : Bool) → cond t (Some m) (find test ls) ≡ Some l → (k : ℕ) × (slice_get (m ∷ ls) k ≡ Some l)
+    by again true e = (0, e)
+    by again false e = let r = again e in (suc r.0, r.1)
+
+-- what the edits of a line make, one after the other, and where its nodes come from
+pub record LineSteps (n : ConfiguredNetwork) (i : ℕ) (line : ConfiguredLine) : Type 0 where
+  pub place1 : ℕ
+  pub place2 : ℕ
+  pub home1 : ℕ
+  pub home2 : ℕ
+  pub level1 : VoltageLevel
+  pub level2 : VoltageLevel
+  pub between1 : Network
+  pub between2 : Network
+  pub site1 : sites.site (with_lines n i) line.end1.bus 1 ≡ Some (home1, place1)
+  pub site2 : sites.site (with_lines n i) line.end2.bus 1 ≡ Some (home2, place2)
+  pub named1 : level_named (with_lines n i) line.end1.level ≡ Some level1
+  pub named2 : level_named (with_lines n i) line.end2.level ≡ Some level2
+  pub first : apply (with_lines n i) (edits.AddSwitch (breaker_id (record { equipment = line.id; side = 1 })) line.end1.level Breaker (pos place1) (pos (length (nodes level1))) (not line.end1.connected) false false) ≡ Ok between1
+  pub second : apply between1 (edits.AddSwitch (breaker_id (record { equipment = line.id; side = 2 })) line.end2.level Breaker (pos place2) (pos (length (nodes level2) + cond (same_id line.end1.level line.end2.level) 1 0)) (not line.end2.connected) false false) ≡ Ok between2
+  pub third : apply between2 (edits.AddBranch line.id (Line (record { level = line.end1.level; node = pos (length (nodes level1)) }) (record { level = line.end2.level; node = pos (length (nodes level2) + cond (same_id line.end1.level line.end2.level) 1 0) }))) ≡ Ok (with_lines n (suc i))
+
 -- the network before the line, and what is known of it
 module _ (n : ConfiguredNetwork) (i : ℕ) (line : ConfiguredLine) (h : LineAt n i line) where
   abbrev before : ConfiguredNetwork
@@ -206,3 +232,106 @@ module _ (n : ConfiguredNetwork) (i : ℕ) (line : ConfiguredLine) (h : LineAt n
   lines_stack : with_lines n i ≡ stack n.id (map (shape before) n.levels) drawn
   unfolding with_lines stack
   lines_stack = ap (λ (z : Network). record z { lines = drawn }) (translated_stack before) ∙ ap (λ z. stack n.id z drawn) (shaped_is before)
+
+  levels_are : levels (with_lines n i) ≡ shaped before
+  levels_are = ap levels lines_stack ∙ levels_stack n.id (map (shape before) n.levels) drawn ∙ sym (shaped_is before)
+
+  site_of : (id bus : List ℕ) (l : ConfiguredLevel) → find (λ (m : ConfiguredLevel). same_id id m.id) n.levels ≡ Some l → has_id l.buses bus ≡ true → (k : ℕ) × (sites.site (with_lines n i) bus 1 ≡ Some (k, bus_place l.buses bus))
+  site_of id bus l found has =
+      let at = find_place (λ (m : ConfiguredLevel). same_id id m.id) n.levels l found in
+      let most = (network_once before before_right).most bus in
+      let all = times-append bus (ids_of n.levels) (map (λ l. l.id) (take i n.lines)) in
+      let first = times_first bus n.levels at.0 l at.1 in
+      let own = sighted.times_level bus l in
+      let some = there bus l.buses has in
+      let lines = absent_by bus (map (λ l. l.id) (take i n.lines)) (omega (arith, most, all, first, own, some)) in
+      (at.0, bus_site before before_plain bus lines (with_lines n i) at.0 l levels_are (omega (arith, most, all)) at.1 has)
+
+  abbrev one : ConfiguredLevel
+  one = lining.level1 before line line_right before_plain line_marked levels_once before_fits drawn drawn_ids
+
+  abbrev two : ConfiguredLevel
+  two = lining.level2 before line line_right before_plain line_marked levels_once before_fits drawn drawn_ids
+
+  found_one : find (λ (m : ConfiguredLevel). same_id line.end1.level m.id) n.levels ≡ Some one
+  found_one = lining.found1 before line line_right before_plain line_marked levels_once before_fits drawn drawn_ids
+
+  found_two : find (λ (m : ConfiguredLevel). same_id line.end2.level m.id) n.levels ≡ Some two
+  found_two = lining.found2 before line line_right before_plain line_marked levels_once before_fits drawn drawn_ids
+
+  count_one : length (nodes (shape before one)) ≡ next_node (placed_level before one)
+  count_one = nodes_counted before one (lining.fit1 before line line_right before_plain line_marked levels_once before_fits drawn drawn_ids)
+
+  count_two : length (nodes (shape before two)) ≡ next_node (placed_level before two)
+  count_two = nodes_counted before two (lining.fit2 before line line_right before_plain line_marked levels_once before_fits drawn drawn_ids)
+
+  abbrev more : ℕ
+  more = cond (same_id line.end1.level line.end2.level) 1 0
+
+  -- the breaker of the first end, then that of the second too
+  first_done : Network
+  first_done =
+      stack n.id (map (on line.end1.level (switch_more (outlet_breaker (lining.node1 before line line_right before_plain line_marked levels_once before_fits drawn drawn_ids, lining.outlet1 before line line_right before_plain line_marked levels_once before_fits drawn drawn_ids)))) (map (shape before) n.levels)) drawn
+
+  second_done : Network
+  second_done =
+      stack n.id (map (on line.end2.level (switch_more (outlet_breaker (lining.node2 before line line_right before_plain line_marked levels_once before_fits drawn drawn_ids, lining.outlet2 before line line_right before_plain line_marked levels_once before_fits drawn drawn_ids))))
+      (map (on line.end1.level (switch_more (outlet_breaker (lining.node1 before line line_right before_plain line_marked levels_once before_fits drawn drawn_ids, lining.outlet1 before line line_right before_plain line_marked levels_once before_fits drawn drawn_ids)))) (map (shape before) n.levels))) drawn
+
+  first_law : apply (with_lines n i) (edits.AddSwitch (breaker_id (record { equipment = line.id; side = 1 })) line.end1.level Breaker (pos (bus_place one.buses line.end1.bus)) (pos (length (nodes (shape before one)))) (not line.end1.connected) false false) ≡ Ok first_done
+  unfolding first_done
+  first_law =
+      ap (λ z. apply z (edits.AddSwitch (breaker_id (record { equipment = line.id; side = 1 })) line.end1.level Breaker (pos (bus_place one.buses line.end1.bus)) (pos (length (nodes (shape before one)))) (not line.end1.connected) false false)) lines_stack
+      ∙ ap (λ z. apply (stack n.id (map (shape before) n.levels) drawn) (edits.AddSwitch (breaker_id (record { equipment = line.id; side = 1 })) line.end1.level Breaker (pos (bus_place one.buses line.end1.bus)) (pos z) (not line.end1.connected) false false)) count_one
+      ∙ lining.first_breaker before line line_right before_plain line_marked levels_once before_fits drawn drawn_ids
+
+  second_law : apply first_done (edits.AddSwitch (breaker_id (record { equipment = line.id; side = 2 })) line.end2.level Breaker (pos (bus_place two.buses line.end2.bus)) (pos (length (nodes (shape before two)) + more)) (not line.end2.connected) false false) ≡ Ok second_done
+  unfolding first_done second_done
+  second_law =
+      ap (λ z. apply first_done (edits.AddSwitch (breaker_id (record { equipment = line.id; side = 2 })) line.end2.level Breaker (pos (bus_place two.buses line.end2.bus)) (pos (z + more)) (not line.end2.connected) false false)) count_two
+      ∙ lining.second_breaker before line line_right before_plain line_marked levels_once before_fits drawn drawn_ids
+
+  abbrev branch_of : ℕ → ℕ → NamedBranch
+  branch_of node1 node2 = record { id = line.id; shape = Line (record { level = line.end1.level; node = pos node1 }) (record { level = line.end2.level; node = pos node2 }) }
+
+  drawn_more : translated_line n line ≡ branch_of (next_node (placed_level before one)) (next_node (placed_level before two) + more)
+  drawn_more =
+      ap (λ z. translated_line (record n { lines = z }) line) (cut_here n.lines i line h.at)
+      ∙ lining.line_named before line line_right before_plain line_marked levels_once before_fits drawn drawn_ids (drop (suc i) n.lines)
+
+  next_stack : with_lines n (suc i) ≡ stack n.id (shaped (record n { lines = take i n.lines ++ line ∷ [] })) (drawn ++ branch_of (next_node (placed_level before one)) (next_node (placed_level before two) + more) ∷ [])
+  unfolding with_lines stack
+  next_stack =
+      ap (λ z. record (translated (record n { lines = z })) { lines = map (translated_line n) z }) (take_more n.lines i line h.at)
+      ∙ ap (λ (z : Network). record z { lines = map (translated_line n) (take i n.lines ++ line ∷ []) }) (translated_stack (record n { lines = take i n.lines ++ line ∷ [] }))
+      ∙ ap (λ z. stack n.id (shaped (record n { lines = take i n.lines ++ line ∷ [] })) z) (map-append (translated_line n) (take i n.lines) (line ∷ []) ∙ ap (λ z. drawn ++ z ∷ []) drawn_more)
+
+  third_law : apply second_done (edits.AddBranch line.id (Line (record { level = line.end1.level; node = pos (length (nodes (shape before one))) }) (record { level = line.end2.level; node = pos (length (nodes (shape before two)) + more) }))) ≡ Ok (with_lines n (suc i))
+  unfolding second_done
+  third_law =
+      ap (λ z. apply second_done (edits.AddBranch line.id (Line (record { level = line.end1.level; node = pos z }) (record { level = line.end2.level; node = pos (length (nodes (shape before two)) + more) })))) count_one
+      ∙ ap (λ z. apply second_done (edits.AddBranch line.id (Line (record { level = line.end1.level; node = pos (next_node (placed_level before one)) }) (record { level = line.end2.level; node = pos (z + more) })))) count_two
+      ∙ lining.line_placed before line line_right before_plain line_marked levels_once before_fits drawn drawn_ids
+      ∙ ap Ok (sym next_stack)
+
+  pub line_steps : LineSteps n i line
+  line_steps =
+      let s1 = site_of line.end1.level line.end1.bus one found_one (lining.there1 before line line_right before_plain line_marked levels_once before_fits drawn drawn_ids) in
+      let s2 = site_of line.end2.level line.end2.bus two found_two (lining.there2 before line line_right before_plain line_marked levels_once before_fits drawn drawn_ids) in
+      record {
+        place1 = bus_place one.buses line.end1.bus;
+        place2 = bus_place two.buses line.end2.bus;
+        home1 = s1.0;
+        home2 = s2.0;
+        level1 = shape before one;
+        level2 = shape before two;
+        between1 = first_done;
+        between2 = second_done;
+        site1 = s1.1;
+        site2 = s2.1;
+        named1 = sighted.level_is before (with_lines n i) line.end1.level one levels_are found_one;
+        named2 = sighted.level_is before (with_lines n i) line.end2.level two levels_are found_two;
+        first = first_law;
+        second = second_law;
+        third = third_law;
+      }

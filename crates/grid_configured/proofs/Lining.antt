@@ -366,6 +366,14 @@ module _ (n : ConfiguredNetwork) (line : ConfiguredLine) (right : line_check n.l
   unfolding level_of level2
   found2 = r.second.found
 
+  pub there1 : has_id level1.buses line.end1.bus ≡ true
+  unfolding level1
+  there1 = r.first.there
+
+  pub there2 : has_id level2.buses line.end2.bus ≡ true
+  unfolding level2
+  there2 = r.second.there
+
   only1 : Only a level1 n.levels
   only1 = only_one a level1 n.levels (once a) found1
 
