@@ -91,19 +91,19 @@ each_once {A} check key base fresh earlier i (x ∷ xs) h once =
 
 -- ---- what each check says
 
-fresh_bus : (ids earlier : List (List ℕ)) (bus : List ℕ) → bus_check ids earlier bus ≡ Ok tt → has_id (ids ++ map (λ b. b) earlier) bus ≡ false
+pub fresh_bus : (ids earlier : List (List ℕ)) (bus : List ℕ) → bus_check ids earlier bus ≡ Ok tt → has_id (ids ++ map (λ b. b) earlier) bus ≡ false
 unfolding bus_check bus_reasons id_reasons
 fresh_bus ids earlier bus h = ap (λ z. has_id (ids ++ z) bus) (map-id earlier) ∙ not_refused (has_id (ids ++ earlier) bus) _ _ (right_first (refuse_if (has_id (ids ++ earlier) bus) _) _ tt h).1
 
-fresh_switch : (ids buses : List (List ℕ)) (count : ℕ) (earlier : List BusSwitch) (s : BusSwitch) → switch_check ids buses count earlier s ≡ Ok tt → has_id (ids ++ map (λ s. s.id) earlier) s.id ≡ false
+pub fresh_switch : (ids buses : List (List ℕ)) (count : ℕ) (earlier : List BusSwitch) (s : BusSwitch) → switch_check ids buses count earlier s ≡ Ok tt → has_id (ids ++ map (λ s. s.id) earlier) s.id ≡ false
 unfolding switch_check switch_reasons id_reasons
 fresh_switch ids buses count earlier s h = not_refused (has_id (ids ++ map (λ s. s.id) earlier) s.id) _ _ (right_first (refuse_if (has_id (ids ++ map (λ s. s.id) earlier) s.id) _) _ tt h).1
 
-fresh_item : (ids buses : List (List ℕ)) (nodes edges count : ℕ) (earlier : List Item) (t : Item) → item_check ids buses nodes edges count earlier t ≡ Ok tt → has_id (ids ++ map (λ t. t.id) earlier) t.id ≡ false
+pub fresh_item : (ids buses : List (List ℕ)) (nodes edges count : ℕ) (earlier : List Item) (t : Item) → item_check ids buses nodes edges count earlier t ≡ Ok tt → has_id (ids ++ map (λ t. t.id) earlier) t.id ≡ false
 unfolding item_check item_reasons id_reasons
 fresh_item ids buses nodes edges count earlier t h = not_refused (has_id (ids ++ map (λ t. t.id) earlier) t.id) _ _ (right_first (refuse_if (has_id (ids ++ map (λ t. t.id) earlier) t.id) _) _ tt h).1
 
-fresh_line : (levels : List ConfiguredLevel) (earlier : List ConfiguredLine) (line : ConfiguredLine) → line_check levels earlier line ≡ Ok tt → has_id (ids_of levels ++ map (λ l. l.id) earlier) line.id ≡ false
+pub fresh_line : (levels : List ConfiguredLevel) (earlier : List ConfiguredLine) (line : ConfiguredLine) → line_check levels earlier line ≡ Ok tt → has_id (ids_of levels ++ map (λ l. l.id) earlier) line.id ≡ false
 unfolding line_check id_reasons
 fresh_line levels earlier line h = not_refused (has_id (ids_of levels ++ map (λ l. l.id) earlier) line.id) _ _ (right_first (refuse_if (has_id (ids_of levels ++ map (λ l. l.id) earlier) line.id) _) _ tt h).1
 
@@ -216,7 +216,7 @@ times_spread q (l ∷ ls) =
     let e = times-append q (map (λ s. s.id) l.switches) (map (λ t. t.id) l.items) in
     omega (arith, rest, a, b, c, d, e)
 
-absent_by : (id : List ℕ) (ids : List (List ℕ)) → times id ids ≡ 0 → has_id ids id ≡ false
+pub absent_by : (id : List ℕ) (ids : List (List ℕ)) → times id ids ≡ 0 → has_id ids id ≡ false
 absent_by id ids none = false_from_ne_true (has_id ids id) (λ h. let some = there id ids h in omega (arith, some, none))
 
 -- no injection and no line has the id of a bus
@@ -233,7 +233,7 @@ buses_apart n right id h =
 
 -- ---- places of buses
 
-bus_there : (buses : List (List ℕ)) (id : List ℕ) → has_id buses id ≡ true → bus_place buses id < length buses
+pub bus_there : (buses : List (List ℕ)) (id : List ℕ) → has_id buses id ≡ true → bus_place buses id < length buses
 unfolding bus_place has_id
 bus_there buses id h = by (position (same_id id) buses) refl
   where
@@ -313,7 +313,7 @@ level_stands earlier l h =
 
 -- ---- one level of an id
 
-times_levels : (q : List ℕ) (ls : List ConfiguredLevel) → times q (map (λ l. l.id) ls) ≤ times q (ids_of ls)
+pub times_levels : (q : List ℕ) (ls : List ConfiguredLevel) → times q (map (λ l. l.id) ls) ≤ times q (ids_of ls)
 unfolding level_ids
 times_levels q [] = omega arith
 times_levels q (l ∷ ls) =

@@ -120,7 +120,7 @@ switch_found network id plain =
 unfoldable pub own_ids : ConfiguredLevel → List (List ℕ)
 own_ids l = l.buses ++ map (λ i. i.id) l.items
 
-singles : List Placed → List (List ℕ)
+unfoldable pub singles : List Placed → List (List ℕ)
 singles ps = map (λ p. p.terminal.equipment) (filter (λ p. not (is_branch_end p.stand)) ps)
 
 singles_join : (xs ys : List Placed) → singles (xs ++ ys) ≡ singles xs ++ singles ys
@@ -161,7 +161,7 @@ singles_lines level (line ∷ lines) at =
     ap (λ z. singles (map outlet_placed (enumerate_from at z))) (append_assoc (end_outlets level line.id 1 line.end1) (end_outlets level line.id 2 line.end2) (flat_map (line_outlets level) lines))
     ∙ singles_ends level line.id 1 line.end1 (end_outlets level line.id 2 line.end2 ++ flat_map (line_outlets level) lines) (singles_ends level line.id 2 line.end2 (flat_map (line_outlets level) lines) (singles_lines level lines)) at
 
-level_singles : (network : ConfiguredNetwork) (level : ConfiguredLevel) → singles (translated_level (placed_level network level)).placed ≡ own_ids level
+pub level_singles : (network : ConfiguredNetwork) (level : ConfiguredLevel) → singles (translated_level (placed_level network level)).placed ≡ own_ids level
 unfolding translated_level placed_level outlets outlets_at own_ids
 level_singles network level =
     singles_join (map bus_section (enumerate_from 0 level.buses)) (map outlet_placed (enumerate_from (length level.buses) (map (item_outlet level) level.items ++ flat_map (line_outlets level) network.lines)))
@@ -223,7 +223,7 @@ sides_found network id none =
 unfoldable pub placed_test : List ℕ → ℕ → Placed → Bool
 placed_test id side p = same_id id p.terminal.equipment && eqb p.terminal.side side
 
-found_bus : (id : List ℕ) (side at : ℕ) (buses : List (List ℕ)) → has_id buses id ≡ false → find (placed_test id side) (map bus_section (enumerate_from at buses)) ≡ None
+pub found_bus : (id : List ℕ) (side at : ℕ) (buses : List (List ℕ)) → has_id buses id ≡ false → find (placed_test id side) (map bus_section (enumerate_from at buses)) ≡ None
 unfolding placed_test bus_section has_id
 found_bus id side at [] none = refl
 found_bus id side at (b ∷ buses) none =
@@ -248,7 +248,7 @@ found_outlet id side at (t ∷ ts) =
     by true rest = let e : at ≡ at + 0 = omega arith in ap Some e
     by false rest = rest ∙ moved_on at (position (λ (t : Outlet). same_id id t.terminal.equipment && eqb t.terminal.side side) ts)
 
-none_or : (o : Option Placed) → option_or None o ≡ o
+pub none_or : (o : Option Placed) → option_or None o ≡ o
 none_or None = refl
 none_or (Some p) = refl
 

@@ -17,3 +17,4 @@ pub mod Texts
 pub mod Reports
 pub mod Outcomes
 pub mod Blocks
+pub mod Partial
