@@ -1,6 +1,6 @@
 -- What the calls that put a network with configured buses into node/breaker form answer.
 use Rattle.std.proofs.Common.{◌≡◌, refl, sym, ap, ◌∙◌, subst, ℕ, zero, suc, ◌+◌, ◌<◌, ◌≤◌, Bool, true, false, cond, not, ◌&&◌, ◌||◌, List, [], ◌∷◌, ◌++◌, length, get_or, Result, Ok, Err, append_assoc, inl, inr, arith}
-use Rattle.std.specs.Prelude.{ℤ, pos, eqb, nat_lt, Option, Some, None, IsSome, IfSome, map, find, slice_get, slice_index_or, take, codes, decimal, ⊤, IsTrue, IsOk, IfErr, OnOk, option_map}
+use Rattle.std.specs.Prelude.{ℤ, pos, eqb, nat_lt, Option, Some, None, IsSome, IfSome, map, find, slice_get, slice_index_or, take, codes, decimal, ⊤, IsTrue, IsOk, IfErr, IfOk, OnOk, option_map}
 use Rattle.std.specs.List.{list_any, list_all}
 use Rattle.std.specs.Fmt.{digits}
 use Rattle.std.specs.Option.{option_or}
@@ -23,6 +23,7 @@ use Rattle.grid_structure.specs.Network.{Network}
 use Rattle.grid_structure.specs.Editing.{apply}
 use Rattle.grid_structure.proofs.Adding.{with_bare}
 use Rattle.grid_structure.proofs.Places.{get_there, got_below}
+use Rattle.grid_structure.proofs.ListOfLevels.{level_at}
 use Rattle.grid_paths.proofs.Least.{some_same, some_none}
 use Rattle.grid_configured.specs.declared.network.Item.{Item}
 use Rattle.grid_configured.specs.declared.network.ConfiguredLine.{ConfiguredLine}
@@ -119,11 +120,12 @@ unfolding substation_id
 home_first n k l h old sub is named =
     ap (λ z. apply z (edits.AddSubstation sub)) is ∙ ap (λ z. apply (translated (first_levels n k)) (edits.AddSubstation z)) (named ∙ append_assoc l.id (codes "!") (codes "S")) ∙ home_law n k l h
 
-pub home_second : (n : ConfiguredNetwork) (k : ℕ) (l : ConfiguredLevel) (h : LevelAt n k l) (old : Network) (sub : List ℕ) → old ≡ with_bare (substation_id l.id) (translated (first_levels n k)) → sub ≡ l.id ++ codes "!" ++ codes "S"
-    → apply old (edits.AddLevel l.id sub l.nominal_v None None) ≡ Ok (with_buses n k 0)
+pub home_second : (n : ConfiguredNetwork) (k : ℕ) (l : ConfiguredLevel) (h : LevelAt n k l) (old : Network) (sub : List ℕ) (volts : ℤ) → old ≡ with_bare (substation_id l.id) (translated (first_levels n k)) → sub ≡ l.id ++ codes "!" ++ codes "S" → volts ≡ l.nominal_v
+    → apply old (edits.AddLevel l.id sub volts None None) ≡ Ok (with_buses n k 0)
 unfolding substation_id
-home_second n k l h old sub is named =
-    ap (λ z. apply z (edits.AddLevel l.id sub l.nominal_v None None)) is
+home_second n k l h old sub volts is named number =
+    ap (λ z. apply old (edits.AddLevel l.id sub z None None)) number
+    ∙ ap (λ z. apply z (edits.AddLevel l.id sub l.nominal_v None None)) is
     ∙ ap (λ z. apply (with_bare (substation_id l.id) (translated (first_levels n k))) (edits.AddLevel l.id z l.nominal_v None None)) (named ∙ append_assoc l.id (codes "!") (codes "S")) ∙ level_law n k l h
 
 pub breaker_tag1 : (id : List ℕ) → id ++ codes "!" ++ codes "1" ≡ breaker_id (record { equipment = id; side = 1 })
@@ -161,14 +163,16 @@ pub buses_done : (n : ConfiguredNetwork) (k : ℕ) (l : ConfiguredLevel) (h : Le
 buses_done n k l h old i ys same le end is = is ∙ ap (with_buses n k) (at_end l.buses ys i same le end) ∙ all_buses n k l h
 
 pub joint_next : (n : ConfiguredNetwork) (k : ℕ) (l : ConfiguredLevel) (h : LevelAt n k l) (old : Network) (i : ℕ) (s : BusSwitch) (node1 node2 : ℕ) → old ≡ with_switches n k i → slice_get l.switches i ≡ Some s
-    → IfSome (sites.site old s.bus1 1) (λ at. node1 ≡ at.1) → IfSome (sites.site old s.bus2 1) (λ at. node2 ≡ at.1)
-    → apply old (edits.AddSwitch s.id l.id Breaker (pos node1) (pos node2) s.opened true false) ≡ Ok (with_switches n k (i + 1))
-joint_next n k l h old i s node1 node2 is at one two =
+    → IfSome (sites.site old s.bus1 1) (λ at. node1 ≡ at.1) → IfSome (sites.site old s.bus2 1) (λ at. node2 ≡ at.1) → (z1 z2 : ℤ) → z1 ≡ pos node1 → z2 ≡ pos node2
+    → apply old (edits.AddSwitch s.id l.id Breaker z1 z2 s.opened true false) ≡ Ok (with_switches n k (i + 1))
+joint_next n k l h old i s node1 node2 is at one two z1 z2 is1 is2 =
     let e : suc i ≡ i + 1 = omega arith in
     let both = joint_sites n k l h i s at in
     let n1 = node_from (sites.site old s.bus1 1) (k, bus_place l.buses s.bus1) node1 (ap (λ z. sites.site z s.bus1 1) is ∙ both.0) one in
     let n2 = node_from (sites.site old s.bus2 1) (k, bus_place l.buses s.bus2) node2 (ap (λ z. sites.site z s.bus2 1) is ∙ both.1) two in
-    ap (λ z. apply z (edits.AddSwitch s.id l.id Breaker (pos node1) (pos node2) s.opened true false)) is
+    ap (λ z. apply old (edits.AddSwitch s.id l.id Breaker z z2 s.opened true false)) is1
+    ∙ ap (λ z. apply old (edits.AddSwitch s.id l.id Breaker (pos node1) z s.opened true false)) is2
+    ∙ ap (λ z. apply z (edits.AddSwitch s.id l.id Breaker (pos node1) (pos node2) s.opened true false)) is
     ∙ ap (λ z. apply (with_switches n k i) (edits.AddSwitch s.id l.id Breaker (pos z) (pos node2) s.opened true false)) n1
     ∙ ap (λ z. apply (with_switches n k i) (edits.AddSwitch s.id l.id Breaker (pos (bus_place l.buses s.bus1)) (pos z) s.opened true false)) n2
     ∙ joint_law n k l h i s at ∙ ap (λ z. Ok (with_switches n k z)) e
@@ -269,13 +273,13 @@ module _ (n : ConfiguredNetwork) (i : ℕ) (line : ConfiguredLine) (h : LineAt n
         ∙ ap (λ x. apply steps.between1 (edits.AddSwitch (breaker_id (record { equipment = line.id; side = 2 })) line.end2.level Breaker (pos steps.place2) x (not line.end2.connected) false false)) node2
         ∙ steps.second
 
-    pub line_third : (mid : Network) (end1 end2 : End) → mid ≡ (line_steps n i line h).between2 → end1 ≡ record { level = line.end1.level; node = z1 } → end2 ≡ record { level = line.end2.level; node = z2 }
+    pub line_third : (mid : Network) (end1 end2 : End) (w1 w2 : ℤ) → mid ≡ (line_steps n i line h).between2 → end1 ≡ record { level = line.end1.level; node = w1 } → end2 ≡ record { level = line.end2.level; node = w2 } → w1 ≡ z1 → w2 ≡ z2
         → apply mid (edits.AddBranch line.id (Line end1 end2)) ≡ Ok (with_lines n (i + 1))
-    line_third mid end1 end2 same one two =
+    line_third mid end1 end2 w1 w2 same one two is_w1 is_w2 =
         let e : suc i ≡ i + 1 = omega arith in
         ap (λ x. apply x (edits.AddBranch line.id (Line end1 end2))) same
-        ∙ ap (λ x. apply steps.between2 (edits.AddBranch line.id (Line x end2))) (one ∙ ap (λ z. record { level = line.end1.level; node = z }) node1)
-        ∙ ap (λ x. apply steps.between2 (edits.AddBranch line.id (Line (record { level = line.end1.level; node = pos (length (nodes steps.level1)) }) x))) (two ∙ ap (λ z. record { level = line.end2.level; node = z }) node2)
+        ∙ ap (λ x. apply steps.between2 (edits.AddBranch line.id (Line x end2))) (one ∙ ap (λ z. record { level = line.end1.level; node = z }) (is_w1 ∙ node1))
+        ∙ ap (λ x. apply steps.between2 (edits.AddBranch line.id (Line (record { level = line.end1.level; node = pos (length (nodes steps.level1)) }) x))) (two ∙ ap (λ z. record { level = line.end2.level; node = z }) (is_w2 ∙ node2))
         ∙ steps.third ∙ ap (λ z. Ok (with_lines n z)) e
 
 pub same_by : (t : Bool) (a b : List ℕ) → (IsTrue t → a ≡ b) → (a ≡ b → IsTrue t) → t ≡ same_id a b
@@ -295,3 +299,25 @@ lines_done n old i le end is = let e : i ≡ length n.lines = omega (arith, le, 
 
 pub levels_done : (n : ConfiguredNetwork) (old : Network) (i : ℕ) → i ≤ length n.levels → length n.levels ≤ i → old ≡ translated (first_levels n i) → old ≡ with_lines n 0
 levels_done n old i le end is = let e : i ≡ length n.levels = omega (arith, le, end) in is ∙ ap (λ z. translated (first_levels n z)) e ∙ all_levels n
+
+pub named_as : {E : Type 0} (r : Result (List ℕ) E) (x y : List ℕ) → IfOk r (λ id. id ≡ x) → x ≡ y → IfOk r (λ id. id ≡ y)
+named_as (Ok id) x y h e = h ∙ e
+named_as (Err f) x y h e = tt
+
+pub no_place : (net : Network) (id : List ℕ) → IsSome (sites.level_named net id) → None ≡ sites.find_level net id → ⊥
+no_place net id there none = by (sites.level_named net id) refl there
+  where
+    by : (o : Option VoltageLevel) → sites.level_named net id ≡ o → IsSome o → ⊥
+    by None e s = false≢true s
+    by (Some v) e s = let at = level_at net id v e in some_none at.0 (none ∙ at.1)
+
+pub counted_there : (net : Network) (id : List ℕ) (k : ℕ) (v : VoltageLevel) (count : ℕ) → Some k ≡ sites.find_level net id → slice_get (sites.levels net) k ≡ Some v → count ≡ length (nodes v) → IfSome (sites.level_named net id) (λ level. count ≡ length (nodes level))
+counted_there net id k v count found at is = by (sites.level_named net id) refl
+  where
+    by : (o : Option VoltageLevel) → sites.level_named net id ≡ o → IfSome o (λ level. count ≡ length (nodes level))
+    by None e = tt
+    by (Some w) e =
+        let own = level_at net id w e in
+        let same : k ≡ own.0 = some_same k own.0 (found ∙ own.1) in
+        let which : v ≡ w = some_same v w (sym at ∙ ap (slice_get (sites.levels net)) same ∙ own.2) in
+        is ∙ ap (λ z. length (nodes z)) which

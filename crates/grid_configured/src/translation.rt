@@ -45,7 +45,8 @@ fn reserved_id(alloc: Global, id: &Id, tag: &str) -> Result<Id, Memory>
     requires clean { find is_control tag.now ≡ None }
     ensures { IfOk result (λ made. made ≡ id.now ++ codes "!" ++ tag.now) }
 {
-    let text = format!(in alloc; "{}!{tag}", id.text())?;
+    let own = id.text();
+    let text = format!(in alloc; "{own}!{tag}")?;
     id_of(alloc, text.as_str())
 }
 

@@ -1,4 +1,4 @@
-use Rattle.std.proofs.Common.{refl, sym, ap, ◌∙◌, ◌≡◌, ◌<◌, length, arith, rules}
+use Rattle.std.proofs.Common.{refl, sym, ap, ◌∙◌, ◌≡◌, ◌<◌, length, arith, rules, to_z, of_z, w64}
 use Rattle.std.specs.Prelude.{Some, slice_get, IsOk}
 use Rattle.grid_configured.specs.Partial.{with_buses, with_switches, with_items, with_lines}
 use Rattle.grid_configured.proofs.Applied.{LevelAt, level_of, only_memory, bus_law, joint_law, all_buses, all_switches, all_items}
@@ -26,7 +26,8 @@ accepted-requires-2 c =
     let at = got n.levels c.slice.result.now c.args.place l c.slice.ensures (inside n.levels c.slice.result.now c.args.place c.slice.ensures c.requires.place) c.index-slice-place.is in
     let h = level_of n c.args.place l c.requires.translatable at in
     let mid = made_by c.add_substation.result _ c.add_substation.new.self _ c.in_ok-accepted.ensures c.add_substation.ensures.done (home_first n c.args.place l h c.args.structure.now c.in_ok-substation.substation c.requires.structure c.in_ok-substation.ensures) in
-    only_memory _ _ c.add_level.result (home_second n c.args.place l h c.add_substation.new.self c.in_ok-substation.substation mid c.in_ok-substation.ensures) c.add_level.ensures.refused
+    let volts : to_z w64 (of_z w64 l.nominal_v) ≡ l.nominal_v = search rules in
+    only_memory _ _ c.add_level.result (home_second n c.args.place l h c.add_substation.new.self c.in_ok-substation.substation _ mid c.in_ok-substation.ensures volts) c.add_level.ensures.refused
 
 pub returns : goal.returns
 returns c =
@@ -35,4 +36,5 @@ returns c =
     let at = got n.levels c.slice.result.now c.args.place l c.slice.ensures (inside n.levels c.slice.result.now c.args.place c.slice.ensures c.requires.place) c.index-slice-place.is in
     let h = level_of n c.args.place l c.requires.translatable at in
     let mid = made_by c.add_substation.result _ c.add_substation.new.self _ c.in_ok-accepted.ensures c.add_substation.ensures.done (home_first n c.args.place l h c.args.structure.now c.in_ok-substation.substation c.requires.structure c.in_ok-substation.ensures) in
-    finished c.accepted-2.result c.add_level.result _ c.add_level.new.self _ c.accepted-2.ensures c.add_level.ensures.done (home_second n c.args.place l h c.add_substation.new.self c.in_ok-substation.substation mid c.in_ok-substation.ensures)
+    let volts : to_z w64 (of_z w64 l.nominal_v) ≡ l.nominal_v = search rules in
+    finished c.accepted-2.result c.add_level.result _ c.add_level.new.self _ c.accepted-2.ensures c.add_level.ensures.done (home_second n c.args.place l h c.add_substation.new.self c.in_ok-substation.substation _ mid c.in_ok-substation.ensures volts)

@@ -1,4 +1,4 @@
-use Rattle.std.proofs.Common.{refl, sym, ap, ◌∙◌, ◌≡◌, ◌<◌, ◌≤◌, ◌+◌, length, arith, rules, to_z, w64, pos, ℕ}
+use Rattle.std.proofs.Common.{refl, sym, ap, ◌∙◌, ◌≡◌, ◌<◌, ◌≤◌, ◌+◌, length, arith, rules, to_z, of_z, w64, pos, ℕ}
 use Rattle.std.specs.Prelude.{Some, slice_get, IsOk}
 use Rattle.grid_configured.specs.Partial.{with_buses, with_switches, with_items, with_lines}
 use Rattle.grid_configured.proofs.Applied.{LevelAt, level_of, only_memory}
@@ -80,8 +80,9 @@ accepted-requires c =
     let len : c.len.result ≡ length l.buses = c.len.ensures in
     let small : c.len.result + i < 1024 = omega (arith, few, len) in
     let number : to_z w64 (c.len.result + i) ≡ pos (c.len.result + i) = search rules in
+    let place : to_z w64 (of_z w64 c.from.result) ≡ pos c.bus_node-bus.result = search rules in
     let next = number ∙ ap (λ z. pos (z + i)) len in
-    only_memory _ _ c.add_switch.result (item_first n k l h c.args.structure.now i t item c.bus_node-bus.result c.in_ok-breaker.breaker _ _ c.requires.structure c.bus_node-bus.ensures c.from.ensures next c.in_ok-breaker.ensures) c.add_switch.ensures.refused
+    only_memory _ _ c.add_switch.result (item_first n k l h c.args.structure.now i t item c.bus_node-bus.result c.in_ok-breaker.breaker _ _ c.requires.structure c.bus_node-bus.ensures place next c.in_ok-breaker.ensures) c.add_switch.ensures.refused
 
 pub accepted-requires-2 : goal.accepted-requires-2
 accepted-requires-2 c =
@@ -98,8 +99,9 @@ accepted-requires-2 c =
     let len : c.len.result ≡ length l.buses = c.len.ensures in
     let small : c.len.result + i < 1024 = omega (arith, few, len) in
     let number : to_z w64 (c.len.result + i) ≡ pos (c.len.result + i) = search rules in
+    let place : to_z w64 (of_z w64 c.from.result) ≡ pos c.bus_node-bus.result = search rules in
     let next = number ∙ ap (λ z. pos (z + i)) len in
-    let mid = made_by c.add_switch.result _ c.add_switch.new.self _ c.in_ok-accepted.ensures c.add_switch.ensures.done (item_first n k l h c.args.structure.now i t item c.bus_node-bus.result c.in_ok-breaker.breaker _ _ c.requires.structure c.bus_node-bus.ensures c.from.ensures next c.in_ok-breaker.ensures) in
+    let mid = made_by c.add_switch.result _ c.add_switch.new.self _ c.in_ok-accepted.ensures c.add_switch.ensures.done (item_first n k l h c.args.structure.now i t item c.bus_node-bus.result c.in_ok-breaker.breaker _ _ c.requires.structure c.bus_node-bus.ensures place next c.in_ok-breaker.ensures) in
     only_memory _ _ c.add_injection.result (item_second n k l h c.add_switch.new.self i t item _ mid next) c.add_injection.ensures.refused
 
 pub returns : goal.returns
@@ -117,6 +119,7 @@ returns c =
     let len : c.len.result ≡ length l.buses = c.len.ensures in
     let small : c.len.result + i < 1024 = omega (arith, few, len) in
     let number : to_z w64 (c.len.result + i) ≡ pos (c.len.result + i) = search rules in
+    let place : to_z w64 (of_z w64 c.from.result) ≡ pos c.bus_node-bus.result = search rules in
     let next = number ∙ ap (λ z. pos (z + i)) len in
-    let mid = made_by c.add_switch.result _ c.add_switch.new.self _ c.in_ok-accepted.ensures c.add_switch.ensures.done (item_first n k l h c.args.structure.now i t item c.bus_node-bus.result c.in_ok-breaker.breaker _ _ c.requires.structure c.bus_node-bus.ensures c.from.ensures next c.in_ok-breaker.ensures) in
+    let mid = made_by c.add_switch.result _ c.add_switch.new.self _ c.in_ok-accepted.ensures c.add_switch.ensures.done (item_first n k l h c.args.structure.now i t item c.bus_node-bus.result c.in_ok-breaker.breaker _ _ c.requires.structure c.bus_node-bus.ensures place next c.in_ok-breaker.ensures) in
     finished c.accepted-2.result c.add_injection.result _ c.add_injection.new.self _ c.accepted-2.ensures c.add_injection.ensures.done (item_second n k l h c.add_switch.new.self i t item _ mid next)

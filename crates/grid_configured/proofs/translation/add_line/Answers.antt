@@ -75,4 +75,23 @@ reserved_id-requires-2-clause-plain c =
     line_is_plain n k line c.requires.translatable at
 
 pub accepted-requires : goal.accepted-requires
-accepted-requires c = ?
+accepted-requires c =
+    let n = c.args.network.now in
+    let line = c.index-slice-place.result in
+    let k = c.args.place in
+    let at = got n.lines c.slice.result.now k line c.slice.ensures (inside n.lines c.slice.result.now k c.slice.ensures c.requires.place) c.index-slice-place.is in
+    let h = line_of n k line c.requires.translatable at in
+    let old = c.args.structure.now in
+    let z2 : c.from-next2.result +ℤ c.from.result ≡ pos (c.next_node-2.result + cond (same_id line.end1.level line.end2.level) 1 0) = ? in
+    ?
+
+pub accepted-requires-2 : goal.accepted-requires-2
+accepted-requires-2 c = ?
+
+pub accepted-requires-3 : goal.accepted-requires-3
+accepted-requires-3 c =
+    let x = c.in_ok-end_at-2.ensures in
+    ?
+
+pub returns : goal.returns
+returns c = ?
