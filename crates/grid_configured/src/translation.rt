@@ -1,5 +1,6 @@
 // A network with configured buses in node/breaker form, built by edits.
-ghost use Rattle.std.specs.Prelude.{◌≡◌, ◌<◌, ◌≤◌, ◌+◌, ◌++◌, length, slice_get, Some, None, IsSome, IfSome, IfOk, IfErr, IsOk, OnOk, IsTrue, codes, find};
+ghost use Rattle.std.specs.Prelude.{◌≡◌, ◌<◌, ◌≤◌, ◌+◌, ◌++◌, length, slice_get, Some, None, IsSome, IfSome, IfOk, IfErr, IsOk, OnOk, IsTrue, codes, find, pos, cond};
+ghost use Rattle.grid_ids.specs.Name.{same_id};
 ghost use Rattle.grid_ids.specs.Fault.{id_fault, is_control};
 ghost use Rattle.grid_level.specs.Passing.{nodes};
 ghost use Rattle.grid_structure.specs.Sites as sites;
@@ -69,6 +70,24 @@ fn next_node(structure: &Structure, level: &Id) -> u32
     match structure.find_level(level) {
         Some(place) => structure.level(place).node_count(),
         None => unreachable!(),
+    }
+}
+
+// Whether two ids are one.
+fn is_one(first: &Id, second: &Id) -> bool
+    ensures { result ≡ same_id first.now second.now }
+{
+    first.same(second)
+}
+
+// The node of a line's second end, which is behind that of the first where both are in one level.
+fn second_node(next: u32, behind: bool) -> i64
+    ensures { result ≡ pos (next + cond behind 1 0) }
+{
+    if behind {
+        i64::from(next) + 1
+    } else {
+        i64::from(next)
     }
 }
 
@@ -233,8 +252,9 @@ fn add_line(
     let bus1 = bus_node(structure, &line.end1.bus);
     let bus2 = bus_node(structure, &line.end2.bus);
     let node1 = i64::from(next_node(structure, &line.end1.level));
-    let next2 = i64::from(next_node(structure, &line.end2.level));
-    let node2 = next2 + i64::from(line.end1.level.same(&line.end2.level));
+    let next = next_node(structure, &line.end2.level);
+    let behind = is_one(&line.end1.level, &line.end2.level);
+    let node2 = second_node(next, behind);
     let breaker1 = reserved_id(alloc, &line.id, "1")?;
     let breaker2 = reserved_id(alloc, &line.id, "2")?;
     let shape = Branch::Line {
