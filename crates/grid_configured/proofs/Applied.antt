@@ -36,7 +36,7 @@ use Rattle.grid_configured.proofs.Nodes.{StandsWell}
 use Rattle.grid_configured.proofs.Checked.{right_first, right_under, NetworkRight, network_right, LevelRight, level_right, PartsRight, bus_there}
 use Rattle.grid_configured.proofs.Stacked.{Each}
 use Rattle.grid_configured.proofs.Tagged.{Unmarked, PlainLevel, PlainNetwork}
-use Rattle.grid_configured.proofs.Building.{alone, levels_only, SwitchRight, switch_right, ItemRight, item_right, bus_few, home_step, level_step, bus_step, joint_step, half, item_breaker, item_step}
+use Rattle.grid_configured.proofs.Building.{TerminalRight, alone, levels_only, SwitchRight, switch_right, ItemRight, item_right, bus_few, home_step, level_step, bus_step, joint_step, half, item_breaker, item_step}
 
 -- ---- the answers of edits
 
@@ -296,6 +296,13 @@ module _ (n : ConfiguredNetwork) (k : ℕ) (l : ConfiguredLevel) (h : LevelAt n 
 
     items_fit : PlacesFit (alone (record l { items = take i l.items }))
     items_fit = part_fits l.switches (take i l.items) switches_there (each_take (λ (t : Item). has_id l.buses t.bus ≡ true) l.items i items_there)
+
+    pub node_few : length l.buses + i < 1024
+    node_few =
+        let r = item_right (ids_of (take k n.levels) ++ l.id ∷ [] ++ (l.buses ++ map (λ s. s.id) l.switches)) l.buses (length l.buses) (length l.switches) (checks.switch_total (take k n.levels) + length l.switches) (take i l.items) t item_is in
+        let e = r.few.nodes_few in
+        let f = take_length l.items i t at in
+        omega (arith, e, f)
 
     -- with the injection's breaker alone
     pub between : Network

@@ -1,17 +1,25 @@
 // A network with configured buses in node/breaker form, built by edits.
-ghost use Rattle.std.specs.Prelude.{◌≡◌, ◌++◌, None, IsErr, IfOk, codes, decimal};
-ghost use Rattle.grid_ids.specs.Fault.{id_fault};
+ghost use Rattle.std.specs.Prelude.{◌≡◌, ◌<◌, ◌≤◌, ◌+◌, ◌++◌, length, slice_get, Some, None, IsSome, IfSome, IfOk, IfErr, IsOk, OnOk, IsTrue, codes, find, pos, cond};
+ghost use Rattle.grid_ids.specs.Name.{same_id};
+ghost use Rattle.grid_ids.specs.Fault.{id_fault, is_control};
+ghost use Rattle.grid_level.specs.Passing.{nodes};
+ghost use Rattle.grid_structure.specs.Sites as sites;
+ghost use Rattle.grid_configured.specs.Names.{is_plain};
 ghost use Rattle.grid_configured.specs.Checks.{IsTranslatable};
 ghost use Rattle.grid_configured.specs.Translation.{translated};
+ghost use Rattle.grid_configured.specs.Partial.{first_levels, with_buses, with_switches, with_items, with_lines};
 
-use crate::{BusEnd, BusSwitch, ConfiguredLevel, ConfiguredLine, ConfiguredNetwork, Item};
+use crate::{BusEnd, ConfiguredNetwork};
 use grid_ids::{Duplicate, Id, IdFault, Memory, Same};
 use grid_kinds::SwitchKind;
 use grid_structure::{ApplyFault, Branch, End, Structure};
 use std::alloc::Global;
 
 // An edit that no rule refuses.
-fn made(answer: Result<(), ApplyFault>) -> Result<(), Memory> {
+fn accepted(answer: Result<(), ApplyFault>) -> Result<(), Memory>
+    requires { IfErr answer (λ fault. fault ≡ ApplyFault.Memory) }
+    ensures { OnOk result (IsOk answer) }
+{
     match answer {
         Ok(()) => Ok(()),
         Err(ApplyFault::Memory) => Err(Memory),
@@ -31,162 +39,265 @@ fn id_of(alloc: Global, text: &str) -> Result<Id, Memory>
     }
 }
 
-// The node of a bus.
-fn bus_node(structure: &Structure, bus: &Id) -> i64 {
+// A reserved id of what is added for a thing: the thing's id, `!`, and a tag.
+fn reserved_id(alloc: Global, id: &Id, tag: &str) -> Result<Id, Memory>
+    requires plain { IsTrue (is_plain id.now) }
+    requires short { length tag.now ≤ 1 }
+    requires clean { find is_control tag.now ≡ None }
+    ensures { IfOk result (λ made. made ≡ id.now ++ codes "!" ++ tag.now) }
+{
+    let own = id.text();
+    let text = format!(in alloc; "{own}!{tag}")?;
+    id_of(alloc, text.as_str())
+}
+
+// The node of a bus, which is there.
+fn bus_node(structure: &Structure, bus: &Id) -> u16
+    requires { IsSome (sites.site structure.now bus.now 1) }
+    ensures { IfSome (sites.site structure.now bus.now 1) (λ at. result ≡ at.1) }
+{
     match structure.site(bus, 1) {
-        Some(site) => i64::from(site.node),
+        Some(site) => site.node,
         None => unreachable!(),
     }
 }
 
-// The node behind those that a level has.
-fn next_node(structure: &Structure, level: &Id) -> i64 {
+// How many nodes a level has, which is there: the next one's number.
+fn next_node(structure: &Structure, level: &Id) -> u32
+    requires { IsSome (sites.level_named structure.now level.now) }
+    ensures { IfSome (sites.level_named structure.now level.now) (λ level. result ≡ length (nodes level)) }
+{
     match structure.find_level(level) {
-        Some(place) => i64::from(structure.level(place).node_count()),
+        Some(place) => structure.level(place).node_count(),
         None => unreachable!(),
     }
 }
 
-// Puts the breaker that joins a terminal's node to its bus.
-fn add_breaker(
-    alloc: Global,
-    structure: &mut Structure,
-    equipment: &Id,
-    side: u8,
-    level: &Id,
-    bus: &Id,
-    node: i64,
-    connected: bool,
-) -> Result<(), Memory> {
-    let text = format!(in alloc; "{}!{side}", equipment.text())?;
-    let id = id_of(alloc, text.as_str())?;
-    let place = bus_node(structure, bus);
-    made(structure.add_switch(
-        &id,
-        level,
-        SwitchKind::Breaker,
-        place,
-        node,
-        !connected,
-        false,
-        false,
-    ))
+// Whether two ids are one.
+fn is_one(first: &Id, second: &Id) -> bool
+    ensures { result ≡ same_id first.now second.now }
+{
+    first.same(second)
 }
 
-// Puts a level in a substation of its own.
-fn add_empty_level(
-    alloc: Global,
-    structure: &mut Structure,
-    level: &ConfiguredLevel,
-) -> Result<(), Memory> {
-    let text = format!(in alloc; "{}!S", level.id.text())?;
-    let substation = id_of(alloc, text.as_str())?;
-    made(structure.add_substation(&substation))?;
-    made(structure.add_level(&level.id, &substation, level.nominal_v, None, None))
+// The node of a line's second end, which is behind that of the first where both are in one level.
+fn second_node(next: u32, behind: bool) -> i64
+    ensures { result ≡ pos (next + cond behind 1 0) }
+{
+    if behind {
+        i64::from(next) + 1
+    } else {
+        i64::from(next)
+    }
 }
 
-// Puts the buses of a level, each at the node of its place.
-fn add_buses(structure: &mut Structure, level: &ConfiguredLevel) -> Result<(), Memory> {
-    for (place, bus) in level.buses.slice().iter().enumerate() {
-        made(structure.add_busbar(bus, &level.id, place as i64))?;
+// Puts the level at a place in a substation of its own.
+fn add_home(
+    alloc: Global,
+    structure: &mut Structure,
+    network: &ConfiguredNetwork,
+    place: usize,
+) -> Result<(), Memory>
+    requires translatable { IsTranslatable network.now }
+    requires place { place < length network.now.levels }
+    requires structure { structure.old ≡ translated (first_levels network.now place) }
+    ensures { OnOk result (structure.new ≡ with_buses network.now place 0) }
+{
+    let level = &network.levels.slice()[place];
+    let substation = reserved_id(alloc, &level.id, "S")?;
+    accepted(structure.add_substation(&substation))?;
+    accepted(structure.add_level(&level.id, &substation, level.nominal_v, None, None))
+}
+
+// Puts the buses of the level at a place, each at the node of its place.
+fn add_buses(
+    structure: &mut Structure,
+    network: &ConfiguredNetwork,
+    place: usize,
+) -> Result<(), Memory>
+    requires translatable { IsTranslatable network.now }
+    requires place { place < length network.now.levels }
+    requires structure { structure.old ≡ with_buses network.now place 0 }
+    ensures { OnOk result (structure.new ≡ with_switches network.now place 0) }
+{
+    let level = &network.levels.slice()[place];
+    for (node, bus) in level.buses.slice().iter().enumerate() {
+        accepted(structure.add_busbar(bus, &level.id, node as i64))?;
     }
     Ok(())
 }
 
-// Puts a switch between two buses of a level.
-fn add_joint(structure: &mut Structure, level: &Id, switch: &BusSwitch) -> Result<(), Memory> {
-    let node1 = bus_node(structure, &switch.bus1);
-    let node2 = bus_node(structure, &switch.bus2);
-    made(structure.add_switch(
-        &switch.id,
-        level,
-        SwitchKind::Breaker,
-        node1,
-        node2,
-        switch.opened,
-        true,
-        false,
-    ))
+// Puts the switches of the level at a place between its buses.
+fn add_switches(
+    structure: &mut Structure,
+    network: &ConfiguredNetwork,
+    place: usize,
+) -> Result<(), Memory>
+    requires translatable { IsTranslatable network.now }
+    requires place { place < length network.now.levels }
+    requires structure { structure.old ≡ with_switches network.now place 0 }
+    ensures { OnOk result (structure.new ≡ with_items network.now place 0) }
+{
+    let level = &network.levels.slice()[place];
+    for switch in level.switches.slice() {
+        let node1 = bus_node(structure, &switch.bus1);
+        let node2 = bus_node(structure, &switch.bus2);
+        accepted(structure.add_switch(
+            &switch.id,
+            &level.id,
+            SwitchKind::Breaker,
+            i64::from(node1),
+            i64::from(node2),
+            switch.opened,
+            true,
+            false,
+        ))?;
+    }
+    Ok(())
 }
 
-// Puts an injection at the next node of a level, with its breaker.
+// Puts an injection of the level at a place, with its breaker.
 fn add_item(
     alloc: Global,
     structure: &mut Structure,
-    level: &Id,
-    item: &Item,
-) -> Result<(), Memory> {
-    let node = next_node(structure, level);
-    made(structure.add_injection(&item.id, level, node, &item.item))?;
-    add_breaker(
-        alloc,
-        structure,
-        &item.id,
-        1,
-        level,
-        &item.bus,
+    network: &ConfiguredNetwork,
+    place: usize,
+    own: usize,
+) -> Result<(), Memory>
+    requires translatable { IsTranslatable network.now }
+    requires place { place < length network.now.levels }
+    requires own { IfSome (slice_get network.now.levels place) (λ level. own < length level.items) }
+    requires structure { structure.old ≡ with_items network.now place own }
+    ensures { OnOk result (structure.new ≡ with_items network.now place (own + 1)) }
+{
+    let level = &network.levels.slice()[place];
+    let item = &level.items.slice()[own];
+    let breaker = reserved_id(alloc, &item.id, "1")?;
+    let bus = bus_node(structure, &item.bus);
+    let node = (level.buses.len() + own) as i64;
+    accepted(structure.add_switch(
+        &breaker,
+        &level.id,
+        SwitchKind::Breaker,
+        i64::from(bus),
         node,
-        item.connected,
-    )
+        !item.connected,
+        false,
+        false,
+    ))?;
+    accepted(structure.add_injection(&item.id, &level.id, node, &item.item))
 }
 
-// Puts a level with its buses, its switches and its injections.
-fn add_level(
+// Puts the injections of the level at a place.
+fn add_items(
     alloc: Global,
     structure: &mut Structure,
-    level: &ConfiguredLevel,
-) -> Result<(), Memory> {
-    add_empty_level(alloc, structure, level)?;
-    add_buses(structure, level)?;
-    for switch in level.switches.slice() {
-        add_joint(structure, &level.id, switch)?;
-    }
-    for item in level.items.slice() {
-        add_item(alloc, structure, &level.id, item)?;
+    network: &ConfiguredNetwork,
+    place: usize,
+) -> Result<(), Memory>
+    requires translatable { IsTranslatable network.now }
+    requires place { place < length network.now.levels }
+    requires structure { structure.old ≡ with_items network.now place 0 }
+    ensures { OnOk result (structure.new ≡ translated (first_levels network.now (place + 1))) }
+{
+    let count = network.levels.slice()[place].items.len();
+    for own in 0..count {
+        add_item(alloc, structure, network, place, own)?;
     }
     Ok(())
 }
 
-// An end of a line at a node of its level.
-fn end_at(end: &BusEnd, node: i64) -> Result<End, Memory> {
-    let level = end.level.copy()?;
-    Ok(End { level, node })
+// Puts the levels, each with its buses, its switches and its injections.
+fn add_levels(
+    alloc: Global,
+    structure: &mut Structure,
+    network: &ConfiguredNetwork,
+) -> Result<(), Memory>
+    requires translatable { IsTranslatable network.now }
+    requires structure { structure.old ≡ translated (first_levels network.now 0) }
+    ensures { OnOk result (structure.new ≡ with_lines network.now 0) }
+{
+    for place in 0..network.levels.len() {
+        add_home(alloc, structure, network, place)?;
+        add_buses(structure, network, place)?;
+        add_switches(structure, network, place)?;
+        add_items(alloc, structure, network, place)?;
+    }
+    Ok(())
+}
+
+// The end of a line at a node of its level.
+fn end_at(end: &BusEnd, node: i64) -> Result<End, Memory>
+    ensures { IfOk result (λ made. made ≡ record { level = end.now.level; node = node }) }
+{
+    Ok(End {
+        level: end.level.copy()?,
+        node,
+    })
 }
 
 // Puts a line at the next nodes of its levels, with the breakers of its ends.
-fn add_line(alloc: Global, structure: &mut Structure, line: &ConfiguredLine) -> Result<(), Memory> {
-    let node1 = next_node(structure, &line.end1.level);
-    let mut node2 = next_node(structure, &line.end2.level);
-    if line.end2.level.same(&line.end1.level) {
-        node2 += 1;
-    }
+fn add_line(
+    alloc: Global,
+    structure: &mut Structure,
+    network: &ConfiguredNetwork,
+    place: usize,
+) -> Result<(), Memory>
+    requires translatable { IsTranslatable network.now }
+    requires place { place < length network.now.lines }
+    requires structure { structure.old ≡ with_lines network.now place }
+    ensures { OnOk result (structure.new ≡ with_lines network.now (place + 1)) }
+{
+    let line = &network.lines.slice()[place];
+    let bus1 = bus_node(structure, &line.end1.bus);
+    let bus2 = bus_node(structure, &line.end2.bus);
+    let node1 = i64::from(next_node(structure, &line.end1.level));
+    let next = next_node(structure, &line.end2.level);
+    let behind = is_one(&line.end1.level, &line.end2.level);
+    let node2 = second_node(next, behind);
+    let breaker1 = reserved_id(alloc, &line.id, "1")?;
+    let breaker2 = reserved_id(alloc, &line.id, "2")?;
     let shape = Branch::Line {
         end1: end_at(&line.end1, node1)?,
         end2: end_at(&line.end2, node2)?,
     };
-    made(structure.add_branch(&line.id, &shape))?;
-    let first = &line.end1;
-    add_breaker(
-        alloc,
-        structure,
-        &line.id,
-        1,
-        &first.level,
-        &first.bus,
+    accepted(structure.add_switch(
+        &breaker1,
+        &line.end1.level,
+        SwitchKind::Breaker,
+        i64::from(bus1),
         node1,
-        first.connected,
-    )?;
-    let second = &line.end2;
-    add_breaker(
-        alloc,
-        structure,
-        &line.id,
-        2,
-        &second.level,
-        &second.bus,
+        !line.end1.connected,
+        false,
+        false,
+    ))?;
+    accepted(structure.add_switch(
+        &breaker2,
+        &line.end2.level,
+        SwitchKind::Breaker,
+        i64::from(bus2),
         node2,
-        second.connected,
-    )
+        !line.end2.connected,
+        false,
+        false,
+    ))?;
+    accepted(structure.add_branch(&line.id, &shape))
+}
+
+// Puts the lines.
+fn add_lines(
+    alloc: Global,
+    structure: &mut Structure,
+    network: &ConfiguredNetwork,
+) -> Result<(), Memory>
+    requires translatable { IsTranslatable network.now }
+    requires structure { structure.old ≡ with_lines network.now 0 }
+    ensures { OnOk result (structure.new ≡ translated network.now) }
+{
+    for place in 0..network.lines.len() {
+        add_line(alloc, structure, network, place)?;
+    }
+    Ok(())
 }
 
 /// A network in node/breaker form: each level in a substation of its own, whose id is the level's with `!S` behind it; each
@@ -199,11 +310,7 @@ pub fn translate(alloc: Global, network: &ConfiguredNetwork) -> Result<Structure
     ensures { IfOk result (λ structure. structure ≡ translated network.now) }
 {
     let mut structure = Structure::empty(alloc, network.id.copy()?);
-    for level in network.levels.slice() {
-        add_level(alloc, &mut structure, level)?;
-    }
-    for line in network.lines.slice() {
-        add_line(alloc, &mut structure, line)?;
-    }
+    add_levels(alloc, &mut structure, network)?;
+    add_lines(alloc, &mut structure, network)?;
     Ok(structure)
 }

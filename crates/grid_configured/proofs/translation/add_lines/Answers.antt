@@ -1,0 +1,10 @@
+use Rattle.std.proofs.Common.{◌≡◌, ◌≤◌, length, arith}
+use Rattle.grid_configured.proofs.Carried.{lines_done}
+use Rattle.grid_configured.proofs.translation.add_lines.Goals as goal
+
+pub returns : goal.returns
+returns c =
+    let e = c.len-place-end.ensures in
+    let le = c.loop-place.auto.place-end in
+    let end = c.loop-place-test.false in
+    lines_done c.args.network.now c.loop-place.structure c.loop-place.place (omega (arith, e, le)) (omega (arith, e, end)) c.loop-place.invariant
