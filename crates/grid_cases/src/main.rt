@@ -7,6 +7,8 @@ use grid_lines::{ending, usage_text};
 use grid_manager::Idle;
 use grid_source::{SureSink, SureSource};
 use std::alloc::Global;
+use std::sync::Wait;
+use std::thread::Threads;
 use std::{fs, io};
 
 /// What a run has come to.
@@ -67,15 +69,26 @@ fn told(alloc: Global, status: Status) -> io::Result<(u8, String)> {
 }
 
 /// What the words make of a job.
-fn run(rt: &HostRuntime, words: &str, job: Vec<u8>) -> io::Result<Ending> {
-    let alloc = rt.alloc();
+fn run<R: Threads + Wait + Sync>(
+    threads: &R,
+    alloc: Global,
+    words: &str,
+    job: Vec<u8>,
+) -> io::Result<Ending> {
     let mut list = Vec::new(alloc);
     for word in words.split_whitespace() {
         list.push(String::from_str(alloc, word)?)?;
     }
     let mut source = SureSource::new(job, 4096);
     let mut sink = SureSink::new(Vec::new(alloc), 4096);
-    let status = grid(rt, alloc, list.as_slice(), &mut source, &mut sink, &Idle);
+    let status = grid(
+        threads,
+        alloc,
+        list.as_slice(),
+        &mut source,
+        &mut sink,
+        &Idle,
+    );
     let fault = fault_of(alloc, &status)?;
     let (status, line) = told(alloc, status)?;
     Ok(Ending {
@@ -87,9 +100,14 @@ fn run(rt: &HostRuntime, words: &str, job: Vec<u8>) -> io::Result<Ending> {
 }
 
 /// Where a case comes to something else than it must, in words.
-fn difference(rt: &HostRuntime, name: &str) -> io::Result<Option<&'static str>> {
+fn difference<R: Threads + Wait + Sync>(
+    rt: &HostRuntime,
+    threads: &R,
+    name: &str,
+) -> io::Result<Option<&'static str>> {
     let words = text_of(rt, name, "words")?;
-    let ending = run(rt, words.as_str(), part(rt, name, "job.json")?)?;
+    let job = part(rt, name, "job.json")?;
+    let ending = run(threads, rt.alloc(), words.as_str(), job)?;
     let status = text_of(rt, name, "status")?;
     if status.trim().parse::<u8>().ok() != Some(ending.status) {
         return Ok(Some("another exit status"));
@@ -124,7 +142,7 @@ fn show_lines(rt: &HostRuntime) -> io::Result<()> {
 fn main(rt: HostRuntime) -> io::Result<()> {
     let mut failed = 0u64;
     for name in names(&rt)? {
-        match difference(&rt, name.as_str())? {
+        match difference(&rt, &rt, name.as_str())? {
             None => println!(rt; "{name}")?,
             Some(why) => {
                 failed = failed.saturating_add(1);
