@@ -36,8 +36,8 @@ asked_alike worker (e ∷ journal) [] even = absurd (omega (arith, even))
 asked_alike worker (e ∷ journal) (r ∷ replies) even = by (e.worker == worker) (asked_alike worker journal replies (omega (arith, even)))
   where
     by : (b : Bool) → map (λ (t : Told). t.request) (filter (λ (t : Told). t.worker == worker) (map told_pair (zip journal replies))) ≡ map (λ (x : Entry). x.request) (filter (λ (x : Entry). x.worker == worker) journal)
-       → map (λ (t : Told). t.request) (cond b (told_pair (e, r) ∷ filter (λ (t : Told). t.worker == worker) (map told_pair (zip journal replies))) (filter (λ (t : Told). t.worker == worker) (map told_pair (zip journal replies))))
-       ≡ map (λ (x : Entry). x.request) (cond b (e ∷ filter (λ (x : Entry). x.worker == worker) journal) (filter (λ (x : Entry). x.worker == worker) journal))
+        → map (λ (t : Told). t.request) (cond b (told_pair (e, r) ∷ filter (λ (t : Told). t.worker == worker) (map told_pair (zip journal replies))) (filter (λ (t : Told). t.worker == worker) (map told_pair (zip journal replies))))
+        ≡ map (λ (x : Entry). x.request) (cond b (e ∷ filter (λ (x : Entry). x.worker == worker) journal) (filter (λ (x : Entry). x.worker == worker) journal))
     by true rest = ap (λ l. e.request ∷ l) rest
     by false rest = rest
 
