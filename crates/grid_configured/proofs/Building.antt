@@ -452,8 +452,8 @@ module _ (n : ConfiguredNetwork) (ls : List ConfiguredLevel) (l : ConfiguredLeve
         let own_w : same_id l.id w.id ≡ true = ap (same_id l.id) (alone_id part) ∙ same_itself l.id in
         let P : List VoltageLevel → Type 0 = λ z. Free z [] t.id in
         let free = subst P (part_changed part refl (switch_more s))
-            (free_switched n.id (alone_levels ls ++ v ∷ []) [] t.id l.id s (part_free part refl t.id marked item_fresh)
-            (plain_apart t.id s.id marked (ap is_marked (breaker_tagged (record { equipment = t.id; side = 1 })) ∙ tagged_marked t.id (decimal 1)))) in
+        (free_switched n.id (alone_levels ls ++ v ∷ []) [] t.id l.id s (part_free part refl t.id marked item_fresh)
+        (plain_apart t.id s.id marked (ap is_marked (breaker_tagged (record { equipment = t.id; side = 1 })) ∙ tagged_marked t.id (decimal 1)))) in
         let fits = terminal_fit w p (switch_under v s nodes_under (omega (arith, place, few)) few) (placed_below (alone part) fit (next_node (alone part)) (omega arith)) few in
         injection_added n.id (alone_levels ls ++ w ∷ []) [] l.id w (at_last l.id (alone_levels ls) w own_w others) (placed_more p) (λ v. refl) t.id (pos (next_node (alone part))) t.item free r.fault fits
         ∙ ap (λ z. Ok (stack n.id z [])) (changed_last l.id (placed_more p) (alone_levels ls) w own_w others)

@@ -106,10 +106,10 @@ tagged_is_id id tag text is plain valid short clean =
     let some : eqb (length text) 0 ≡ false = ne_eqb (length text) 0 (λ e. absurd (omega (arith, a, b, c, d, e))) in
     let fits : nat_lt 128 (length text) ≡ false = le-ltb 128 (length text) (omega (arith, a, b, c, d, few, short)) in
     let none : find is_control text ≡ None =
-        ap (find is_control) is
-        ∙ find-append is_control (id ++ codes "!") tag
-        ∙ ap (λ z. option_or z (find is_control tag)) (find-append is_control id (codes "!") ∙ ap (λ z. option_or z (find is_control (codes "!"))) (no_control id valid))
-        ∙ clean in
+    ap (find is_control) is
+    ∙ find-append is_control (id ++ codes "!") tag
+    ∙ ap (λ z. option_or z (find is_control tag)) (find-append is_control id (codes "!") ∙ ap (λ z. option_or z (find is_control (codes "!"))) (no_control id valid))
+    ∙ clean in
     rw (some, fits, none) refl
 
 -- ---- a level's home
@@ -238,9 +238,10 @@ module _ (n : ConfiguredNetwork) (i : ℕ) (line : ConfiguredLine) (h : LineAt n
   steps = line_steps n i line h
 
   pub line_there : ((IsSome (sites.site old line.end1.bus 1) × IsSome (sites.site old line.end2.bus 1)) × (IsSome (sites.level_named old line.end1.level) × IsSome (sites.level_named old line.end2.level)))
-  line_there =
-      ((site_there old line.end1.bus _ (ap (λ z. sites.site z line.end1.bus 1) is ∙ steps.site1), site_there old line.end2.bus _ (ap (λ z. sites.site z line.end2.bus 1) is ∙ steps.site2)),
-      (level_there old line.end1.level _ (ap (λ z. sites.level_named z line.end1.level) is ∙ steps.named1), level_there old line.end2.level _ (ap (λ z. sites.level_named z line.end2.level) is ∙ steps.named2)))
+  line_there = (
+    (site_there old line.end1.bus _ (ap (λ z. sites.site z line.end1.bus 1) is ∙ steps.site1), site_there old line.end2.bus _ (ap (λ z. sites.site z line.end2.bus 1) is ∙ steps.site2)),
+    (level_there old line.end1.level _ (ap (λ z. sites.level_named z line.end1.level) is ∙ steps.named1), level_there old line.end2.level _ (ap (λ z. sites.level_named z line.end2.level) is ∙ steps.named2)),
+  )
 
   module _ (bus1 bus2 count1 count2 : ℕ) (b1 b2 z1 z2 : ℤ) (at1 : IfSome (sites.site old line.end1.bus 1) (λ at. bus1 ≡ at.1)) (at2 : IfSome (sites.site old line.end2.bus 1) (λ at. bus2 ≡ at.1))
       (next1 : IfSome (sites.level_named old line.end1.level) (λ level. count1 ≡ length (nodes level))) (next2 : IfSome (sites.level_named old line.end2.level) (λ level. count2 ≡ length (nodes level)))

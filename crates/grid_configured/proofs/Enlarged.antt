@@ -96,7 +96,7 @@ unfolding level_with_switch edge_fits nodes with_node rising
 switch_fits v s under one two apart few =
     let count : length (edges v) < max_edges = (let e = length-edges v in let f : length v.internals ≡ 0 = ap length under.internals in omega (arith, e, f, few)) in
     let all : length (with_node s.node1 (with_node s.node2 (rising (named v)))) ≤ max_nodes =
-        few_below max_nodes (s.node1 ∷ s.node2 ∷ named v) (and_from (nat_lt s.node1 max_nodes) _ (lt-ltb s.node1 max_nodes one) (and_from (nat_lt s.node2 max_nodes) _ (lt-ltb s.node2 max_nodes two) (named_below max_nodes v under))) in
+    few_below max_nodes (s.node1 ∷ s.node2 ∷ named v) (and_from (nat_lt s.node1 max_nodes) _ (lt-ltb s.node1 max_nodes one) (and_from (nat_lt s.node2 max_nodes) _ (lt-ltb s.node2 max_nodes two) (named_below max_nodes v under))) in
     rw (node_inside s.node1 one, node_inside s.node2 two, ne_eqb s.node1 s.node2 apart, lt-leb max_edges (length (edges v)) count, le-ltb max_nodes (length (with_node s.node1 (with_node s.node2 (rising (named v))))) all) refl
 
 pub switch_under : (v : VoltageLevel) (s : Switch) → Under max_nodes v → s.node1 < max_nodes → s.node2 < max_nodes → Under max_nodes (switch_more s v)
@@ -193,15 +193,15 @@ bus_grown level id none =
     let more : enumerate_from 0 (level.buses ++ id ∷ []) ≡ enumerate_from 0 level.buses ++ (length level.buses, id) ∷ [] = (let e : 0 + length level.buses ≡ length level.buses = omega arith in numbers_more 0 level.buses id ∙ ap (λ z. enumerate_from 0 level.buses ++ (z, id) ∷ []) e) in
     let es = enumerate_from 0 level.buses in
     let one : (map bus_section es ++ map outlet_placed (enumerate_from (length level.buses) level.outlets)) ++ bus_section (length level.buses, id) ∷ [] ≡ map bus_section (enumerate_from 0 (level.buses ++ id ∷ [])) ++ map outlet_placed (enumerate_from (length (level.buses ++ id ∷ [])) level.outlets) =
-        ap (λ z. (map bus_section es ++ map outlet_placed (enumerate_from (length level.buses) z)) ++ bus_section (length level.buses, id) ∷ []) none
-        ∙ ap (λ z. z ++ bus_section (length level.buses, id) ∷ []) (append-nil (map bus_section es))
-        ∙ sym (map-append bus_section es ((length level.buses, id) ∷ []))
-        ∙ ap (map bus_section) (sym more)
-        ∙ sym (append-nil (map bus_section (enumerate_from 0 (level.buses ++ id ∷ []))))
-        ∙ ap (λ z. map bus_section (enumerate_from 0 (level.buses ++ id ∷ [])) ++ map outlet_placed (enumerate_from (length (level.buses ++ id ∷ [])) z)) (sym none) in
+    ap (λ z. (map bus_section es ++ map outlet_placed (enumerate_from (length level.buses) z)) ++ bus_section (length level.buses, id) ∷ []) none
+    ∙ ap (λ z. z ++ bus_section (length level.buses, id) ∷ []) (append-nil (map bus_section es))
+    ∙ sym (map-append bus_section es ((length level.buses, id) ∷ []))
+    ∙ ap (map bus_section) (sym more)
+    ∙ sym (append-nil (map bus_section (enumerate_from 0 (level.buses ++ id ∷ []))))
+    ∙ ap (λ z. map bus_section (enumerate_from 0 (level.buses ++ id ∷ [])) ++ map outlet_placed (enumerate_from (length (level.buses ++ id ∷ [])) z)) (sym none) in
     let two : map joint_breaker level.joints ++ map outlet_breaker (enumerate_from (length level.buses) level.outlets) ≡ map joint_breaker level.joints ++ map outlet_breaker (enumerate_from (length (level.buses ++ id ∷ [])) level.outlets) =
-        ap (λ z. map joint_breaker level.joints ++ map outlet_breaker (enumerate_from (length level.buses) z)) none
-        ∙ ap (λ z. map joint_breaker level.joints ++ map outlet_breaker (enumerate_from (length (level.buses ++ id ∷ [])) z)) (sym none) in
+    ap (λ z. map joint_breaker level.joints ++ map outlet_breaker (enumerate_from (length level.buses) z)) none
+    ∙ ap (λ z. map joint_breaker level.joints ++ map outlet_breaker (enumerate_from (length (level.buses ++ id ∷ [])) z)) (sym none) in
     ap (λ z. record (translated_level level) { placed = z }) one
     ∙ ap (λ z. record (translated_level level) { switches = z; placed = map bus_section (enumerate_from 0 (level.buses ++ id ∷ [])) ++ map outlet_placed (enumerate_from (length (level.buses ++ id ∷ [])) level.outlets) }) two
 

@@ -92,10 +92,10 @@ module _ (n : ConfiguredNetwork) (k : ℕ) (l : ConfiguredLevel) (h : LevelAt n 
         let once = level_once bus in
         let fewer_ids = fewer bus in
         let few : times bus (ids_of (take k n.levels ++ part ∷ [])) ≤ 1 =
-            (let a = ap (times bus) (flat_map-append level_ids (take k n.levels) (part ∷ [])) in
-            let b = times-append bus (ids_of (take k n.levels)) (level_ids part ++ []) in
-            let c = ap (times bus) (append-nil (level_ids part)) in
-            omega (arith, once, fewer_ids, a, b, c)) in
+        (let a = ap (times bus) (flat_map-append level_ids (take k n.levels) (part ∷ [])) in
+        let b = times-append bus (ids_of (take k n.levels)) (level_ids part ++ []) in
+        let c = ap (times bus) (append-nil (level_ids part)) in
+        omega (arith, once, fewer_ids, a, b, c)) in
         let has_part : has_id part.buses bus ≡ true = ap (λ z. has_id z bus) same ∙ has in
         bus_site m plain_m bus refl (translated m) k part (levels_translated m) few (last_at (take k n.levels) part k (sym (take_length n.levels k l h.at))) has_part
         ∙ ap (λ z. Some (k, bus_place z bus)) same
@@ -120,14 +120,14 @@ module _ (n : ConfiguredNetwork) (k : ℕ) (l : ConfiguredLevel) (h : LevelAt n 
       let own = plain_here n k l h in
       ap (λ z. sites.site z bus 1) (part_is (λ level. first_switches level i) n k l h.at)
       ∙ part_site (first_switches l i) (fewer_ids (take i l.switches) [] (first_ids (λ (s : BusSwitch). s.id) l.switches i) (λ q. omega arith))
-        (record { own = own.own; buses = own.buses; switches = first_marked (λ (s : BusSwitch). s.id) l.switches i own.switches; items = tt }) refl bus has
+      (record { own = own.own; buses = own.buses; switches = first_marked (λ (s : BusSwitch). s.id) l.switches i own.switches; items = tt }) refl bus has
 
   pub items_site : (i : ℕ) (bus : List ℕ) → has_id l.buses bus ≡ true → sites.site (with_items n k i) bus 1 ≡ Some (k, bus_place l.buses bus)
   items_site i bus has =
       let own = plain_here n k l h in
       ap (λ z. sites.site z bus 1) (part_is (λ level. first_items level i) n k l h.at)
       ∙ part_site (first_items l i) (fewer_ids l.switches (take i l.items) (λ q. omega arith) (first_ids (λ (t : Item). t.id) l.items i))
-        (record { own = own.own; buses = own.buses; switches = own.switches; items = first_marked (λ (t : Item). t.id) l.items i own.items }) refl bus has
+      (record { own = own.own; buses = own.buses; switches = own.switches; items = first_marked (λ (t : Item). t.id) l.items i own.items }) refl bus has
 
   pub joint_sites : (i : ℕ) (s : BusSwitch) → slice_get l.switches i ≡ Some s → (sites.site (with_switches n k i) s.bus1 1 ≡ Some (k, bus_place l.buses s.bus1)) × (sites.site (with_switches n k i) s.bus2 1 ≡ Some (k, bus_place l.buses s.bus2))
   joint_sites i s at =

@@ -760,7 +760,7 @@ module _ (n : ConfiguredNetwork) (line : ConfiguredLine) (right : line_check n.l
       let same_outlet : outlet2 ≡ o2 = ap (λ (z : ConfiguredLevel). record { terminal = record { equipment = line.id; side = 2 }; place = bus_place z.buses line.end2.bus; connected = line.end2.connected; stand = BranchEnd }) same in
       let pl = outlet_more outlet1 (placed_level n level1) in
       let node_two : node2 ≡ next_node pl =
-          (let x = ap (λ z. next_node (placed_level n z)) same in let y : ◌≡◌ {A = ℕ} (cond (same_id a b) 1 0) 1 = ap (λ t. cond t 1 0) at_one in let z = length-append (placed_level n level1).outlets (outlet1 ∷ []) in omega (arith, x, y, z)) in
+      (let x = ap (λ z. next_node (placed_level n z)) same in let y : ◌≡◌ {A = ℕ} (cond (same_id a b) 1 0) 1 = ap (λ t. cond t 1 0) at_one in let z = length-append (placed_level n level1).outlets (outlet1 ∷ []) in omega (arith, x, y, z)) in
       all_by (shape n level1) true true (ap (same_id a) (shape_id n level1) ∙ e) (ap (same_id b) (shape_id n level1) ∙ f)
       ∙ ap (λ z. placed_more (outlet_placed (z, outlet2)) (switch_more (outlet_breaker (z, outlet2)) (placed_more p1 (switch_more s1 (shape n level1))))) node_two
       ∙ ap (λ z. placed_more (outlet_placed (next_node pl, z)) (switch_more (outlet_breaker (next_node pl, z)) (placed_more p1 (switch_more s1 (shape n level1))))) same_outlet
@@ -796,7 +796,6 @@ module _ (n : ConfiguredNetwork) (line : ConfiguredLine) (right : line_check n.l
       ≡ Ok (stack n.id (shaped (record n { lines = n.lines ++ line ∷ [] })) (lines ++ record { id = line.id; shape = Line (record { level = line.end1.level; node = pos node1 }) (record { level = line.end2.level; node = pos node2 }) } ∷ []))
   line_placed = ends_placed ∙ ap (λ z. Ok (stack n.id z (lines ++ record { id = line.id; shape = Line (record { level = a; node = pos node1 }) (record { level = b; node = pos node2 }) } ∷ []))) all_grown
 
-
   -- ---- the nodes of the ends, whatever lines follow
 
   module _ (rest : List ConfiguredLine) where
@@ -821,7 +820,7 @@ module _ (n : ConfiguredNetwork) (line : ConfiguredLine) (right : line_check n.l
     terminal_at l id side k found at =
         ap (λ z. elim z [ None ↦ 0 | Some l ↦ length l.buses + unwrap_or (position (is_outlet line.id side) l.outlets) 0 ]) (find_placed whole id n.levels ∙ ap (option_map (placed_level whole)) found)
         ∙ ap (λ z. length l.buses + unwrap_or z 0)
-          (ap (position (is_outlet line.id side)) (outlets_whole l) ∙ position_behind (is_outlet line.id side) (outlets n l) (behind l) (others_at l id side found) ∙ ap (option_map (λ k. length (outlets n l) + k)) at)
+        (ap (position (is_outlet line.id side)) (outlets_whole l) ∙ position_behind (is_outlet line.id side) (outlets n l) (behind l) (others_at l id side found) ∙ ap (option_map (λ k. length (outlets n l) + k)) at)
         ∙ omega arith
 
     here_by : (side : ℕ) (t : Outlet) (ts : List Outlet) → is_outlet line.id side t ≡ true → position (is_outlet line.id side) (t ∷ ts) ≡ Some 0
@@ -856,7 +855,7 @@ module _ (n : ConfiguredNetwork) (line : ConfiguredLine) (right : line_check n.l
         ap (λ z. position (is_outlet line.id 2) ((z ++ end_outlets level2 line.id 2 line.end2) ++ flat_map (line_outlets level2) rest)) (end_here level2 1 line.end1 e)
         ∙ ap (λ z. position (is_outlet line.id 2) ((record { terminal = record { equipment = line.id; side = 1 }; place = bus_place level2.buses line.end1.bus; connected = line.end1.connected; stand = BranchEnd } ∷ z) ++ flat_map (line_outlets level2) rest)) (end_here level2 2 line.end2 f)
         ∙ next_by 2 0 (record { terminal = record { equipment = line.id; side = 1 }; place = bus_place level2.buses line.end1.bus; connected = line.end1.connected; stand = BranchEnd }) (outlet2 ∷ flat_map (line_outlets level2) rest) (not_second (bus_place level2.buses line.end1.bus) line.end1.connected)
-          (here_by 2 outlet2 (flat_map (line_outlets level2) rest) (is_second (bus_place level2.buses line.end2.bus) line.end2.connected))
+        (here_by 2 outlet2 (flat_map (line_outlets level2) rest) (is_second (bus_place level2.buses line.end2.bus) line.end2.connected))
     second_by false e =
         let f = found_own b level2 n.levels found2 in
         ap (λ z. position (is_outlet line.id 2) ((z ++ end_outlets level2 line.id 2 line.end2) ++ flat_map (line_outlets level2) rest)) (end_away level2 1 line.end1 e)

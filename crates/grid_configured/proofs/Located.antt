@@ -112,7 +112,7 @@ switch_found network id plain =
     ap (first_found 0 (λ (l : VoltageLevel). position (λ s. same_id id s.id) l.switches)) (levels_are network)
     ∙ found_mapped 0 (λ (l : VoltageLevel). position (λ s. same_id id s.id) l.switches) translated_level (placed_levels network)
     ∙ found_alike 0 (λ (l : PlacedLevel). position (λ s. same_id id s.id) (translated_level l).switches) (λ (l : PlacedLevel). position (is_joint id) l.joints)
-      (λ l. position_front (λ (s : Switch). same_id id s.id) joint_breaker l.joints (map outlet_breaker (outlets_at l)) (no_breaker id (outlets_at l) plain)) (placed_levels network)
+    (λ l. position_front (λ (s : Switch). same_id id s.id) joint_breaker l.joints (map outlet_breaker (outlets_at l)) (no_breaker id (outlets_at l) plain)) (placed_levels network)
 
 -- ---- equipment
 

@@ -118,7 +118,7 @@ module _ (n : ConfiguredNetwork) (plain : PlainNetwork n) (bus : List ℕ) (line
       let one = there bus m.buses has_m in
       let items = absent_by bus (map (λ (t : Item). t.id) m.items) (omega (arith, few, all, own, one)) in
       let test : level_test bus 1 (placed_level n m) ≡ Some (bus_place l.buses bus) =
-          tests_at bus (placed_level n m) (outlets_of n m bus plain p.0 items lines) ∙ ap (position (same_id bus)) (buses_same n m) ∙ place_found m.buses bus has_m ∙ ap (λ (z : ConfiguredLevel). Some (bus_place z.buses bus)) same in
+      tests_at bus (placed_level n m) (outlets_of n m bus plain p.0 items lines) ∙ ap (position (same_id bus)) (buses_same n m) ∙ place_found m.buses bus has_m ∙ ap (λ (z : ConfiguredLevel). Some (bus_place z.buses bus)) same in
       let zero_more : from ≡ from + 0 = omega arith in
       (omega (arith, all, own, one), ap (λ z. elim z [ Some y ↦ Some (from, y) | None ↦ first_found (from + 1) (level_test bus 1) (map (placed_level n) ls) ]) test ∙ ap (λ z. Some (z, bus_place l.buses bus)) zero_more)
   site_from from (m ∷ ls) (suc k) l p few at has =
@@ -128,7 +128,7 @@ module _ (n : ConfiguredNetwork) (plain : PlainNetwork n) (bus : List ℕ) (line
       let one = rest.0 in
       let f = fresh_in m bus (absent_by bus (level_ids m) (omega (arith, few, all, one))) in
       let test : level_test bus 1 (placed_level n m) ≡ None =
-          tests_at bus (placed_level n m) (outlets_of n m bus plain p.0 f.items lines) ∙ ap (position (same_id bus)) (buses_same n m) ∙ place_absent m.buses bus f.buses in
+      tests_at bus (placed_level n m) (outlets_of n m bus plain p.0 f.items lines) ∙ ap (position (same_id bus)) (buses_same n m) ∙ place_absent m.buses bus f.buses in
       let suc_more : from + 1 + k ≡ from + suc k = omega arith in
       (omega (arith, all, one), ap (λ z. elim z [ Some y ↦ Some (from, y) | None ↦ first_found (from + 1) (level_test bus 1) (map (placed_level n) ls) ]) test ∙ rest.1 ∙ ap (λ z. Some (z, bus_place l.buses bus)) suc_more)
 

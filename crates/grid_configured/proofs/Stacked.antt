@@ -315,8 +315,8 @@ module _ (name : List ℕ) (vs : List VoltageLevel) (lines : List NamedBranch) (
   level_added nominal_v free other right few =
       let apart : has_id (map (λ (s : Substation). s.id) (map lone vs)) (substation_id id) ≡ false = homes_stack (substation_id id) vs home_free.each in
       let not_home : has_id (map (λ (s : Substation). s.id) (map lone vs ++ bare (substation_id id) ∷ [])) id ≡ false =
-          ap (λ z. has_id z id) (map-append (λ (s : Substation). s.id) (map lone vs) (bare (substation_id id) ∷ []))
-          ∙ join_free (map (λ (s : Substation). s.id) (map lone vs)) (substation_id id ∷ []) id (homes_stack id vs free.each) (neither (same_id id (substation_id id)) false other refl) in
+      ap (λ z. has_id z id) (map-append (λ (s : Substation). s.id) (map lone vs) (bare (substation_id id) ∷ []))
+      ∙ join_free (map (λ (s : Substation). s.id) (map lone vs)) (substation_id id ∷ []) id (homes_stack id vs free.each) (neither (same_id id (substation_id id)) false other refl) in
       let count : length (levels housed) < max_levels = (let e = ap length levels_housed in omega (arith, e, few)) in
       rw (free_net housed vs lines id levels_housed branches_housed not_home free, find_last (bare (substation_id id)) (map lone vs) apart, lt-leb max_levels (length (levels housed)) count, right)
       (ap (λ z. Ok (record { id = name; substations = z; lines = lines }))

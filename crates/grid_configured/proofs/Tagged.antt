@@ -243,9 +243,10 @@ each_tagged : (n : ConfiguredNetwork) (ls : List ConfiguredLevel) (id text : Lis
     → Each PlainLevel ls → Each (λ l. FreshIn l id) ls → Each (Lacks (tagged id text)) (map translated_level (map (placed_level n) ls))
 unfolding outlets
 each_tagged n [] id text p none lines plain h = tt
-each_tagged n (l ∷ ls) id text p none lines plain h =
-    (lacks_tagged n l id text p h.0 plain.0 (each_join (Other id) (map (item_outlet l) l.items) (flat_map (line_outlets l) n.lines) (items_other l id l.items h.0.items plain.0.items) (lines_other l id n.lines none lines)),
-    each_tagged n ls id text p none lines plain.1 h.1)
+each_tagged n (l ∷ ls) id text p none lines plain h = (
+  lacks_tagged n l id text p h.0 plain.0 (each_join (Other id) (map (item_outlet l) l.items) (flat_map (line_outlets l) n.lines) (items_other l id l.items h.0.items plain.0.items) (lines_other l id n.lines none lines)),
+  each_tagged n ls id text p none lines plain.1 h.1,
+)
 
 -- what the form adds for an id that is new
 pub free_tagged : (n : ConfiguredNetwork) (id text : List ℕ) → PlainNetwork n → Unmarked id → Fresh n id → Free (shaped n) (shaped_lines n) (tagged id text)
@@ -259,9 +260,10 @@ outlets_from : (n : ConfiguredNetwork) (ls : List ConfiguredLevel) (id : List �
     → Each PlainLevel ls → Each (λ l. FreshIn l id) ls → Each (λ l. Each (Other id) (outlets n l)) ls
 unfolding outlets
 outlets_from n [] id none lines plain h = tt
-outlets_from n (l ∷ ls) id none lines plain h =
-    (each_join (Other id) (map (item_outlet l) l.items) (flat_map (line_outlets l) n.lines) (items_other l id l.items h.0.items plain.0.items) (lines_other l id n.lines none lines),
-    outlets_from n ls id none lines plain.1 h.1)
+outlets_from n (l ∷ ls) id none lines plain h = (
+  each_join (Other id) (map (item_outlet l) l.items) (flat_map (line_outlets l) n.lines) (items_other l id l.items h.0.items plain.0.items) (lines_other l id n.lines none lines),
+  outlets_from n ls id none lines plain.1 h.1,
+)
 
 -- no terminal is of a new id
 pub outlets_other : (n : ConfiguredNetwork) (id : List ℕ) → PlainNetwork n → Fresh n id → Each (λ l. Each (Other id) (outlets n l)) n.levels
