@@ -149,9 +149,9 @@ module _ (level : PlacedLevel) (fit : PlacesFit level) where
       ∙ map-append (λ (p : Placed). p.terminal) (map bus_section (sections level a)) (map outlet_placed (feeders level a))
       ∙ ap (λ z. z ++ map (λ (p : Placed). p.terminal) (map outlet_placed (feeders level a))) (map_map (λ (p : Placed). p.terminal) bus_section (sections level a))
       ∙ ap (λ z. map (λ (e : ℕ × List ℕ). (bus_section e).terminal) (sections level a) ++ z)
-      (map_map (λ (p : Placed). p.terminal) outlet_placed (feeders level a)
-      ∙ sym (map_map (λ (t : Outlet). t.terminal) (λ (e : ℕ × Outlet). e.1) (feeders level a))
-      ∙ ap (map (λ (t : Outlet). t.terminal)) (outlets_are a))
+        (map_map (λ (p : Placed). p.terminal) outlet_placed (feeders level a)
+        ∙ sym (map_map (λ (t : Outlet). t.terminal) (λ (e : ℕ × Outlet). e.1) (feeders level a))
+        ∙ ap (map (λ (t : Outlet). t.terminal)) (outlets_are a))
 
   sum_is : (test : Stand → Bool) → test Busbar ≡ false → (a : ℕ) → a < length level.buses
       → watts_over test (fed_among (translated_level level) (record_watts (translated_level level)) (group_under bus (translated_level level) a)) ≡ outlet_watts test (outlets_among level (joined_places level a))
@@ -187,4 +187,4 @@ module _ (level : PlacedLevel) (fit : PlacesFit level) where
       (map_map (told_bus (length level.buses)) (bus_of (translated_level level) (record_watts (translated_level level))) (filter (is_bus (translated_level level)) (leaders bus (translated_level level)))
       ∙ ap (map (λ a. told_bus (length level.buses) (bus_of (translated_level level) (record_watts (translated_level level)) a))) (view_places level fit)
       ∙ map_In (λ a. told_bus (length level.buses) (bus_of (translated_level level) (record_watts (translated_level level)) a)) (configured_bus level) (filter (is_view_bus level) (first_places level))
-      (λ n i. bus_told n (places_In n (length level.buses) (filter_In (is_least (places (length level.buses)) (closed_pairs level)) n (places (length level.buses)) (filter_In (is_view_bus level) n (first_places level) i)))))
+        (λ n i. bus_told n (places_In n (length level.buses) (filter_In (is_least (places (length level.buses)) (closed_pairs level)) n (places (length level.buses)) (filter_In (is_view_bus level) n (first_places level) i)))))
