@@ -70,7 +70,7 @@ no_line id side level (line ∷ lines) none at =
     let parts = or_parts (same_id id line.id) (list_any (same_id id) (map (λ l. l.id) lines)) none in
     ap (λ z. find (placed_test id side) (map outlet_placed (enumerate_from at z))) (append_assoc (end_outlets level line.id 1 line.end1) (end_outlets level line.id 2 line.end2) (flat_map (line_outlets level) lines))
     ∙ no_end id side at level line.id 1 line.end1 (end_outlets level line.id 2 line.end2 ++ flat_map (line_outlets level) lines) parts.0
-    (λ from. no_end id side from level line.id 2 line.end2 (flat_map (line_outlets level) lines) parts.0 (no_line id side level lines parts.1))
+      (λ from. no_end id side from level line.id 2 line.end2 (flat_map (line_outlets level) lines) parts.0 (no_line id side level lines parts.1))
 
 -- ---- where a bus is
 
@@ -144,12 +144,9 @@ module _ (network : ConfiguredNetwork) (id : List ℕ) (side : ℕ) (no_lines : 
   first_bus from l rest more (Some p) None e f k = absurd (some_none p.node f)
   first_bus from l rest more None (Some n) e f k = absurd (some_none n (sym f))
   first_bus from l rest more None None e f (inl h) =
-      inl (
-        h.0,
-        λ one. has_join l.buses (flat_map (λ l. l.buses) rest) id
-            ∙ ap (λ t. t || has_id (flat_map (λ l. l.buses) rest) id) (no_bus id 0 l.buses (let P : ℕ → Type 0 = λ z. find (placed_test id z) (map bus_section (enumerate_from 0 l.buses)) ≡ None in subst P one e))
-            ∙ h.1 one,
-      )
+      inl (h.0, λ one. has_join l.buses (flat_map (λ l. l.buses) rest) id
+      ∙ ap (λ t. t || has_id (flat_map (λ l. l.buses) rest) id) (no_bus id 0 l.buses (let P : ℕ → Type 0 = λ z. find (placed_test id z) (map bus_section (enumerate_from 0 l.buses)) ≡ None in subst P one e))
+      ∙ h.1 one)
   first_bus from l rest more None None e f (inr a) = inr (next_bus rest (placed_level network l) from more a)
 
   bus_from : (from : ℕ) (ls : List ConfiguredLevel) → has_id (flat_map (λ l. map (λ i. i.id) l.items) ls) id ≡ false

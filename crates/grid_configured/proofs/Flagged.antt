@@ -61,7 +61,7 @@ unfolding levels.positioned translated_level stood outlets_at
 level_positioned level opened connected e f =
     let long = length-map level.joints joint_breaker in
     let switches : levels.with_opened (map joint_breaker level.joints ++ map outlet_breaker (enumerate_from (length level.buses) level.outlets)) (opened ++ map not connected)
-    ≡ map joint_breaker (with_opened level.joints opened) ++ map outlet_breaker (enumerate_from (length level.buses) (with_connected level.outlets connected))
+        ≡ map joint_breaker (with_opened level.joints opened) ++ map outlet_breaker (enumerate_from (length level.buses) (with_connected level.outlets connected))
     = opened_apart (map joint_breaker level.joints) (map outlet_breaker (enumerate_from (length level.buses) level.outlets)) opened (map not connected) (omega (arith, e, long))
     ∙ ap (λ z. z ++ levels.with_opened (map outlet_breaker (enumerate_from (length level.buses) level.outlets)) (map not connected)) (joints_flagged level.joints opened e)
     ∙ ap (λ z. map joint_breaker (with_opened level.joints opened) ++ z) (outlets_flagged (length level.buses) level.outlets connected f) in

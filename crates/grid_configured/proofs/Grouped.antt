@@ -120,11 +120,11 @@ module _ (level : PlacedLevel) (fit : PlacesFit level) where
       let test : Placed → Bool = λ p. list_any (λ n. eqb p.node n) (group_under bus (translated_level level) a) in
       filter-append test (map bus_section (enumerate_from 0 level.buses)) (map outlet_placed (enumerate_from (length level.buses) level.outlets))
       ∙ ap (λ z. z ++ filter test (map outlet_placed (enumerate_from (length level.buses) level.outlets)))
-      (filter_map_of test bus_section (enumerate_from 0 level.buses)
-      ∙ ap (map bus_section) (filter_numbered (λ e. test (bus_section e)) (at_places (joined_places level a)) 0 level.buses (section_test a lt)))
+        (filter_map_of test bus_section (enumerate_from 0 level.buses)
+        ∙ ap (map bus_section) (filter_numbered (λ e. test (bus_section e)) (at_places (joined_places level a)) 0 level.buses (section_test a lt)))
       ∙ ap (λ z. map bus_section (filter (at_places (joined_places level a)) (enumerate_from 0 level.buses)) ++ z)
-      (filter_map_of test outlet_placed (enumerate_from (length level.buses) level.outlets)
-      ∙ ap (map outlet_placed) (filter_numbered (λ e. test (outlet_placed e)) (at_nodes (joined_places level a)) (length level.buses) level.outlets (feeder_test a lt)))
+        (filter_map_of test outlet_placed (enumerate_from (length level.buses) level.outlets)
+        ∙ ap (map outlet_placed) (filter_numbered (λ e. test (outlet_placed e)) (at_nodes (joined_places level a)) (length level.buses) level.outlets (feeder_test a lt)))
 
   -- ---- a node alone
 
@@ -136,10 +136,10 @@ module _ (level : PlacedLevel) (fit : PlacesFit level) where
       let test : Placed → Bool = λ p. list_any (λ n. eqb p.node n) group in
       filter-append test (map bus_section (enumerate_from 0 level.buses)) (map outlet_placed (enumerate_from (length level.buses) level.outlets))
       ∙ ap (λ z. z ++ filter test (map outlet_placed (enumerate_from (length level.buses) level.outlets)))
-      (filter_map_of test bus_section (enumerate_from 0 level.buses)
-      ∙ ap (map bus_section) (filter_numbered (λ e. test (bus_section e)) (λ e. false) 0 level.buses (λ k d less. only (0 + k) (omega (arith, less)) ∙ ne_eqb y (0 + k) (λ e. omega (arith, e, b, less))) ∙ none_pass (enumerate_from 0 level.buses)))
+        (filter_map_of test bus_section (enumerate_from 0 level.buses)
+        ∙ ap (map bus_section) (filter_numbered (λ e. test (bus_section e)) (λ e. false) 0 level.buses (λ k d less. only (0 + k) (omega (arith, less)) ∙ ne_eqb y (0 + k) (λ e. omega (arith, e, b, less))) ∙ none_pass (enumerate_from 0 level.buses)))
       ∙ (filter_map_of test outlet_placed (enumerate_from (length level.buses) level.outlets)
-      ∙ ap (map outlet_placed) (filter_numbered (λ e. test (outlet_placed e)) (λ e. eqb y e.0) (length level.buses) level.outlets (λ k d less. only (length level.buses + k) (omega (arith, less)))))
+        ∙ ap (map outlet_placed) (filter_numbered (λ e. test (outlet_placed e)) (λ e. eqb y e.0) (length level.buses) level.outlets (λ k d less. only (length level.buses + k) (omega (arith, less)))))
     where
       none_pass : (es : List (ℕ × List ℕ)) → filter (λ e. false) es ≡ []
       none_pass [] = refl

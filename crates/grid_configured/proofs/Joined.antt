@@ -102,7 +102,7 @@ module _ (level : PlacedLevel) (fit : PlacesFit level) where
       ap not (ap (list_any (λ b. nat_lt b a && joined (places (node_total level)) (pairs_of level) a b)) (places_split level)
       ∙ list_any-append (λ b. nat_lt b a && joined (places (node_total level)) (pairs_of level) a b) (places (length level.buses)) (range_with_len (length level.buses) (length level.outlets))
       ∙ ap (λ t. list_any (λ b. nat_lt b a && joined (places (node_total level)) (pairs_of level) a b) (places (length level.buses)) || t)
-      (any_none (λ b. nat_lt b a && joined (places (node_total level)) (pairs_of level) a b) (range_with_len (length level.buses) (length level.outlets)) past)
+        (any_none (λ b. nat_lt b a && joined (places (node_total level)) (pairs_of level) a b) (range_with_len (length level.buses) (length level.outlets)) past)
       ∙ or_nothing (list_any (λ b. nat_lt b a && joined (places (node_total level)) (pairs_of level) a b) (places (length level.buses)))
       ∙ any_alike (λ b. nat_lt b a && joined (places (node_total level)) (pairs_of level) a b) (λ b. nat_lt b a && joined (places (length level.buses)) (closed_pairs level) a b) (places (length level.buses)) same)
     where

@@ -44,7 +44,7 @@ no_core level =
     ∙ ap (map (λ s. ends (switch_edge s)))
     (filter-append (switch_passes core) (map joint_breaker level.joints) (map outlet_breaker (outlets_at level))
     ∙ ap (λ z. z ++ filter (switch_passes core) (map outlet_breaker (outlets_at level)))
-    (filter_map_of (switch_passes core) joint_breaker level.joints ∙ ap (map joint_breaker) (none_kept (λ j. switch_passes core (joint_breaker j)) (λ j. and_right (not j.opened) false refl) level.joints))
+      (filter_map_of (switch_passes core) joint_breaker level.joints ∙ ap (map joint_breaker) (none_kept (λ j. switch_passes core (joint_breaker j)) (λ j. and_right (not j.opened) false refl) level.joints))
     ∙ filter_map_of (switch_passes core) outlet_breaker (outlets_at level)
     ∙ ap (map outlet_breaker) (none_kept (λ e. switch_passes core (outlet_breaker e)) (λ e. and_right (not (not e.1.connected)) false refl) (outlets_at level)))
 
@@ -195,16 +195,11 @@ section_found : (group : List ℕ) (a count at : ℕ) (xs : List (List ℕ)) →
 unfolding bus_section is_busbar has_node
 section_found group a count at [] le lt few only = absurd (omega (arith, le, lt))
 section_found group a count at (x ∷ xs) le lt few only = elim (cases_eq a at) [
-  | inl e ↦ (
-    bus_section (at, x),
-    ap (λ t. find (λ p. is_busbar p.stand) (cond t (bus_section (at, x) ∷ filter (λ p. list_any (λ n. eqb p.node n) group) (map bus_section (enumerate_from (at + 1) xs))) (filter (λ p. list_any (λ n. eqb p.node n) group) (map bus_section (enumerate_from (at + 1) xs)))))
-        (only.has at (omega (arith, few)) ∙ eq-eqb a at e),
-  )
-  | inr ne ↦ (let r = section_found group a count (at + 1) xs (omega (arith, le, ne)) (omega (arith, lt)) (omega (arith, few)) only in (
-    r.0,
-    ap (λ t. find (λ p. is_busbar p.stand) (cond t (bus_section (at, x) ∷ filter (λ p. list_any (λ n. eqb p.node n) group) (map bus_section (enumerate_from (at + 1) xs))) (filter (λ p. list_any (λ n. eqb p.node n) group) (map bus_section (enumerate_from (at + 1) xs)))))
-        (only.has at (omega (arith, few)) ∙ ne_eqb a at ne) ∙ r.1,
-  ))
+  | inl e ↦ (bus_section (at, x), ap (λ t. find (λ p. is_busbar p.stand) (cond t (bus_section (at, x) ∷ filter (λ p. list_any (λ n. eqb p.node n) group) (map bus_section (enumerate_from (at + 1) xs))) (filter (λ p. list_any (λ n. eqb p.node n) group) (map bus_section (enumerate_from (at + 1) xs)))))
+      (only.has at (omega (arith, few)) ∙ eq-eqb a at e))
+  | inr ne ↦ (let r = section_found group a count (at + 1) xs (omega (arith, le, ne)) (omega (arith, lt)) (omega (arith, few)) only in
+      (r.0, ap (λ t. find (λ p. is_busbar p.stand) (cond t (bus_section (at, x) ∷ filter (λ p. list_any (λ n. eqb p.node n) group) (map bus_section (enumerate_from (at + 1) xs))) (filter (λ p. list_any (λ n. eqb p.node n) group) (map bus_section (enumerate_from (at + 1) xs)))))
+      (only.has at (omega (arith, few)) ∙ ne_eqb a at ne) ∙ r.1))
 ]
 
 found_first : (o q : Option Placed) (p : Placed) → o ≡ Some p → option_or o q ≡ Some p
@@ -217,17 +212,13 @@ module _ (level : PlacedLevel) (fit : PlacesFit level) (a : ℕ) (lt : a < lengt
   bus_bar =
       let group = core_of (translated_level level) a in
       let test : Placed → Bool = λ p. list_any (λ n. eqb p.node n) group in
-      let r = section_found group a (node_total level) 0 level.buses (omega arith) (omega (arith, lt)) (omega arith) (record { has = λ n less. in_core level fit a n less }) in (
-        r.0,
-        ap (find (λ p. is_busbar p.stand)) (filter-append test (map bus_section (enumerate_from 0 level.buses)) (map outlet_placed (outlets_at level)))
-            ∙ find-append (λ p. is_busbar p.stand) (filter test (map bus_section (enumerate_from 0 level.buses))) (filter test (map outlet_placed (outlets_at level)))
-            ∙ found_first (find (λ p. is_busbar p.stand) (filter test (map bus_section (enumerate_from 0 level.buses)))) (find (λ p. is_busbar p.stand) (filter test (map outlet_placed (outlets_at level)))) r.0 r.1,
-      )
+      let r = section_found group a (node_total level) 0 level.buses (omega arith) (omega (arith, lt)) (omega arith) (record { has = λ n less. in_core level fit a n less }) in
+      (r.0, ap (find (λ p. is_busbar p.stand)) (filter-append test (map bus_section (enumerate_from 0 level.buses)) (map outlet_placed (outlets_at level)))
+      ∙ find-append (λ p. is_busbar p.stand) (filter test (map bus_section (enumerate_from 0 level.buses))) (filter test (map outlet_placed (outlets_at level)))
+      ∙ found_first (find (λ p. is_busbar p.stand) (filter test (map bus_section (enumerate_from 0 level.buses)))) (find (λ p. is_busbar p.stand) (filter test (map outlet_placed (outlets_at level)))) r.0 r.1)
 
   -- no breaker stands before a bus
   pub disconnect_bus : (t : Terminal) × (disconnect_plan_of (translated_level level) a ≡ NoBreaker t)
-  disconnect_bus = (
-    bus_bar.0.terminal,
-    disconnect_yes (translated_level level) a (bus_connected level fit a lt)
-        ∙ breaks (leaving (translated_level level) (core_of (translated_level level) a)) (core_busbar (translated_level level) (core_of (translated_level level) a)) bus_bar.0 bus_bar.1,
-  )
+  disconnect_bus =
+      (bus_bar.0.terminal, disconnect_yes (translated_level level) a (bus_connected level fit a lt)
+      ∙ breaks (leaving (translated_level level) (core_of (translated_level level) a)) (core_busbar (translated_level level) (core_of (translated_level level) a)) bus_bar.0 bus_bar.1)

@@ -100,13 +100,11 @@ module _ (count all : ℕ) (at : ℕ → ℕ) (on : ℕ → Bool) (closed spokes
   behind_reached : (a n : ℕ) → count ≤ n → reached a n ≡ true → (on n ≡ true) × (joined (places count) closed a (at n) ≡ true)
   unfolding reached
   behind_reached a n b r =
-      let parts = and_parts (nat_lt n count || on n) (joined (places count) closed a (home n)) r in (
-        elim (or_cases (nat_lt n count) (on n) parts.0) [
-          | inl h ↦ absurd (both_ways (nat_lt n count) (le-ltb n count b) h)
-          | inr h ↦ h
-        ],
-        sym (ap (joined (places count) closed a) (home_behind n b)) ∙ parts.1,
-      )
+      let parts = and_parts (nat_lt n count || on n) (joined (places count) closed a (home n)) r in
+      (elim (or_cases (nat_lt n count) (on n) parts.0) [
+        | inl h ↦ absurd (both_ways (nat_lt n count) (le-ltb n count b) h)
+        | inr h ↦ h
+      ], sym (ap (joined (places count) closed a) (home_behind n b)) ∙ parts.1)
 
   over_spoke : (a x c : ℕ) → reached a x ≡ true → HangsAt count all at on x c ⊎ HangsAt count all at on c x → reached a c ≡ true
   over_spoke a x c r (inl h) =
@@ -131,7 +129,7 @@ module _ (count all : ℕ) (at : ℕ → ℕ) (on : ℕ → Bool) (closed spokes
   more_joined a b lt j =
       j_along count closed within_places (joined (places all) (closed ++ spokes) a)
       (λ x c r i. let p = near_places x c i in let q : x < count = p.0 in
-      j_step all (closed ++ spokes) within_all a x c (omega (arith, lt, le)) (omega (arith, q, le)) r (near_first closed spokes x c i))
+          j_step all (closed ++ spokes) within_all a x c (omega (arith, lt, le)) (omega (arith, q, le)) r (near_first closed spokes x c i))
       a b (j_refl all (closed ++ spokes) within_all a) j
 
   -- two places are joined as without the nodes that hang
@@ -143,9 +141,9 @@ module _ (count all : ℕ) (at : ℕ → ℕ) (on : ℕ → Bool) (closed spokes
   behind_joined a y lt b less = same_test _ _
       (λ j. let r = behind_reached a y b (all_reached a y lt j) in and_from (on y) _ r.0 r.1)
       (λ j. let r = and_parts (on y) (joined (places count) closed a (at y)) j in
-      let inside : at y < count = hang.inside y b less r.0 in
-      j_step all (closed ++ spokes) within_all a (at y) y (omega (arith, lt, le)) (omega (arith, inside, le)) (more_joined a (at y) lt r.1)
-      (near_second closed spokes (at y) y (hang.there y b less r.0)))
+          let inside : at y < count = hang.inside y b less r.0 in
+          j_step all (closed ++ spokes) within_all a (at y) y (omega (arith, lt, le)) (omega (arith, inside, le)) (more_joined a (at y) lt r.1)
+          (near_second closed spokes (at y) y (hang.there y b less r.0)))
 
   -- a node that hangs is joined to its place
   pub hangs_joined : (y : ℕ) → count ≤ y → y < all → on y ≡ true → joined (places all) (closed ++ spokes) y (at y) ≡ true
@@ -168,10 +166,10 @@ module _ (count all : ℕ) (at : ℕ → ℕ) (on : ℕ → Bool) (closed spokes
   pub alone_joined : (y b : ℕ) → count ≤ y → on y ≡ false → joined (places all) (closed ++ spokes) y b ≡ eqb y b
   alone_joined y b behind off = same_test _ _
       (λ j. j_along all (closed ++ spokes) within_all (eqb y)
-      (λ x c e i. let same : y ≡ x = eqb-true y x e in
-      let P : ℕ → Type 0 = λ z. In c (neighbours (closed ++ spokes) z) in
-      absurd (alone_near y c behind off (subst P (sym same) i)))
-      y b (eq-eqb y y refl) j)
+          (λ x c e i. let same : y ≡ x = eqb-true y x e in
+              let P : ℕ → Type 0 = λ z. In c (neighbours (closed ++ spokes) z) in
+              absurd (alone_near y c behind off (subst P (sym same) i)))
+          y b (eq-eqb y y refl) j)
       (λ e. let same : y ≡ b = eqb-true y b e in
-      let P : ℕ → Type 0 = λ z. joined (places all) (closed ++ spokes) y z ≡ true in
-      subst P same (j_refl all (closed ++ spokes) within_all y))
+          let P : ℕ → Type 0 = λ z. joined (places all) (closed ++ spokes) y z ≡ true in
+          subst P same (j_refl all (closed ++ spokes) within_all y))

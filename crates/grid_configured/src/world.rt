@@ -149,18 +149,15 @@ impl ConfiguredWorld {
             return Ok(ConfiguredReply::Refused(Refusal::NoVariant));
         }
         match structure.find_level(level) {
-            Some(place) => Ok(ConfiguredReply::View(self.seen(self.world.opened(worker), place)?)),
+            Some(place) => Ok(ConfiguredReply::View(
+                self.seen(self.world.opened(worker), place)?,
+            )),
             None => Ok(ConfiguredReply::Refused(Refusal::NoLevel)),
         }
     }
 
     // A step that asks for the view of a level.
-    fn look(
-        &mut self,
-        worker: u32,
-        request: &Request,
-        level: &Id,
-    ) -> Result<ConfiguredReply, Memory>
+    fn look(&mut self, worker: u32, request: &Request, level: &Id) -> Result<ConfiguredReply, Memory>
         requires worker { worker < self.old.workers }
         requires view { request.now ≡ Request.BusView level.now }
         requires plain { IsConfiguredRequest request.now }
