@@ -20,8 +20,6 @@ mod report;
 mod seeing;
 mod seen;
 mod standing;
-#[cfg(test)]
-mod tests;
 mod texts;
 mod translation;
 mod view;
