@@ -3,5 +3,4 @@ pub mod Naming
 pub mod Numbering
 pub mod Seeing
 pub mod Stationed
-pub mod Whole
 pub mod Writing

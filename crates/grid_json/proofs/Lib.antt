@@ -5,3 +5,4 @@ pub mod Lengths
 pub mod Counts
 pub mod Loading
 pub mod Edited
+pub mod Results

@@ -24,4 +24,4 @@ pub use network::item_of;
 pub use place::Place;
 pub use read::{FromJson, member, member_otherwise, object, only, optional};
 pub use value::{ByteFault, value_of};
-pub use whole::{Job, JobFault, read_job, read_value};
+pub use whole::{Job, JobFault, job_member, read_job};
