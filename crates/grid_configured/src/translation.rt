@@ -1,8 +1,10 @@
 // A network with configured buses in node/breaker form, built by edits.
-ghost use Rattle.std.specs.Prelude.{◌≡◌, ◌<◌, ◌≤◌, ◌+◌, ◌++◌, length, slice_get, Some, None, IsSome, IfSome, IfOk, IfErr, IsOk, OnOk, IsTrue, codes, find, pos, cond};
+ghost use Rattle.std.specs.Prelude.{◌≡◌, ◌<◌, ◌≤◌, ◌+◌, ◌++◌, length, slice_get, Some, None, IsSome, IfSome, Ok, IfOk, IfErr, IsOk, OnOk, IsTrue, true, false, not, codes, find, pos, cond};
 ghost use Rattle.grid_ids.specs.Name.{same_id};
 ghost use Rattle.grid_ids.specs.Fault.{id_fault, is_control};
 ghost use Rattle.grid_level.specs.Passing.{nodes};
+ghost use Rattle.grid_structure.specs.Editing as editing;
+ghost use Rattle.grid_structure.specs.Editing.{IsTold};
 ghost use Rattle.grid_structure.specs.Sites as sites;
 ghost use Rattle.grid_configured.specs.Names.{is_plain};
 ghost use Rattle.grid_configured.specs.Checks.{IsTranslatable};
@@ -12,7 +14,7 @@ ghost use Rattle.grid_configured.specs.Partial.{first_levels, with_buses, with_s
 use crate::{BusEnd, ConfiguredNetwork};
 use grid_ids::{Duplicate, Id, IdFault, Memory, Same};
 use grid_kinds::SwitchKind;
-use grid_structure::{ApplyFault, Branch, End, Structure};
+use grid_structure::{ApplyFault, Branch, Edit, End, Structure};
 use std::alloc::Global;
 
 // An edit that no rule refuses.
@@ -236,6 +238,29 @@ fn end_at(end: &BusEnd, node: i64) -> Result<End, Memory>
     })
 }
 
+// Puts the breaker between the bus and the node of a line's end, closed where the end is connected.
+fn add_breaker(
+    structure: &mut Structure,
+    id: &Id,
+    end: &BusEnd,
+    bus: i64,
+    node: i64,
+) -> Result<(), ApplyFault>
+    ensures done { OnOk result (editing.apply structure.old (Edit.AddSwitch id.now end.now.level SwitchKind.Breaker bus node (not end.now.connected) false false) ≡ Ok structure.new) }
+    ensures refused { IfErr result (IsTold (editing.apply structure.old (Edit.AddSwitch id.now end.now.level SwitchKind.Breaker bus node (not end.now.connected) false false))) }
+{
+    structure.add_switch(
+        id,
+        &end.level,
+        SwitchKind::Breaker,
+        bus,
+        node,
+        !end.connected,
+        false,
+        false,
+    )
+}
+
 // Puts a line at the next nodes of its levels, with the breakers of its ends.
 fn add_line(
     alloc: Global,
@@ -261,26 +286,8 @@ fn add_line(
         end1: end_at(&line.end1, node1)?,
         end2: end_at(&line.end2, node2)?,
     };
-    accepted(structure.add_switch(
-        &breaker1,
-        &line.end1.level,
-        SwitchKind::Breaker,
-        i64::from(bus1),
-        node1,
-        !line.end1.connected,
-        false,
-        false,
-    ))?;
-    accepted(structure.add_switch(
-        &breaker2,
-        &line.end2.level,
-        SwitchKind::Breaker,
-        i64::from(bus2),
-        node2,
-        !line.end2.connected,
-        false,
-        false,
-    ))?;
+    accepted(add_breaker(structure, &breaker1, &line.end1, i64::from(bus1), node1))?;
+    accepted(add_breaker(structure, &breaker2, &line.end2, i64::from(bus2), node2))?;
     accepted(structure.add_branch(&line.id, &shape))
 }
 
