@@ -45,3 +45,30 @@ pub(crate) fn commands(alloc: Global, count: u32) -> io::Result<Option<Status>> 
     text.push_str("]]}")?;
     checked(alloc, text.into_bytes())
 }
+
+/// A switch of a job's text, by its number.
+fn put_switch(text: &mut String, alloc: Global, number: u32) -> io::Result<()> {
+    let switch = format!(in alloc; r#"{{"id":"W{number}","kind":"BREAKER","node1":0,"node2":1}}"#)?;
+    text.push_str(switch.as_str())?;
+    Ok(())
+}
+
+/// How a check of a job ends whose network has this many switches, 4,000 in each level, where nothing is written.
+pub(crate) fn switches(alloc: Global, count: u32) -> io::Result<Option<Status>> {
+    let mut text = String::from_str(
+        alloc,
+        r#"{"format":1,"network":{"id":"N","substations":[{"id":"S","levels":["#,
+    )?;
+    for number in 0..count {
+        if number % 4_000 == 0 {
+            text.push_str(if number == 0 { "" } else { "]}," })?;
+            let level = format!(in alloc; r#"{{"id":"L{number}","nominal_v":1,"switches":["#)?;
+            text.push_str(level.as_str())?;
+        } else {
+            text.push_str(",")?;
+        }
+        put_switch(&mut text, alloc, number)?;
+    }
+    text.push_str("]}]}]}}")?;
+    checked(alloc, text.into_bytes())
+}

@@ -169,6 +169,22 @@ fn show_cases<R: Threads + Wait + Sync>(rt: &HostRuntime, threads: &R) -> io::Re
     println!(rt; "{failed} failed")
 }
 
+/// Prints how a check of a job with so many things ended.
+fn show_checked(
+    rt: &HostRuntime,
+    count: u32,
+    what: &str,
+    status: &Option<Status>,
+) -> io::Result<()> {
+    match status {
+        Some(status) => {
+            let fault = fault_of(rt.alloc(), status)?;
+            println!(rt; "{count} {what}: {fault}")
+        }
+        None => println!(rt; "{count} {what}: accepted"),
+    }
+}
+
 /// Prints what comes of broken input of which no single case tells enough.
 fn show_broken(rt: &HostRuntime) -> io::Result<()> {
     let alloc = rt.alloc();
@@ -178,13 +194,10 @@ fn show_broken(rt: &HostRuntime) -> io::Result<()> {
         None => println!(rt; "a beginning of a job is not refused as no JSON")?,
     }
     for count in [20_000, 20_001] {
-        match broken::commands(alloc, count)? {
-            Some(status) => {
-                let fault = fault_of(alloc, &status)?;
-                println!(rt; "{count} commands: {fault}")?
-            }
-            None => println!(rt; "{count} commands: accepted")?,
-        }
+        show_checked(rt, count, "commands", &broken::commands(alloc, count)?)?;
+    }
+    for count in [200_000, 200_001] {
+        show_checked(rt, count, "switches", &broken::switches(alloc, count)?)?;
     }
     Ok(())
 }
