@@ -21,7 +21,7 @@ use Rattle.grid_json.specs.Seen.{Knows}
 use Rattle.grid_configured.specs.Standing.{IsTally, Stands, count_at, tally_at, tally_of}
 use Rattle.grid_configured.proofs.Ends.{after_none}
 use Rattle.grid_configured.proofs.LevelParts.{parts_alike}
-use Rattle.grid_json.proofs.SeenIds.{has-append, knows-append, same_flip}
+use Rattle.grid_json.proofs.IdSets.{has-append, knows-append, same_flip}
 use Rattle.grid_configured.proofs.Tables.{no_count, no_tally}
 
 -- ---- nothing stands

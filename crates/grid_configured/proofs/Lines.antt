@@ -14,7 +14,7 @@ use Rattle.grid_configured.specs.declared.standing.Standing.{Standing}
 use Rattle.grid_configured.specs.Checks.{end_check, id_reasons, ids_of, line_check, line_ends, line_ids}
 use Rattle.grid_json.specs.Seen.{Knows}
 use Rattle.grid_configured.specs.Standing.{Stands}
-use Rattle.grid_json.proofs.SeenIds.{knows-append}
+use Rattle.grid_json.proofs.IdSets.{knows-append}
 
 -- ---- one line more
 

@@ -9,7 +9,7 @@ use Rattle.grid_json.specs.declared.fault.ReadError.TheVariants as errors
 use Rattle.grid_ids.specs.Name.{has_id}
 use Rattle.grid_json.specs.Reading.{Fails, IsUnder, placed}
 use Rattle.grid_json.specs.Seen.{Knows}
-use Rattle.grid_json.proofs.SeenIds.{knows-append}
+use Rattle.grid_json.proofs.IdSets.{knows-append}
 use Rattle.grid_structure.specs.Network.{Network}
 use Rattle.grid_hvdc.specs.declared.HvdcLine.{HvdcLine}
 use Rattle.grid_hvdc.specs.Checks.{id_check, station_check, line_check, line_ids, line_stations, lines_check}

@@ -6,4 +6,4 @@ pub mod Counts
 pub mod Loading
 pub mod Edited
 pub mod Results
-pub mod SeenIds
+pub mod IdSets

@@ -1,4 +1,4 @@
-use Rattle.grid_json.proofs.SeenIds.{new_told, key_added}
+use Rattle.grid_json.proofs.IdSets.{new_told, key_added}
 use Rattle.grid_json.proofs.seen.SeenIds.add.Goals as goal
 use Rattle.grid_json.proofs.seen.SeenIds.add.Goals.{in-Ok, in-Err}
 

@@ -1,6 +1,6 @@
 use Rattle.std.proofs.Common.{ap, ◌∙◌}
 use Rattle.grid_ids.specs.Name.{has_id}
-use Rattle.grid_json.proofs.SeenIds.{key_found}
+use Rattle.grid_json.proofs.IdSets.{key_found}
 use Rattle.grid_json.proofs.seen.SeenIds.has.Goals as goal
 
 pub returns : goal.returns
