@@ -4,7 +4,7 @@
 use grid_cli::Status;
 use grid_lines::{Fault, ending, usage_text};
 use grid_manager::Idle;
-use grid_source::{StdSink, StdSource};
+use grid_source::{KeepingSource, StdSink, StdSource};
 use std::process::ExitCode;
 use std::{env, io};
 
@@ -27,7 +27,7 @@ fn words_of(rt: &HostRuntime) -> Result<Vec<String>, Status> {
 /// Tells a fault on standard error, and how the program is called where that is the fault.
 fn tell(rt: &HostRuntime, fault: &Fault) {
     let _ = eprintln!(rt; "{fault}");
-    if !matches!(fault, Fault::Usage) {
+    if !matches!(fault, Fault::Usage { .. }) {
         return;
     }
     if let Ok(usage) = usage_text(rt.alloc()) {
@@ -35,9 +35,9 @@ fn tell(rt: &HostRuntime, fault: &Fault) {
     }
 }
 
-/// Tells what a status has to tell, and gives its number.
-fn exit_with(rt: &HostRuntime, status: Status) -> ExitCode {
-    let (code, fault) = ending(status);
+/// Tells what a status of these words and this input has to tell, and gives its number.
+fn exit_with(rt: &HostRuntime, words: &[String], status: Status, input: &[u8]) -> ExitCode {
+    let (code, fault) = ending(rt.alloc(), words, status, input);
     if let Some(fault) = fault {
         tell(rt, &fault);
     }
@@ -47,9 +47,9 @@ fn exit_with(rt: &HostRuntime, status: Status) -> ExitCode {
 fn main(rt: HostRuntime) -> ExitCode {
     let words = match words_of(&rt) {
         Ok(words) => words,
-        Err(status) => return exit_with(&rt, status),
+        Err(status) => return exit_with(&rt, &[], status, &[]),
     };
-    let mut source = StdSource::new(rt.reader());
+    let mut source = KeepingSource::new(rt.alloc(), StdSource::new(rt.reader()));
     let mut sink = StdSink::new(io::writer(&rt));
     let status = grid_cli::grid(
         &rt,
@@ -59,5 +59,6 @@ fn main(rt: HostRuntime) -> ExitCode {
         &mut sink,
         &Idle,
     );
-    exit_with(&rt, status)
+    let input = source.kept().unwrap_or(&[]);
+    exit_with(&rt, words.as_slice(), status, input)
 }

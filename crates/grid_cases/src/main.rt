@@ -5,7 +5,7 @@
 use grid_cli::{Status, grid};
 use grid_lines::{ending, usage_text};
 use grid_manager::Idle;
-use grid_source::{SureSink, SureSource};
+use grid_source::{KeepingSource, SureSink, SureSource};
 use std::alloc::Global;
 use std::sync::Wait;
 use std::thread::Threads;
@@ -60,8 +60,8 @@ fn fault_of(alloc: Global, status: &Status) -> io::Result<String> {
 }
 
 /// The exit status, and the line on standard error.
-fn told(alloc: Global, status: Status) -> io::Result<(u8, String)> {
-    let (number, fault) = ending(status);
+fn told(alloc: Global, words: &[String], status: Status, job: &[u8]) -> io::Result<(u8, String)> {
+    let (number, fault) = ending(alloc, words, status, job);
     match fault {
         Some(fault) => Ok((number, format!(in alloc; "{fault}")?)),
         None => Ok((number, String::new(alloc))),
@@ -79,7 +79,7 @@ fn run<R: Threads + Wait + Sync>(
     for word in words.split_whitespace() {
         list.push(String::from_str(alloc, word)?)?;
     }
-    let mut source = SureSource::new(job, 4096);
+    let mut source = KeepingSource::new(alloc, SureSource::new(job, 4096));
     let mut sink = SureSink::new(Vec::new(alloc), 4096);
     let status = grid(
         threads,
@@ -90,7 +90,7 @@ fn run<R: Threads + Wait + Sync>(
         &Idle,
     );
     let fault = fault_of(alloc, &status)?;
-    let (status, line) = told(alloc, status)?;
+    let (status, line) = told(alloc, list.as_slice(), status, source.kept().unwrap_or(&[]))?;
     Ok(Ending {
         status,
         fault,
@@ -132,7 +132,7 @@ fn show_lines(rt: &HostRuntime) -> io::Result<()> {
         Status::WriteFault,
         Status::NoMemory,
     ] {
-        let (number, line) = told(rt.alloc(), status)?;
+        let (number, line) = told(rt.alloc(), &[], status, &[])?;
         println!(rt; "{number} {line}")?;
     }
     let usage = usage_text(rt.alloc())?;

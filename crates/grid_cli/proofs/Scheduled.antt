@@ -26,17 +26,16 @@ use Rattle.grid_json.specs.Network.{network_at}
 use Rattle.grid_json.specs.Command.{command_at}
 use Rattle.grid_json.specs.Loading.{network_load}
 use Rattle.grid_json.specs.Job.{max_workers, max_commands, command_total, few_at, counted_scripts, workers_at, listeners_at, format_at, stands_for, is_worker, counts_from, is_order, natural_of, ordered, order_at, draft_at}
-use Rattle.grid_json.specs.Whole.{loaded, or_bad_job, draft_in, draft_of, job_in, job_of}
+use Rattle.grid_json.specs.Whole.{loaded, whole_job_at, or_bad_job, draft_in, draft_of, job_in, job_of}
+use Rattle.grid_json.proofs.Results.{all_counted, bound, either_read, inside, some_read}
 use Rattle.grid_report.specs.Histories.{IsOrder, chosen_order}
 use Rattle.grid_report.proofs.Turns.{turns_are_order}
 use Rattle.grid_hvdc.specs.declared.HvdcJob.{HvdcJob}
 use Rattle.grid_hvdc.specs.declared.HvdcLine.{HvdcLine}
 use Rattle.grid_hvdc.specs.Checks.{lines_check}
-use Rattle.grid_hvdc.specs.Jobs as jobs
 use Rattle.grid_hvdc.specs.Jobs.{line_at, hvdc_at, hvdc_job_in, hvdc_job_of}
 use Rattle.grid_screen.specs.declared.Contingency.{Contingency}
 use Rattle.grid_screen.specs.declared.ScreenJob.{ScreenJob}
-use Rattle.grid_screen.specs.Jobs as screens
 use Rattle.grid_screen.specs.Jobs.{contingencies_at, screen_at, screen_job_in, screen_job_of}
 use Rattle.grid_configured.specs.declared.network.ConfiguredJob.{ConfiguredJob}
 use Rattle.grid_configured.specs.Checks.{IsTranslatable}
@@ -127,21 +126,6 @@ given_orders scripts numbers is worker =
       | inr h ↦ beyond (length (map length scripts)) worker numbers parts.0 (rw many h) ∙ sym (ap length (script_at scripts worker ∙ get_or_past scripts worker [] h))
     ]
 
--- ---- what was read
-
-bound : {A B : Type 0} (first : Result A Fault) (rest : A → Result B Fault) (y : B) → (first >>= rest) ≡ Ok y → (x : A) × (first ≡ Ok x) × (rest x ≡ Ok y)
-bound (Ok x) rest y is = (x, refl, is)
-bound (Err fault) rest y is = cc
-
-inside : {A : Type 0} (name : List ℕ) (read : Result A Fault) (x : A) → under name read ≡ Ok x → read ≡ Ok x
-inside name (Ok y) x is = cc
-inside name (Err fault) x is = cc
-
--- a member that may be absent is the other value, or was read
-found : {A : Type 0} (otherwise : A) (read : Data → Result A Fault) (name : List ℕ) (member : Option Data) (x : A) → present_or otherwise read name member ≡ Ok x → (x ≡ otherwise) ⊎ ((d : Data) × (read d ≡ Ok x))
-found otherwise read name None x is = inl cc
-found otherwise read name (Some d) x is = inr (d, inside name (read d) x is)
-
 -- ---- the scripts
 
 as_many : {A : Type 0} (read : Data → Result A Fault) (ds : Items) (i : ℕ) (xs : List A) → items_at read i ds ≡ Ok xs → length xs ≡ items_len ds
@@ -163,12 +147,8 @@ few_of most reason read d xs is =
     let a = bound (or_fault WrongKind (as_array d)) (λ ds. if nat_lt most (items_len ds) then Err (here reason) else items_at read 0 ds) xs is in
     few_by most reason read a.0 xs (nat_lt most (items_len a.0)) refl a.2
 
-all_counted : (scripts counted : List (List Request)) (over : Bool) → cond over (Err (here TooManyCommands)) (Ok scripts) ≡ Ok counted → scripts ≡ counted
-all_counted scripts counted true is = cc
-all_counted scripts counted false is = cc
-
 few_scripts : (format : Format) (member : Option Data) (scripts : List (List Request)) → present_or [] (workers_at format) (codes "workers") member ≡ Ok scripts → length scripts ≤ max_workers
-few_scripts format member scripts is = elim (found [] (workers_at format) (codes "workers") member scripts is) [
+few_scripts format member scripts is = elim (either_read [] (workers_at format) (codes "workers") member scripts is) [
   | inl none ↦ omega (arith, ap length none)
   | inr read ↦
       let a = bound (few_at max_workers TooManyWorkers (array_at (command_at format)) read.0) counted_scripts scripts read.1 in
@@ -177,10 +157,6 @@ few_scripts format member scripts is = elim (found [] (workers_at format) (codes
 ]
 
 -- ---- the order
-
-some_read : {A : Type 0} (read : Result A Fault) (found : Option A) → some_of read ≡ Ok found → (x : A) × (read ≡ Ok x) × (found ≡ Some x)
-some_read (Ok x) found is = (x, refl, cc)
-some_read (Err fault) found is = cc
 
 in_order : (scripts : List (List Request)) (numbers : List ℤ) (order : List ℕ) (is_one : Bool) → is_order (map length scripts) numbers ≡ is_one
     → cond is_one (Ok (map natural_of numbers)) (Err (here Schedule)) ≡ Ok order → IsOrder scripts order
@@ -191,7 +167,7 @@ in_order scripts numbers order false is h = cc
 
 orders : (scripts : List (List Request)) (member : Option Data) (order : Option (List ℕ)) → present_or None (λ v. some_of (order_at scripts v)) (codes "order") member ≡ Ok order → IsOrder scripts (chosen_order scripts order)
 unfolding chosen_order
-orders scripts member order is = elim (found None (λ v. some_of (order_at scripts v)) (codes "order") member order is) [
+orders scripts member order is = elim (either_read None (λ v. some_of (order_at scripts v)) (codes "order") member order is) [
   | inl none ↦ rw none (turns_are_order scripts)
   | inr read ↦
       let a = some_read (order_at scripts read.0) order read.1 in
@@ -273,23 +249,17 @@ scheduled bytes job is =
     let a = of_draft (draft_in (reading bytes)) job is in
     of_loaded a.0 job (no_fault (loaded a.0) job a.2) (of_data (reading bytes) a.0 a.1)
 
--- ---- the job with HVDC lines
+-- ---- the job that is a member
 
-whole_scheduled : (d : Data) (job : Job) → jobs.whole_at d ≡ Ok job → IsScheduled job
-unfolding jobs.whole_at
+whole_scheduled : (d : Data) (job : Job) → whole_job_at d ≡ Ok job → IsScheduled job
+unfolding whole_job_at
 whole_scheduled d job is = let a = bound (draft_at d) loaded job is in of_loaded a.0 job a.2 (drafted d a.0 a.1)
 
-member_scheduled : (found : Option Data) (job : Job) → present jobs.whole_at (codes "job") found ≡ Ok job → IsScheduled job
+member_scheduled : (found : Option Data) (job : Job) → present whole_job_at (codes "job") found ≡ Ok job → IsScheduled job
 member_scheduled None job is = cc
-member_scheduled (Some d) job is = whole_scheduled d job (inside (codes "job") (jobs.whole_at d) job is)
+member_scheduled (Some d) job is = whole_scheduled d job (inside (codes "job") (whole_job_at d) job is)
 
-screen_whole_scheduled : (d : Data) (job : Job) → screens.whole_at d ≡ Ok job → IsScheduled job
-unfolding screens.whole_at
-screen_whole_scheduled d job is = let a = bound (draft_at d) loaded job is in of_loaded a.0 job a.2 (drafted d a.0 a.1)
-
-screen_member_scheduled : (found : Option Data) (job : Job) → present screens.whole_at (codes "job") found ≡ Ok job → IsScheduled job
-screen_member_scheduled None job is = cc
-screen_member_scheduled (Some d) job is = screen_whole_scheduled d job (inside (codes "job") (screens.whole_at d) job is)
+-- ---- with HVDC lines
 
 hvdc_made : Job → List HvdcLine → ⊤ → Result HvdcJob Fault
 hvdc_made job lines done = Ok (record { job = job; lines = lines })
@@ -301,13 +271,13 @@ hvdc_lined : Data → Job → Result HvdcJob Fault
 hvdc_lined d job = member_at (array_at line_at) (codes "hvdc") d >>= hvdc_checked job
 
 hvdc_known : Data → ⊤ → Result HvdcJob Fault
-hvdc_known d done = member_at jobs.whole_at (codes "job") d >>= hvdc_lined d
+hvdc_known d done = member_at whole_job_at (codes "job") d >>= hvdc_lined d
 
 hvdc_read : (d : Data) (hvdc : HvdcJob) → hvdc_at d ≡ Ok hvdc → IsScheduled hvdc.job
 unfolding hvdc_at hvdc_known hvdc_lined hvdc_checked hvdc_made
 hvdc_read d hvdc is =
     let a = bound (only_at (codes "job" ∷ codes "hvdc" ∷ []) d) (hvdc_known d) hvdc is in
-    let b = bound (member_at jobs.whole_at (codes "job") d) (hvdc_lined d) hvdc a.2 in
+    let b = bound (member_at whole_job_at (codes "job") d) (hvdc_lined d) hvdc a.2 in
     let c = bound (member_at (array_at line_at) (codes "hvdc") d) (hvdc_checked b.0) hvdc b.2 in
     let e = bound (under (codes "hvdc") (lines_check b.0.network [] 0 c.0)) (hvdc_made b.0 c.0) hvdc c.2 in
     let made : HvdcJob = record { job = b.0; lines = c.0 } in
@@ -331,17 +301,17 @@ screen_listed : Data → Job → Result ScreenJob Fault
 screen_listed d job = member_at contingencies_at (codes "contingencies") d >>= screen_made job
 
 screen_known : Data → ⊤ → Result ScreenJob Fault
-screen_known d done = member_at screens.whole_at (codes "job") d >>= screen_listed d
+screen_known d done = member_at whole_job_at (codes "job") d >>= screen_listed d
 
 screen_read : (d : Data) (screened : ScreenJob) → screen_at d ≡ Ok screened → IsScheduled screened.job
 unfolding screen_at screen_known screen_listed screen_made
 screen_read d screened is =
     let a = bound (only_at (codes "job" ∷ codes "contingencies" ∷ []) d) (screen_known d) screened is in
-    let b = bound (member_at screens.whole_at (codes "job") d) (screen_listed d) screened a.2 in
+    let b = bound (member_at whole_job_at (codes "job") d) (screen_listed d) screened a.2 in
     let c = bound (member_at contingencies_at (codes "contingencies") d) (screen_made b.0) screened b.2 in
     let made : ScreenJob = record { job = b.0; contingencies = c.0 } in
     let same : made ≡ screened = cc in
-    subst (λ (s : ScreenJob). IsScheduled s.job) same (screen_member_scheduled (get (codes "job") d) b.0 b.1)
+    subst (λ (s : ScreenJob). IsScheduled s.job) same (member_scheduled (get (codes "job") d) b.0 b.1)
 
 screen_of_data : (data_read : Option Data) (screened : ScreenJob) → screen_job_in data_read ≡ Ok screened → IsScheduled screened.job
 screen_of_data None screened is = cc

@@ -16,7 +16,7 @@ use Rattle.grid_configured.specs.declared.standing.Standing.{Standing}
 use Rattle.grid_configured.specs.declared.standing.Tally.{Tally}
 use Rattle.grid_configured.specs.Checks.{end_check, end_reasons, ends_in, level_edges, level_nodes, level_of, switch_total}
 use Rattle.grid_configured.specs.Standing.{IsTally, Stands, count_at, spot_of, tally_at}
-use Rattle.grid_configured.proofs.SeenIds.{same_flip}
+use Rattle.grid_json.proofs.SeenIds.{same_flip}
 
 -- ---- the level of an end
 

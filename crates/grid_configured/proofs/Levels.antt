@@ -17,11 +17,11 @@ use Rattle.grid_configured.specs.declared.network.ConfiguredLevel.{ConfiguredLev
 use Rattle.grid_configured.specs.declared.standing.Standing.{Standing}
 use Rattle.grid_configured.specs.declared.standing.Tally.{Tally}
 use Rattle.grid_configured.specs.Checks.{ends_in, ids_of, level_check, level_edges, level_ids, level_of, level_reasons, part_ids, parts_check, switch_total}
-use Rattle.grid_configured.specs.Seen.{Knows}
+use Rattle.grid_json.specs.Seen.{Knows}
 use Rattle.grid_configured.specs.Standing.{IsTally, Stands, count_at, tally_at, tally_of}
 use Rattle.grid_configured.proofs.Ends.{after_none}
 use Rattle.grid_configured.proofs.LevelParts.{parts_alike}
-use Rattle.grid_configured.proofs.SeenIds.{has-append, knows-append, same_flip}
+use Rattle.grid_json.proofs.SeenIds.{has-append, knows-append, same_flip}
 use Rattle.grid_configured.proofs.Tables.{no_count, no_tally}
 
 -- ---- nothing stands

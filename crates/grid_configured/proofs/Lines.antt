@@ -12,9 +12,9 @@ use Rattle.grid_configured.specs.declared.network.ConfiguredLevel.{ConfiguredLev
 use Rattle.grid_configured.specs.declared.network.ConfiguredLine.{ConfiguredLine}
 use Rattle.grid_configured.specs.declared.standing.Standing.{Standing}
 use Rattle.grid_configured.specs.Checks.{end_check, id_reasons, ids_of, line_check, line_ends, line_ids}
-use Rattle.grid_configured.specs.Seen.{Knows}
+use Rattle.grid_json.specs.Seen.{Knows}
 use Rattle.grid_configured.specs.Standing.{Stands}
-use Rattle.grid_configured.proofs.SeenIds.{knows-append}
+use Rattle.grid_json.proofs.SeenIds.{knows-append}
 
 -- ---- one line more
 

@@ -16,6 +16,7 @@ use Rattle.grid_json.specs.Job.{command_total, counted_scripts, few_at, is_order
 use Rattle.grid_json.specs.Kinds.{injection_kind_at}
 use Rattle.grid_json.specs.Network.{both, item_at, two_at, two_of}
 use Rattle.grid_json.specs.Reading.{◌>>=◌, array_at, flag_at, here, id_at, items_at, items_len, member_at, member_or, object_at, only_at, optional_at, or_fault, present, present_or, some_of, under, whole_at, word_at}
+use Rattle.grid_json.proofs.Results.{all_counted, bound, either_read, inside, member_read, some_read}
 use Rattle.grid_configured.specs.declared.commands.Verb.{Verb}
 use Rattle.grid_configured.specs.declared.commands.Verb.TheVariants as verbs
 use Rattle.grid_configured.specs.declared.network.BusEnd.{BusEnd}
@@ -27,20 +28,6 @@ use Rattle.grid_configured.specs.declared.network.Item.{Item}
 use Rattle.grid_configured.specs.Checks.{IsTranslatable, network_check}
 use Rattle.grid_configured.specs.Jobs.{IsOrdered, bus_switch_at, clone_at, command_at, command_names, end_at, injection_at, injection_names, level_at, level_names, line_at, named_at, network_at, plain_at, plain_or_reserved, request_at, sided_at, verb_words, workers_at}
 use Rattle.grid_configured.specs.Names.{IsConfiguredRequest, end_plain, is_plain, item_plain, level_plain, line_plain, network_plain, request_plain, switch_plain}
-
--- ---- what a reading that went well read
-
-pub bound : {A B : Type 0} (first : Result A Fault) (rest : A → Result B Fault) (y : B) → (first >>= rest) ≡ Ok y → (x : A) × (first ≡ Ok x) × (rest x ≡ Ok y)
-bound (Ok x) rest y is = (x, refl, is)
-bound (Err fault) rest y is = cc
-
-pub inside : {A : Type 0} (name : List ℕ) (read : Result A Fault) (x : A) → under name read ≡ Ok x → read ≡ Ok x
-inside name (Ok y) x is = cc
-inside name (Err fault) x is = cc
-
-pub member_read : {A : Type 0} (read : Data → Result A Fault) (name : List ℕ) (found : Option Data) (x : A) → present read name found ≡ Ok x → (d : Data) × (read d ≡ Ok x)
-member_read read name None x is = cc
-member_read read name (Some d) x is = (d, inside name (read d) x is)
 
 -- a value of a member keeps what each value that is read keeps
 member_keeps : {A : Type 0} (read : Data → Result A Fault) (keeps : A → Bool) → ((d : Data) (x : A) → read d ≡ Ok x → keeps x ≡ true) → (name : List ℕ) (d : Data) (x : A) → member_at read name d ≡ Ok x → keeps x ≡ true
@@ -245,23 +232,14 @@ few_keep : {A : Type 0} (most : ℕ) (reason : Reason) (read : Data → Result A
 few_keep most reason read keeps all ds xs true is = cc
 few_keep most reason read keeps all ds xs false is = items_keep read keeps all ds 0 xs is
 
-same_scripts : (scripts counted : List (List Request)) (over : Bool) → cond over (Err (here TooManyCommands)) (Ok scripts) ≡ Ok counted → scripts ≡ counted
-same_scripts scripts counted true is = cc
-same_scripts scripts counted false is = cc
-
 workers_read : (d : Data) (scripts : List (List Request)) → workers_at d ≡ Ok scripts → list_all (list_all request_plain) scripts ≡ true
 unfolding workers_at
 workers_read d scripts is =
     let few = bound (few_at max_workers TooManyWorkers (array_at command_at) d) counted_scripts scripts is in
     let listed = bound (or_fault WrongKind (as_array d)) (λ ds. if nat_lt max_workers (items_len ds) then Err (here TooManyWorkers) else items_at (array_at command_at) 0 ds) few.0 few.1 in
-    let same = same_scripts few.0 scripts (nat_lt max_commands (command_total few.0)) few.2 in
+    let same = all_counted few.0 scripts (nat_lt max_commands (command_total few.0)) few.2 in
     subst (λ z. list_all (list_all request_plain) z ≡ true) same
     (few_keep max_workers TooManyWorkers (array_at command_at) (list_all request_plain) (array_keeps command_at request_plain command_read) listed.0 few.0 (nat_lt max_workers (items_len listed.0)) listed.2)
-
--- a member that may be absent is the other value, or was read
-pub either_read : {A : Type 0} (otherwise : A) (read : Data → Result A Fault) (name : List ℕ) (found : Option Data) (x : A) → present_or otherwise read name found ≡ Ok x → (x ≡ otherwise) ⊎ ((d : Data) × (read d ≡ Ok x))
-either_read otherwise read name None x is = inl cc
-either_read otherwise read name (Some d) x is = inr (d, inside name (read d) x is)
 
 pub all_configured : (d : Data) (scripts : List (List Request)) → member_or [] workers_at (codes "workers") d ≡ Ok scripts → All (All IsConfiguredRequest) scripts
 all_configured d scripts is =
@@ -272,10 +250,6 @@ all_configured d scripts is =
     λ k script lt. AllPass-from_list_all request_plain (slice_index_or scripts k script) (AllPass-from_list_all (list_all request_plain) scripts kept k script lt)
 
 -- ---- the order
-
-pub some_read : {A : Type 0} (read : Result A Fault) (found : Option A) → some_of read ≡ Ok found → (x : A) × (read ≡ Ok x) × (found ≡ Some x)
-some_read (Ok x) found is = (x, refl, cc)
-some_read (Err fault) found is = cc
 
 order_kept : (scripts : List (List Request)) (numbers : List ℤ) (order : List ℕ) (is_one : Bool) → is_order (map length scripts) numbers ≡ is_one → cond is_one (Ok (map natural_of numbers)) (Err (here Schedule)) ≡ Ok order → IsOrdered scripts (Some order)
 order_kept scripts numbers order true is h = (numbers, is, cc)

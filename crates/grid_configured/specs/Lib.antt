@@ -10,7 +10,6 @@ pub mod Told
 pub mod Machine
 pub mod Histories
 pub mod Worlds
-pub mod Seen
 pub mod Standing
 pub mod Jobs
 pub mod Texts

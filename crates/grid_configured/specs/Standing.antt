@@ -10,7 +10,7 @@ use Rattle.grid_configured.specs.declared.standing.Spot.{Spot}
 use Rattle.grid_configured.specs.declared.standing.Standing.{Standing}
 use Rattle.grid_configured.specs.declared.standing.Tally.{Tally}
 use Rattle.grid_configured.specs.Checks.{ends_in, level_edges, level_nodes, level_of, switch_total}
-use Rattle.grid_configured.specs.Seen.{Knows}
+use Rattle.grid_json.specs.Seen.{Knows}
 
 -- ---- tables by ids
 

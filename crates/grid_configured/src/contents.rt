@@ -2,13 +2,12 @@
 ghost use Rattle.std.specs.Prelude.{◌≡◌, ◌+◌, ◌≤◌, [], ◌++◌, OnOk, codes, length};
 ghost use Rattle.grid_json.specs.Reading.{Gives};
 ghost use Rattle.grid_configured.specs.Checks.{bus_check, each_check, item_check, item_ids, level_edges, level_nodes, list_check, part_ids, parts_check, switch_check, switch_ids};
-ghost use Rattle.grid_configured.specs.Seen.{Knows};
+ghost use Rattle.grid_json.specs.Seen.{Knows};
 
 use crate::network::{BusSwitch, ConfiguredLevel, Item};
 use crate::reasons::{Counts, check_bus, check_item, check_switch};
-use crate::seen::SeenIds;
 use grid_ids::Id;
-use grid_json::ReadError;
+use grid_json::{ReadError, SeenIds};
 use std::alloc::Global;
 
 // Each bus of a level, at its position; they are put into `own` too.

@@ -18,7 +18,6 @@ mod replay;
 mod reply;
 mod report;
 mod seeing;
-mod seen;
 mod standing;
 mod texts;
 mod translation;

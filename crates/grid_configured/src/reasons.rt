@@ -5,12 +5,11 @@ ghost use Rattle.grid_ids.specs.Refusing.{refuse_by};
 ghost use Rattle.grid_kinds.specs.Records.{level_fault, injection_fault};
 ghost use Rattle.grid_json.specs.Reading.{Gives, here};
 ghost use Rattle.grid_configured.specs.Checks.{bus_reasons, buses_reasons, id_reasons, item_reasons, level_reasons, record_fault, switch_reasons, terminal_reasons};
-ghost use Rattle.grid_configured.specs.Seen.{Knows};
+ghost use Rattle.grid_json.specs.Seen.{Knows};
 
 use crate::network::{BusSwitch, ConfiguredLevel, Item};
-use crate::seen::SeenIds;
 use grid_ids::Id;
-use grid_json::{ReadError, Reason};
+use grid_json::{ReadError, Reason, SeenIds};
 use grid_kinds::{Injection, check_injection, check_level};
 use grid_structure::EditFault;
 use std::alloc::Global;

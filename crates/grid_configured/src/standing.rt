@@ -11,9 +11,8 @@ ghost use Rattle.grid_configured.specs.Standing.{Stands, count_at, spot_of, tall
 use crate::contents::check_contents;
 use crate::network::{BusEnd, ConfiguredLevel};
 use crate::reasons::{Counts, check_level_itself, check_terminal, refused};
-use crate::seen::SeenIds;
 use grid_ids::{Duplicate, Id, Memory};
-use grid_json::{ReadError, Reason};
+use grid_json::{ReadError, Reason, SeenIds};
 use grid_structure::EditFault;
 use std::alloc::Global;
 use std::collections::BTreeMap;

@@ -6,36 +6,63 @@ use Rattle.std.proofs.lemmas.Grind.{flat_map-append}
 use Rattle.grid_json.specs.declared.fault.Fault.{Fault}
 use Rattle.grid_json.specs.declared.fault.ReadError.{ReadError}
 use Rattle.grid_json.specs.declared.fault.ReadError.TheVariants as errors
+use Rattle.grid_ids.specs.Name.{has_id}
 use Rattle.grid_json.specs.Reading.{Fails, IsUnder, placed}
+use Rattle.grid_json.specs.Seen.{Knows}
+use Rattle.grid_json.proofs.SeenIds.{knows-append}
 use Rattle.grid_structure.specs.Network.{Network}
 use Rattle.grid_hvdc.specs.declared.HvdcLine.{HvdcLine}
-use Rattle.grid_hvdc.specs.Checks.{line_check, line_ids, line_stations, lines_check}
+use Rattle.grid_hvdc.specs.Checks.{id_check, station_check, line_check, line_ids, line_stations, lines_check}
 
 -- one line more
 next_line : (lines : List HvdcLine) (i : ℕ) (line : HvdcLine) → i < length lines → line ≡ get_or lines i line → take (i + 1) lines ≡ take i lines ++ line ∷ []
 next_line lines i line lt is = take_more lines i line lt ∙ ap (λ z. take i lines ++ z ∷ []) (sym is)
 
-pub ids_next : (lines : List HvdcLine) (i : ℕ) (line : HvdcLine) (ids now : List (List ℕ)) → i < length lines → line ≡ get_or lines i line → ids ≡ line_ids (take i lines) → now ≡ ids ++ line.id ∷ [] → now ≡ line_ids (take (i + 1) lines)
-ids_next lines i line ids now lt is so_far e =
-    e ∙ ap (λ z. z ++ line.id ∷ []) so_far ∙ sym (ap line_ids (next_line lines i line lt is) ∙ map-append (λ (l : HvdcLine). l.id) (take i lines) (line ∷ []))
+pub ids_next : (lines : List HvdcLine) (i : ℕ) (line : HvdcLine) (ids now : List (List ℕ)) → i < length lines → line ≡ get_or lines i line → Knows ids (line_ids (take i lines)) → Knows now (ids ++ line.id ∷ []) → Knows now (line_ids (take (i + 1) lines))
+ids_next lines i line ids now lt is so_far h q =
+    h q ∙ knows-append ids (line_ids (take i lines)) (line.id ∷ []) so_far q
+    ∙ sym (ap (λ z. has_id z q) (ap line_ids (next_line lines i line lt is) ∙ map-append (λ (l : HvdcLine). l.id) (take i lines) (line ∷ [])))
 
 both_names : (used : List (List ℕ)) (first second : List ℕ) → (used ++ first ∷ []) ++ second ∷ [] ≡ used ++ first ∷ second ∷ []
 both_names [] first second = refl
 both_names (id ∷ used) first second = ap (λ z. id ∷ z) (both_names used first second)
 
-pub stations_next : (lines : List HvdcLine) (i : ℕ) (line : HvdcLine) (used now : List (List ℕ)) → i < length lines → line ≡ get_or lines i line → used ≡ line_stations (take i lines)
-    → now ≡ (used ++ line.station1 ∷ []) ++ line.station2 ∷ [] → now ≡ line_stations (take (i + 1) lines)
-stations_next lines i line used now lt is so_far e =
-    e ∙ both_names used line.station1 line.station2 ∙ ap (λ z. z ++ line.station1 ∷ line.station2 ∷ []) so_far
-    ∙ sym (ap line_stations (next_line lines i line lt is) ∙ flat_map-append (λ (l : HvdcLine). l.station1 ∷ l.station2 ∷ []) (take i lines) (line ∷ []))
+pub stations_next : (lines : List HvdcLine) (i : ℕ) (line : HvdcLine) (used now : List (List ℕ)) → i < length lines → line ≡ get_or lines i line → Knows used (line_stations (take i lines))
+    → Knows now ((used ++ line.station1 ∷ []) ++ line.station2 ∷ []) → Knows now (line_stations (take (i + 1) lines))
+stations_next lines i line used now lt is so_far h q =
+    h q ∙ ap (λ z. has_id z q) (both_names used line.station1 line.station2) ∙ knows-append used (line_stations (take i lines)) (line.station1 ∷ line.station2 ∷ []) so_far q
+    ∙ sym (ap (λ z. has_id z q) (ap line_stations (next_line lines i line lt is) ∙ flat_map-append (λ (l : HvdcLine). l.station1 ∷ l.station2 ∷ []) (take i lines) (line ∷ [])))
+
+-- two ids more, one after the other
+pub known_twice : (used mid now : List (List ℕ)) (first second : List ℕ) → Knows mid (used ++ first ∷ []) → Knows now (mid ++ second ∷ []) → Knows now ((used ++ first ∷ []) ++ second ∷ [])
+known_twice used mid now first second one two q = two q ∙ knows-append mid (used ++ first ∷ []) (second ∷ []) one q
+
+-- ---- what is checked rests on which ids there are, not on their order
+
+id_alike : (net : Network) (ids other : List (List ℕ)) (id : List ℕ) → Knows ids other → id_check net ids id ≡ id_check net other id
+unfolding id_check
+id_alike net ids other id k = rw (k id) refl
+
+pub station_alike : (net : Network) (side : ℕ) (used other : List (List ℕ)) (id : List ℕ) → Knows used other → station_check net side used id ≡ station_check net side other id
+unfolding station_check
+station_alike net side used other id k = rw (k id) refl
+
+line_alike : (net : Network) (ids other used others : List (List ℕ)) (line : HvdcLine) → Knows ids other → Knows used others → line_check net ids used line ≡ line_check net other others line
+unfolding line_check
+line_alike net ids other used others line same_ids same_used =
+    rw (
+      id_alike net ids other line.id same_ids,
+      station_alike net 1 used others line.station1 same_used,
+      station_alike net 2 (used ++ line.station1 ∷ []) (others ++ line.station1 ∷ []) line.station2 (knows-append used others (line.station1 ∷ []) same_used),
+    ) refl
 
 module _ (net : Network) (lines : List HvdcLine) (i : ℕ) (line : HvdcLine) (ids used : List (List ℕ)) (total : Result ⊤ Fault) (lt : i < length lines) (is : line ≡ get_or lines i line)
-    (same_ids : ids ≡ line_ids (take i lines)) (same_used : used ≡ line_stations (take i lines)) (so_far : lines_check net (take i lines) i (drop i lines) ≡ total) where
+    (same_ids : Knows ids (line_ids (take i lines))) (same_used : Knows used (line_stations (take i lines))) (so_far : lines_check net (take i lines) i (drop i lines) ≡ total) where
   cut : drop i lines ≡ line ∷ drop (suc i) lines
   cut = drop-cons lines i line lt ∙ ap (λ w. w ∷ drop (suc i) lines) (sym is)
 
   checked : line_check net (line_ids (take i lines)) (line_stations (take i lines)) line ≡ line_check net ids used line
-  checked = ap (λ z. line_check net z (line_stations (take i lines)) line) (sym same_ids) ∙ ap (λ z. line_check net ids z line) (sym same_used)
+  checked = sym (line_alike net ids (line_ids (take i lines)) used (line_stations (take i lines)) line same_ids same_used)
 
   -- a line that is right
   pub goes_on : line_check net ids used line ≡ Ok tt → lines_check net (take (i + 1) lines) (i + 1) (drop (i + 1) lines) ≡ total

@@ -1,7 +1,5 @@
 pub mod Checking
 pub mod Naming
 pub mod Numbering
-pub mod Seeing
 pub mod Stationed
-pub mod Whole
 pub mod Writing

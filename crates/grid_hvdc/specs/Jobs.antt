@@ -2,13 +2,11 @@
 use Rattle.std.specs.Prelude.{ℕ, List, [], ◌∷◌, Option, Some, None, Result, Ok, Err, codes}
 use Rattle.serde_json.specs.Data.{Data}
 use Rattle.grid_json.specs.declared.fault.Fault.{Fault}
-use Rattle.grid_json.specs.declared.whole.Job.{Job}
 use Rattle.grid_json.specs.declared.whole.JobFault.{JobFault}
 use Rattle.grid_json.specs.declared.whole.JobFault.TheVariants.{BadJson}
 use Rattle.grid_json.specs.Bytes.{reading}
-use Rattle.grid_json.specs.Job.{draft_at}
 use Rattle.grid_json.specs.Reading.{◌>>=◌, id_at, array_at, member_at, only_at, under}
-use Rattle.grid_json.specs.Whole.{loaded, or_bad_job}
+use Rattle.grid_json.specs.Whole.{whole_job_at, or_bad_job}
 use Rattle.grid_hvdc.specs.declared.HvdcJob.{HvdcJob}
 use Rattle.grid_hvdc.specs.declared.HvdcLine.{HvdcLine}
 use Rattle.grid_hvdc.specs.Checks.{lines_check}
@@ -21,15 +19,11 @@ line_at d = do
   station2 ← member_at id_at (codes "station2") d
   Ok (record { id = id; station1 = station1; station2 = station2 })
 
--- the whole job of a value: both passes
-unfoldable pub whole_at : Data → Result Job Fault
-whole_at d = draft_at d >>= loaded
-
 -- the job is read whole before the lines; after all are read, the lines are held against the loaded network
 unfoldable pub hvdc_at : Data → Result HvdcJob Fault
 hvdc_at d = do
   _ ← only_at (codes "job" ∷ codes "hvdc" ∷ []) d
-  job ← member_at whole_at (codes "job") d
+  job ← member_at whole_job_at (codes "job") d
   lines ← member_at (array_at line_at) (codes "hvdc") d
   _ ← under (codes "hvdc") (lines_check job.network [] 0 lines)
   Ok (record { job = job; lines = lines })

@@ -2,6 +2,5 @@ pub mod Numbers
 pub mod Stations
 pub mod Names
 pub mod Texts
-pub mod Seen
 pub mod Checks
 pub mod Jobs

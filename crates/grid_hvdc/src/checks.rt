@@ -1,13 +1,13 @@
 // HVDC lines against the loaded network and against each other.
-ghost use Rattle.std.specs.Prelude.{◌≡◌, ◌∷◌, ◌++◌, [], OnOk};
+ghost use Rattle.std.specs.Prelude.{◌∷◌, ◌++◌, [], OnOk};
 ghost use Rattle.grid_json.specs.Reading.{Gives};
+ghost use Rattle.grid_json.specs.Seen.{Knows};
 ghost use Rattle.grid_hvdc.specs.Checks.{station_check, id_check, line_check, lines_check};
 
 use crate::HvdcLine;
-use crate::seen::SeenIds;
 use crate::stations::find_station;
 use grid_ids::Id;
-use grid_json::{ReadError, Reason};
+use grid_json::{ReadError, Reason, SeenIds};
 use grid_structure::Structure;
 use std::alloc::Global;
 
@@ -30,7 +30,7 @@ fn check_station(
     id: &Id,
 ) -> Result<(), ReadError>
     ensures check { Gives result (station_check structure.now side stations.old id.now) }
-    ensures named { OnOk result (stations.new ≡ stations.old ++ id.now ∷ []) }
+    ensures named { OnOk result (Knows stations.new (stations.old ++ id.now ∷ [])) }
 {
     if find_station(structure, id).is_none() {
         return Err(ReadError::here(alloc, Reason::NoStation { side }));
@@ -51,7 +51,7 @@ fn check_id(
     id: &Id,
 ) -> Result<(), ReadError>
     ensures check { Gives result (id_check structure.now ids.old id.now) }
-    ensures named { OnOk result (ids.new ≡ ids.old ++ id.now ∷ []) }
+    ensures named { OnOk result (Knows ids.new (ids.old ++ id.now ∷ [])) }
 {
     if structure.taken(id) {
         return Err(ReadError::here(alloc, Reason::HvdcIdTaken));
@@ -73,8 +73,8 @@ impl Named {
         line: &HvdcLine,
     ) -> Result<(), ReadError>
         ensures check { Gives result (line_check structure.now self.old.ids self.old.stations line.now) }
-        ensures ids { OnOk result (self.new.ids ≡ self.old.ids ++ line.now.id ∷ []) }
-        ensures stations { OnOk result (self.new.stations ≡ (self.old.stations ++ line.now.station1 ∷ []) ++ line.now.station2 ∷ []) }
+        ensures ids { OnOk result (Knows self.new.ids (self.old.ids ++ line.now.id ∷ [])) }
+        ensures stations { OnOk result (Knows self.new.stations ((self.old.stations ++ line.now.station1 ∷ []) ++ line.now.station2 ∷ [])) }
     {
         check_id(&mut self.ids, alloc, structure, &line.id)?;
         check_station(&mut self.stations, alloc, structure, 1, &line.station1)?;

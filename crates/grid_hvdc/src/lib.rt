@@ -7,7 +7,6 @@ pub mod laws;
 mod links;
 mod numbers;
 mod read;
-mod seen;
 mod stations;
 mod write;
 

@@ -2,16 +2,15 @@
 ghost use Rattle.std.specs.Prelude.{◌≤◌, [], IfOk, codes};
 ghost use Rattle.serde_json.specs.View.{view};
 ghost use Rattle.grid_json.specs.Job.{command_total, max_commands};
-ghost use Rattle.grid_json.specs.Reading.{Gives, member_at, under};
+ghost use Rattle.grid_json.specs.Reading.{Gives, under};
 ghost use Rattle.grid_json.specs.Whole.{JobGives};
 ghost use Rattle.grid_hvdc.specs.Checks.{lines_check};
-ghost use Rattle.grid_hvdc.specs.Jobs.{whole_at, hvdc_at, hvdc_job_of};
+ghost use Rattle.grid_hvdc.specs.Jobs.{hvdc_at, hvdc_job_of};
 
 use crate::checks::check_lines;
 use crate::{HvdcJob, HvdcLine, HvdcLines};
 use grid_json::{
-    ByteFault, Fault, Format, FromJson, Job, JobFault, ReadError, Reason, member, only, read_value,
-    value_of,
+    ByteFault, Format, FromJson, JobFault, ReadError, job_member, member, only, value_of,
 };
 use grid_structure::Structure;
 use serde_json::Value;
@@ -36,33 +35,6 @@ impl FromJson for HvdcLine {
     }
 }
 
-// The whole job of a value: both passes.
-fn read_whole(alloc: Global, value: &Value) -> Result<Job, ReadError>
-    ensures job { Gives result (whole_at (view value.now)) }
-    ensures total { IfOk result (λ job. command_total job.scripts ≤ max_commands) }
-{
-    match read_value(alloc, value) {
-        Ok(job) => Ok(job),
-        Err(JobFault::BadJson) => unreachable!(),
-        Err(JobFault::BadJob { place, reason }) => Err(ReadError::Fault(Fault { place, reason })),
-        Err(JobFault::Memory) => Err(ReadError::Memory),
-    }
-}
-
-// The member `job`, which must be there.
-fn job_of(alloc: Global, value: &Value) -> Result<Job, ReadError>
-    ensures job { Gives result (member_at whole_at (codes "job") (view value.now)) }
-    ensures total { IfOk result (λ job. command_total job.scripts ≤ max_commands) }
-{
-    match value.get("job") {
-        None => Err(ReadError::here(alloc, Reason::Missing).under(alloc, "job")),
-        Some(found) => match read_whole(alloc, found) {
-            Ok(job) => Ok(job),
-            Err(e) => Err(e.under(alloc, "job")),
-        },
-    }
-}
-
 // The lines fit the loaded network and each other.
 fn check_member(alloc: Global, structure: &Structure, lines: &[HvdcLine]) -> Result<(), ReadError>
     ensures { Gives result (under (codes "hvdc") (lines_check structure.now [] 0 lines.now)) }
@@ -80,7 +52,7 @@ fn read_root(alloc: Global, value: &Value) -> Result<HvdcJob, ReadError>
     ensures total { IfOk result (λ hvdc. command_total hvdc.job.scripts ≤ max_commands) }
 {
     only(alloc, value, &["job", "hvdc"])?;
-    let job = job_of(alloc, value)?;
+    let job = job_member(alloc, value)?;
     let lines: HvdcLines = member(alloc, Format::One, value, "hvdc")?;
     check_member(alloc, &job.network, lines.slice())?;
     Ok(HvdcJob { job, lines })

@@ -5,3 +5,5 @@ pub mod Lengths
 pub mod Counts
 pub mod Loading
 pub mod Edited
+pub mod Results
+pub mod SeenIds

@@ -1,3 +1,4 @@
+pub mod Seen
 pub mod Reading
 pub mod Bytes
 pub mod Kinds

@@ -17,6 +17,10 @@ loaded draft = do
   network ← network_load draft.network
   Ok (record { network = network; filters = draft.filters; scripts = draft.scripts; order = draft.order })
 
+-- both passes over a value: the first fault with its place, or else the job
+unfoldable pub whole_job_at : Data → Result Job Fault
+whole_job_at d = draft_at d >>= loaded
+
 abbrev pub or_bad_job : {A : Type 0} → Result A Fault → Result A JobFault
 or_bad_job (Ok x) = Ok x
 or_bad_job (Err f) = Err (BadJob f.place f.reason)
@@ -32,10 +36,6 @@ draft_of bytes = draft_in (reading bytes)
 abbrev pub job_in : Result JobDraft JobFault → Result Job JobFault
 job_in (Ok draft) = or_bad_job (loaded draft)
 job_in (Err fault) = Err fault
-
--- both passes over a value: the first fault with its place, or else the job
-unfoldable pub job_at : Data → Result Job JobFault
-job_at d = job_in (or_bad_job (draft_at d))
 
 -- both passes: BadJson where the bytes spell no JSON value, else the first fault with its place, else the job
 unfoldable pub job_of : List ℕ → Result Job JobFault

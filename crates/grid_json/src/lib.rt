@@ -12,6 +12,7 @@ mod network;
 mod order;
 mod place;
 mod read;
+mod seen;
 mod value;
 mod whole;
 
@@ -23,5 +24,6 @@ pub use kinds::InjectionKind;
 pub use network::item_of;
 pub use place::Place;
 pub use read::{FromJson, member, member_otherwise, object, only, optional};
+pub use seen::SeenIds;
 pub use value::{ByteFault, value_of};
-pub use whole::{Job, JobFault, read_job, read_value};
+pub use whole::{Job, JobFault, job_member, read_job};

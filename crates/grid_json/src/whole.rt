@@ -1,9 +1,9 @@
 // Jobs from bytes.
-ghost use Rattle.std.specs.Prelude.{◌≡◌, ◌≢◌, ◌≤◌, IfOk, IfErr};
+ghost use Rattle.std.specs.Prelude.{◌≡◌, ◌≤◌, codes, IfOk};
 ghost use Rattle.serde_json.specs.View.{view};
 ghost use Rattle.grid_json.specs.Job.{command_total, max_commands, draft_at};
-ghost use Rattle.grid_json.specs.Reading.{Gives};
-ghost use Rattle.grid_json.specs.Whole.{loaded, or_bad_job, draft_of, job_at, job_of, JobGives};
+ghost use Rattle.grid_json.specs.Reading.{Gives, member_at};
+ghost use Rattle.grid_json.specs.Whole.{loaded, whole_job_at, or_bad_job, draft_of, job_of, JobGives};
 
 use crate::job::{JobDraft, Order, read_draft};
 use crate::load::load_network;
@@ -39,7 +39,6 @@ pub enum JobFault {
 fn read_first(alloc: Global, value: &Value) -> Result<JobDraft, JobFault>
     ensures draft { JobGives result (or_bad_job (draft_at (view value.now))) }
     ensures total { IfOk result (λ draft. command_total draft.scripts ≤ max_commands) }
-    ensures sure { IfErr result (λ fault. fault ≢ JobFault.BadJson) }
 {
     match read_draft(alloc, value) {
         Ok(draft) => Ok(draft),
@@ -83,7 +82,6 @@ fn load(alloc: Global, draft: JobDraft) -> Result<Job, ReadError>
 fn read_second(alloc: Global, draft: JobDraft) -> Result<Job, JobFault>
     ensures job { JobGives result (or_bad_job (loaded draft)) }
     ensures scripts { IfOk result (λ job. job.scripts ≡ draft.scripts) }
-    ensures sure { IfErr result (λ fault. fault ≢ JobFault.BadJson) }
 {
     match load(alloc, draft) {
         Ok(job) => Ok(job),
@@ -95,16 +93,28 @@ fn read_second(alloc: Global, draft: JobDraft) -> Result<Job, JobFault>
     }
 }
 
-/// The job of a value: BadJob exactly where the job has a fault, with the first one. It never answers BadJson.
-#[tactic(auto, unfolding(crate::specs::Whole::job_at))]
-pub fn read_value(alloc: Global, value: &Value) -> Result<Job, JobFault>
-    ensures job { JobGives result (job_at (view value.now)) }
+/// The job of a value: both passes.
+#[tactic(auto, unfolding(crate::specs::Whole::whole_job_at))]
+fn read_whole(alloc: Global, value: &Value) -> Result<Job, ReadError>
+    ensures job { Gives result (whole_job_at (view value.now)) }
     ensures total { IfOk result (λ job. command_total job.scripts ≤ max_commands) }
-    ensures sure { IfErr result (λ fault. fault ≢ JobFault.BadJson) }
 {
-    match read_first(alloc, value) {
-        Ok(draft) => read_second(alloc, draft),
-        Err(fault) => Err(fault),
+    let draft = read_draft(alloc, value)?;
+    load(alloc, draft)
+}
+
+/// The job that is the member `job` of an object, which must be there: both passes over it, with `/job` before the place
+/// of its first fault.
+pub fn job_member(alloc: Global, value: &Value) -> Result<Job, ReadError>
+    ensures job { Gives result (member_at whole_job_at (codes "job") (view value.now)) }
+    ensures total { IfOk result (λ job. command_total job.scripts ≤ max_commands) }
+{
+    match value.get("job") {
+        None => Err(ReadError::here(alloc, Reason::Missing).under(alloc, "job")),
+        Some(found) => match read_whole(alloc, found) {
+            Ok(job) => Ok(job),
+            Err(e) => Err(e.under(alloc, "job")),
+        },
     }
 }
 

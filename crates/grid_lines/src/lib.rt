@@ -2,9 +2,16 @@
 #![tactic(auto)]
 
 mod fault;
+mod known;
+mod look;
+mod not_json;
+mod told;
 mod usage;
 mod why;
+mod wrong_words;
 
 pub use fault::{Fault, ending};
+pub use not_json::NotJson;
 pub use usage::usage_text;
 pub use why::Why;
+pub use wrong_words::WrongWords;

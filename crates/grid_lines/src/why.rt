@@ -18,6 +18,36 @@ pub enum Why {
     NotWhole,
     #[error("the word or the format is none of those that are known here, or the object has a member that it should not have (63)")]
     Unknown,
+    #[error("`{word}` is none of the words that are known here: {known} (63)")]
+    UnknownWord {
+        word: String,
+        known: String,
+    },
+    #[error("`{word}` needs format {format} (63)")]
+    LaterWord {
+        word: String,
+        format: i64,
+    },
+    #[error("format {found} is not read here, but {known} (63)")]
+    UnknownFormat {
+        found: i64,
+        known: &'static str,
+    },
+    #[error("the object has a member `{name}`, and may have only {known} (63)")]
+    UnknownMember {
+        name: String,
+        known: String,
+    },
+    #[error("{wanted} must stand here, and this is {found} (61)")]
+    OtherKind {
+        wanted: &'static str,
+        found: &'static str,
+    },
+    #[error("an array of {wanted} must stand here, and this one has {found} (61)")]
+    OtherLength {
+        wanted: usize,
+        found: usize,
+    },
     #[error("the order must name each worker as often as its script has commands, and nobody else (64)")]
     Schedule,
     #[error("all scripts together have more than 20,000 commands (65)")]
@@ -29,39 +59,82 @@ pub enum Why {
     #[error("something in the network or an earlier HVDC line has this line's id (70)")]
     HvdcIdTaken,
     #[error("no converter station has the id of side {side} (71)")]
-    NoStation { side: u8 },
+    NoStation {
+        side: u8,
+    },
+    #[error("side {side} names `{id}`, and no converter station has that id (71)")]
+    NoStationOf {
+        side: u8,
+        id: String,
+    },
     #[error("an HVDC line has the converter station of side {side} already (72)")]
-    StationUsed { side: u8 },
+    StationUsed {
+        side: u8,
+    },
+    #[error("an HVDC line has the converter station `{id}` of side {side} already (72)")]
+    StationOfUsed {
+        side: u8,
+        id: String,
+    },
     #[error("there are more than 20,000 contingencies (73)")]
     TooManyContingencies,
     #[error("an id here may have 100 bytes at most and no exclamation mark, since such ids are the program's own (74)")]
     Reserved,
     #[error("the level has no bus of the id that is named (75)")]
     NoBus,
+    #[error("the level has no bus `{id}` (75)")]
+    NoBusOf {
+        id: String,
+    },
     #[error("both ends of the switch are one bus (76)")]
     SameBus,
     #[error("the id is empty (1)")]
     EmptyId,
     #[error("the id has {length} bytes, and 128 are the most (2)")]
-    LongId { length: usize },
+    LongId {
+        length: usize,
+    },
     #[error("the id has the control byte {byte} (3)")]
-    ControlByte { byte: u8 },
+    ControlByte {
+        byte: u8,
+    },
     #[error("the nominal voltage is {found} and must be above {bound} (10)")]
-    Nominal { found: i64, bound: i64 },
+    Nominal {
+        found: i64,
+        bound: i64,
+    },
     #[error("the low voltage limit {found} is above the high one, {bound} (11)")]
-    VoltageLimits { found: i64, bound: i64 },
+    VoltageLimits {
+        found: i64,
+        bound: i64,
+    },
     #[error("the least power {found} is above the greatest, {bound} (12)")]
-    PowerLimits { found: i64, bound: i64 },
+    PowerLimits {
+        found: i64,
+        bound: i64,
+    },
     #[error("{found} sections are in service, and from 0 to {bound} may be (13)")]
-    Sections { found: i64, bound: i64 },
+    Sections {
+        found: i64,
+        bound: i64,
+    },
     #[error("a rated voltage is {found} and must be above {bound} (14)")]
-    Rated { found: i64, bound: i64 },
+    Rated {
+        found: i64,
+        bound: i64,
+    },
     #[error("node {node} is not from 0 to 65,535 (20)")]
-    NodeRange { node: i64 },
+    NodeRange {
+        node: i64,
+    },
     #[error("the node carries the terminal {}.{} (21)", .terminal.equipment.text(), .terminal.side)]
-    NodeTaken { terminal: Terminal },
+    NodeTaken {
+        terminal: Terminal,
+    },
     #[error("both nodes are {node} (22)")]
-    SameNode { node: i64 },
+    SameNode {
+        node: i64,
+    },
     #[error("there is no such internal connection (23)")]
     NoEdge,
     #[error("the level would have more than 1,024 different nodes (24)")]
@@ -70,14 +143,29 @@ pub enum Why {
     TooManyEdges,
     #[error("a substation, level, switch or equipment has this id already (30)")]
     IdTaken,
+    #[error("a substation, level, switch or equipment has the id `{id}` already (30)")]
+    IdOfTaken {
+        id: String,
+    },
     #[error("no substation has the id that is named (31)")]
     NoSubstation,
     #[error("no level has the id that is named (32)")]
     NoLevel,
+    #[error("no level before it has the id `{id}` (32)")]
+    NoLevelOf {
+        id: String,
+    },
     #[error("nothing that could be removed has the id (33)")]
     NoSuchId,
     #[error("the transformer's end {side} is in a level of another substation (34)")]
-    OtherSubstation { side: u8 },
+    OtherSubstation {
+        side: u8,
+    },
+    #[error("the transformer's end {side} is in the level `{id}` of another substation (34)")]
+    OtherSubstationOf {
+        side: u8,
+        id: String,
+    },
     #[error("the network has 10,000 levels, which are the most (35)")]
     TooManyLevels,
     #[error("the network has 200,000 switches, which are the most (36)")]

@@ -12,5 +12,4 @@ pub mod Shown
 pub mod Stands
 pub mod Stepped
 pub mod Threaded
-pub mod Whole
 pub mod Written

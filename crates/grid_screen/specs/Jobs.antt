@@ -3,13 +3,12 @@ use Rattle.std.specs.Prelude.{ℕ, List, [], ◌∷◌, Option, Some, None, Resu
 use Rattle.serde_json.specs.Data.{Data}
 use Rattle.grid_json.specs.declared.fault.Fault.{Fault}
 use Rattle.grid_json.specs.declared.fault.Reason.TheVariants.{TooManyContingencies}
-use Rattle.grid_json.specs.declared.whole.Job.{Job}
 use Rattle.grid_json.specs.declared.whole.JobFault.{JobFault}
 use Rattle.grid_json.specs.declared.whole.JobFault.TheVariants.{BadJson}
 use Rattle.grid_json.specs.Bytes.{reading}
-use Rattle.grid_json.specs.Job.{draft_at, few_at}
+use Rattle.grid_json.specs.Job.{few_at}
 use Rattle.grid_json.specs.Reading.{◌>>=◌, id_at, array_at, member_at, only_at}
-use Rattle.grid_json.specs.Whole.{loaded, or_bad_job}
+use Rattle.grid_json.specs.Whole.{whole_job_at, or_bad_job}
 use Rattle.grid_screen.specs.declared.Contingency.{Contingency}
 use Rattle.grid_screen.specs.declared.ScreenJob.{ScreenJob}
 
@@ -27,15 +26,11 @@ contingency_at d = do
 abbrev pub contingencies_at : Data → Result (List Contingency) Fault
 contingencies_at d = few_at max_contingencies TooManyContingencies contingency_at d
 
--- the whole job of a value: both passes
-unfoldable pub whole_at : Data → Result Job Fault
-whole_at d = draft_at d >>= loaded
-
 -- the job is read whole before the contingencies
 unfoldable pub screen_at : Data → Result ScreenJob Fault
 screen_at d = do
   _ ← only_at (codes "job" ∷ codes "contingencies" ∷ []) d
-  job ← member_at whole_at (codes "job") d
+  job ← member_at whole_job_at (codes "job") d
   contingencies ← member_at contingencies_at (codes "contingencies") d
   Ok (record { job = job; contingencies = contingencies })
 

@@ -4,12 +4,12 @@ ghost use Rattle.serde_json.specs.View.{view};
 ghost use Rattle.grid_json.specs.Job.{command_total, max_commands};
 ghost use Rattle.grid_json.specs.Reading.{Gives, member_at};
 ghost use Rattle.grid_json.specs.Whole.{JobGives};
-ghost use Rattle.grid_screen.specs.Jobs.{contingencies_at, whole_at, screen_at, screen_job_of};
+ghost use Rattle.grid_screen.specs.Jobs.{contingencies_at, screen_at, screen_job_of};
 
 use crate::{Contingencies, Contingency, ScreenJob};
 use grid_json::{
-    ByteFault, Fault, Format, FromJson, Job, JobFault, ReadError, Reason, few, member, only,
-    read_value, value_of,
+    ByteFault, Format, FromJson, JobFault, ReadError, Reason, few, job_member, member, only,
+    value_of,
 };
 use serde_json::Value;
 use std::alloc::Global;
@@ -28,33 +28,6 @@ impl FromJson for Contingency {
         let name = member(alloc, format, value, "name")?;
         let ids = member(alloc, format, value, "out")?;
         Ok(Contingency { name, ids })
-    }
-}
-
-// The whole job of a value: both passes.
-fn read_whole(alloc: Global, value: &Value) -> Result<Job, ReadError>
-    ensures job { Gives result (whole_at (view value.now)) }
-    ensures total { IfOk result (λ job. command_total job.scripts ≤ max_commands) }
-{
-    match read_value(alloc, value) {
-        Ok(job) => Ok(job),
-        Err(JobFault::BadJson) => unreachable!(),
-        Err(JobFault::BadJob { place, reason }) => Err(ReadError::Fault(Fault { place, reason })),
-        Err(JobFault::Memory) => Err(ReadError::Memory),
-    }
-}
-
-// The member `job`, which must be there.
-fn job_of(alloc: Global, value: &Value) -> Result<Job, ReadError>
-    ensures job { Gives result (member_at whole_at (codes "job") (view value.now)) }
-    ensures total { IfOk result (λ job. command_total job.scripts ≤ max_commands) }
-{
-    match value.get("job") {
-        None => Err(ReadError::here(alloc, Reason::Missing).under(alloc, "job")),
-        Some(found) => match read_whole(alloc, found) {
-            Ok(job) => Ok(job),
-            Err(e) => Err(e.under(alloc, "job")),
-        },
     }
 }
 
@@ -91,7 +64,7 @@ fn read_root(alloc: Global, value: &Value) -> Result<ScreenJob, ReadError>
     ensures total { IfOk result (λ screen. command_total screen.job.scripts ≤ max_commands) }
 {
     only(alloc, value, &["job", "contingencies"])?;
-    let job = job_of(alloc, value)?;
+    let job = job_member(alloc, value)?;
     let contingencies = contingencies_of(alloc, value)?;
     Ok(ScreenJob { job, contingencies })
 }

@@ -1,6 +1,6 @@
 use Rattle.std.proofs.Common.{◌≡◌, ◌≤◌, [], ◌++◌, drop, take}
 use Rattle.grid_configured.specs.Checks.{bus_check, each_check}
-use Rattle.grid_configured.specs.Seen.{Knows}
+use Rattle.grid_json.specs.Seen.{Knows}
 use Rattle.grid_configured.proofs.contents.check_buses.Given as goal
 
 -- the buses so far are known, and what is left to check

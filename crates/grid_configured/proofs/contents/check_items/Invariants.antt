@@ -1,6 +1,6 @@
 use Rattle.std.proofs.Common.{◌≡◌, ◌+◌, ◌≤◌, [], ◌++◌, drop, take}
 use Rattle.grid_configured.specs.Checks.{each_check, item_check, item_ids}
-use Rattle.grid_configured.specs.Seen.{Knows}
+use Rattle.grid_json.specs.Seen.{Knows}
 use Rattle.grid_configured.proofs.contents.check_items.Given as goal
 
 -- the injections so far are known, and what is left to check

@@ -1,6 +1,6 @@
 use Rattle.std.proofs.Common.{◌≡◌, ◌+◌, ◌≤◌, [], ◌++◌, drop, take}
 use Rattle.grid_configured.specs.Checks.{each_check, switch_check, switch_ids}
-use Rattle.grid_configured.specs.Seen.{Knows}
+use Rattle.grid_json.specs.Seen.{Knows}
 use Rattle.grid_configured.proofs.contents.check_switches.Given as goal
 
 -- the switches so far are known, and what is left to check

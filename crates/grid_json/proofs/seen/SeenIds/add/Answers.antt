@@ -1,6 +1,6 @@
-use Rattle.grid_configured.proofs.SeenIds.{new_told, key_added}
-use Rattle.grid_configured.proofs.seen.SeenIds.add.Goals as goal
-use Rattle.grid_configured.proofs.seen.SeenIds.add.Goals.{in-Ok, in-Err}
+use Rattle.grid_json.proofs.SeenIds.{new_told, key_added}
+use Rattle.grid_json.proofs.seen.SeenIds.add.Goals as goal
+use Rattle.grid_json.proofs.seen.SeenIds.add.Goals.{in-Ok, in-Err}
 
 pub returns-clause-new : goal.returns-clause-new
 returns-clause-new c = elim c.match-insert.branch [

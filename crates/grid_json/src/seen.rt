@@ -1,16 +1,17 @@
 // Sets of ids that were named before.
 ghost use Rattle.std.specs.Prelude.{◌≡◌, [], ◌∷◌, ◌++◌, not, IfOk, OnOk};
 ghost use Rattle.grid_ids.specs.Name.{has_id};
-ghost use Rattle.grid_configured.specs.Seen.{Knows};
+ghost use Rattle.grid_json.specs.Seen.{Knows};
 
 use grid_ids::{Duplicate, Id, Memory};
 use std::alloc::Global;
 use std::collections::BTreeSet;
 use std::marker::Model;
 
-/// Ids that were named, by byte order.
+/// Ids that a job has named so far, found in the time of the logarithm of their count, whatever they are. It is seen as
+/// the list of them by byte order.
 #[derive(Drop)]
-pub(crate) struct SeenIds {
+pub struct SeenIds {
     ids: BTreeSet<Id>,
 }
 

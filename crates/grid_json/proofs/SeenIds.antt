@@ -10,7 +10,7 @@ use Rattle.std.proofs.lemmas.List.Folds.{list_any-append}
 use Rattle.std.proofs.lemmas.Map.Text.{is_eq-slice_cmp}
 use Rattle.std.proofs.lemmas.Slice.Eq.{bytes_eq-Decides}
 use Rattle.grid_ids.specs.Name.{has_id}
-use Rattle.grid_configured.specs.Seen.{Knows}
+use Rattle.grid_json.specs.Seen.{Knows}
 
 -- ---- the order of the operands
 

@@ -1,0 +1,85 @@
+//! Which of the words that the program was called with is wrong.
+
+use crate::look::shown;
+use grid_cli::{Form, MOST_SEED, MOST_SIZE, read_words};
+use std::alloc::{AllocError, Global};
+use thiserror::Error;
+
+/// Which word is wrong.
+#[derive(Debug, Drop, Error)]
+pub enum WrongWords {
+    #[error("no form was named")]
+    None,
+    #[error("`{word}` is no form")]
+    NoForm { word: String },
+    #[error("`{form}` takes no further words, and `{word}` is one")]
+    Further { form: String, word: String },
+    #[error("`{form}` wants a SEED and a SIZE")]
+    Fewer { form: String },
+    #[error("`{word}` is no SEED: a whole number from 0 to {MOST_SEED} in decimal digits, without a leading zero")]
+    Seed { word: String },
+    #[error("`{word}` is no SIZE: a whole number from 1 to {MOST_SIZE} in decimal digits, without a leading zero")]
+    Size { word: String },
+    #[error("the words are none of the forms below")]
+    Unknown,
+}
+
+/// What these words ask for.
+fn form_of(alloc: Global, words: &[&str]) -> Result<Option<Form>, AllocError> {
+    let mut owned = Vec::new(alloc);
+    for word in words {
+        owned.push(String::from_str(alloc, word)?)?;
+    }
+    Ok(read_words(owned.as_slice()))
+}
+
+/// What is wrong with words behind that of a form with a seed and a size.
+fn wrong_numbers(alloc: Global, form: &str, rest: &[String]) -> Result<WrongWords, AllocError> {
+    let (Some(seed), Some(size)) = (rest.first(), rest.get(1)) else {
+        return Ok(WrongWords::Fewer {
+            form: shown(alloc, form)?,
+        });
+    };
+    if let Some(word) = rest.get(2) {
+        return Ok(WrongWords::Further {
+            form: shown(alloc, form)?,
+            word: shown(alloc, word.as_str())?,
+        });
+    }
+    match form_of(alloc, &[form, seed.as_str(), "1"])? {
+        None => Ok(WrongWords::Seed {
+            word: shown(alloc, seed.as_str())?,
+        }),
+        Some(_) => Ok(WrongWords::Size {
+            word: shown(alloc, size.as_str())?,
+        }),
+    }
+}
+
+/// What is wrong with words that are no form.
+fn wrong(alloc: Global, words: &[String]) -> Result<WrongWords, AllocError> {
+    let Some((form, rest)) = words.split_first() else {
+        return Ok(WrongWords::None);
+    };
+    let form = form.as_str();
+    if form_of(alloc, &[form, "0", "1"])?.is_some() {
+        return wrong_numbers(alloc, form, rest);
+    }
+    match (form_of(alloc, &[form])?, rest.first()) {
+        (Some(_), Some(word)) => Ok(WrongWords::Further {
+            form: shown(alloc, form)?,
+            word: shown(alloc, word.as_str())?,
+        }),
+        _ => Ok(WrongWords::NoForm {
+            word: shown(alloc, form)?,
+        }),
+    }
+}
+
+/// Which of the words, which are no form, is wrong.
+pub(crate) fn wrong_words(alloc: Global, words: &[String]) -> WrongWords {
+    match wrong(alloc, words) {
+        Ok(wrong) => wrong,
+        Err(_) => WrongWords::Unknown,
+    }
+}
