@@ -1,15 +1,33 @@
 //! Runs whole jobs by the top call. Each folder of `data/` is a case: the words, the job, and the exit status, the output and
-//! the line on standard error that they must give, and for a job with a fault also its place and reason.
+//! the line on standard error that they must give, and for a job with a fault also its place and reason. Then come what is
+//! told by many calls each: broken input, sources and sinks that fail, and commits that come between.
+//!
+//! With the word `parts` it leaves the cases out. With `replies` it makes the commands of a job on a board and in a world
+//! alone, for tools/failing, which refuses its allocations.
 #![tactic(auto)]
 
+mod between;
+mod both;
+mod broken;
+mod failing;
+mod gated;
+mod refused;
+mod telling;
+mod trouble;
+mod words;
+
+use crate::between::CASES;
+use crate::trouble::Trouble;
+use crate::words::words_of;
 use grid_cli::{Status, grid};
 use grid_lines::{ending, usage_text};
 use grid_manager::Idle;
-use grid_source::{KeepingSource, SureSink, SureSource};
+use grid_report::Text;
+use grid_source::{KeepingSource, StdSource, SureSink, SureSource, read_all};
 use std::alloc::Global;
 use std::sync::Wait;
 use std::thread::Threads;
-use std::{fs, io};
+use std::{env, fs, io};
 
 /// What a run has come to.
 #[derive(Drop)]
@@ -75,10 +93,7 @@ fn run<R: Threads + Wait + Sync>(
     words: &str,
     job: Vec<u8>,
 ) -> io::Result<Ending> {
-    let mut list = Vec::new(alloc);
-    for word in words.split_whitespace() {
-        list.push(String::from_str(alloc, word)?)?;
-    }
+    let list = words_of(alloc, words)?;
     let mut source = KeepingSource::new(alloc, SureSource::new(job, 4096));
     let mut sink = SureSink::new(Vec::new(alloc), 4096);
     let status = grid(
@@ -139,10 +154,11 @@ fn show_lines(rt: &HostRuntime) -> io::Result<()> {
     print!(rt; "{usage}")
 }
 
-fn main(rt: HostRuntime) -> io::Result<()> {
+/// Makes the cases, and prints the name of each.
+fn show_cases<R: Threads + Wait + Sync>(rt: &HostRuntime, threads: &R) -> io::Result<()> {
     let mut failed = 0u64;
-    for name in names(&rt)? {
-        match difference(&rt, &rt, name.as_str())? {
+    for name in names(rt)? {
+        match difference(rt, threads, name.as_str())? {
             None => println!(rt; "{name}")?,
             Some(why) => {
                 failed = failed.saturating_add(1);
@@ -150,6 +166,109 @@ fn main(rt: HostRuntime) -> io::Result<()> {
             }
         }
     }
-    println!(rt; "{failed} failed")?;
-    show_lines(&rt)
+    println!(rt; "{failed} failed")
+}
+
+/// Prints what comes of broken input of which no single case tells enough.
+fn show_broken(rt: &HostRuntime) -> io::Result<()> {
+    let alloc = rt.alloc();
+    let job = part(rt, "first_bus_view", "job.json")?;
+    match broken::beginnings(alloc, job.as_slice())? {
+        Some(count) => println!(rt; "each beginning of {count} bytes of a job is no JSON")?,
+        None => println!(rt; "a beginning of a job is not refused as no JSON")?,
+    }
+    for count in [20_000, 20_001] {
+        match broken::commands(alloc, count)? {
+            Some(status) => {
+                let fault = fault_of(alloc, &status)?;
+                println!(rt; "{count} commands: {fault}")?
+            }
+            None => println!(rt; "{count} commands: accepted")?,
+        }
+    }
+    Ok(())
+}
+
+/// Prints a count of calls, each of which failed as it must.
+fn show_count(rt: &HostRuntime, words: &str, what: &str, count: Option<u64>) -> io::Result<()> {
+    match count {
+        Some(count) => println!(rt;
+            "{words}: {count} {what}, and where one fails the call ends so"
+        ),
+        None => println!(rt; "{words}: one of the {what} fails otherwise than it must"),
+    }
+}
+
+/// Prints how many reads and writes a call has, each of which failed in turn.
+fn show_failing<R: Threads + Wait + Sync>(rt: &HostRuntime, threads: &R) -> io::Result<()> {
+    let alloc = rt.alloc();
+    let job = part(rt, "first_bus_view", "job.json")?;
+    for words in ["replay", "run", "check", "print", "make 1 1", "trial 1 1"] {
+        let reads = failing::reads_of(threads, alloc, words, job.as_slice())?;
+        show_count(rt, words, "reads", reads)?;
+        let writes = failing::writes_of(threads, alloc, words, job.as_slice())?;
+        show_count(rt, words, "writes", writes)?;
+    }
+    Ok(())
+}
+
+/// Prints what came of a case, by its number.
+fn show_made(
+    rt: &HostRuntime,
+    number: usize,
+    by: &str,
+    made: Result<Text, Trouble>,
+) -> io::Result<()> {
+    let text = match &made {
+        Ok(text) => std::str::from_utf8(text.as_bytes()).unwrap_or("no text"),
+        Err(_) => "not made to its end",
+    };
+    println!(rt; "{number} {by}: {text}")
+}
+
+/// Prints what comes of each case in which commits come between an answer and its commit.
+fn show_between<R: Threads + Wait + Sync>(rt: &HostRuntime, threads: &R) -> io::Result<()> {
+    let alloc = rt.alloc();
+    for (place, (network, scripts)) in CASES.iter().enumerate() {
+        let number = place.saturating_add(1);
+        let other = text_of(rt, network, "job.json")?;
+        let made = between::on_board(alloc, other.as_str(), scripts);
+        show_made(rt, number, "on a board", made)?;
+        if (2..=6).contains(&number) || number == 8 {
+            let made = gated::by_callers(threads, alloc, other.as_str(), scripts);
+            show_made(rt, number, "by callers", made)?;
+        }
+    }
+    Ok(())
+}
+
+/// Prints the replies of a board and of a world to the commands of the job on standard input.
+fn show_replies(rt: &HostRuntime) -> io::Result<()> {
+    let Ok(job) = read_all(rt.alloc(), &mut StdSource::new(rt.reader())) else {
+        return Err(io::Error::from(io::ErrorKind::OutOfMemory));
+    };
+    match refused::replies(rt.alloc(), job.as_slice()) {
+        Ok(text) => print!(rt; "{text}"),
+        Err(Trouble::Memory) => Err(io::Error::from(io::ErrorKind::OutOfMemory)),
+        Err(_) => println!(rt; "no job"),
+    }
+}
+
+/// Prints what is told by many calls each.
+fn show_parts<R: Threads + Wait + Sync>(rt: &HostRuntime, threads: &R) -> io::Result<()> {
+    show_broken(rt)?;
+    show_failing(rt, threads)?;
+    show_between(rt, threads)
+}
+
+fn main(rt: HostRuntime) -> io::Result<()> {
+    match env::args(&rt)?.nth(1) {
+        None => {
+            show_cases(&rt, &rt)?;
+            show_lines(&rt)?;
+            show_parts(&rt, &rt)
+        }
+        Some(word) if word.as_str() == "parts" => show_parts(&rt, &rt),
+        Some(_) => show_replies(&rt),
+    }
 }

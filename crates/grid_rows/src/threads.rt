@@ -186,7 +186,10 @@ fn a_bench_is_kept_from_step_to_step(rt: HostRuntime) -> Result<(), Fail> {
     };
     let (front, _scripts) = FOUR.split_once(",\"workers\"").unwrap_or(("", ""));
     let mut job = String::from_str(alloc, front)?;
-    job.push_str(r#","workers":[[{"do":"bus_view","level":"A"},{"do":"bus_view","level":"D"}]]}"#)?;
+    // A refusal between the two leaves the bench as it is.
+    job.push_str(
+        r#","workers":[[{"do":"bus_view","level":"A"},{"do":"bus_view","level":"ZZ"},{"do":"bus_view","level":"D"}]]}"#,
+    )?;
     let (status, _report) = ran(&rt, alloc, &["run"], job.into_bytes(), &gate)?;
     assert_eq!(rt; status.as_str(), "Done");
     assert!(rt; gate.kept_one.load(Ordering::SeqCst));

@@ -1,0 +1,47 @@
+// Broken input of which no single case tells enough, or whose text is long.
+use crate::words::words_of;
+use grid_cli::{Status, grid_once};
+use grid_source::{SureSink, SureSource};
+use std::alloc::Global;
+use std::io;
+
+/// How a check of these bytes ends, where nothing is written.
+fn checked(alloc: Global, bytes: Vec<u8>) -> io::Result<Option<Status>> {
+    let words = words_of(alloc, "check")?;
+    let mut source = SureSource::new(bytes, 4096);
+    let mut sink = SureSink::new(Vec::new(alloc), 4096);
+    let status = grid_once(alloc, words.as_slice(), &mut source, &mut sink);
+    Ok(if sink.bytes().is_empty() {
+        Some(status)
+    } else {
+        None
+    })
+}
+
+/// How many bytes a job has, whose every beginning but the whole is no JSON; None where one is checked otherwise.
+pub(crate) fn beginnings(alloc: Global, job: &[u8]) -> io::Result<Option<u64>> {
+    let mut front = Vec::new(alloc);
+    let mut count = 0u64;
+    for byte in job.trim_ascii() {
+        match checked(alloc, front.to_vec(alloc)?)? {
+            Some(Status::BadJson) => {}
+            _ => return Ok(None),
+        }
+        front.push(*byte)?;
+        count = count.saturating_add(1);
+    }
+    Ok(Some(count))
+}
+
+/// How a check of a job ends in which one worker has this many commands, where nothing is written.
+pub(crate) fn commands(alloc: Global, count: u32) -> io::Result<Option<Status>> {
+    let mut text = String::from_str(alloc, r#"{"format":1,"network":{"id":"N"},"workers":[["#)?;
+    for place in 0..count {
+        if place > 0 {
+            text.push_str(",")?;
+        }
+        text.push_str(r#"{"do":"use","variant":"V"}"#)?;
+    }
+    text.push_str("]]}")?;
+    checked(alloc, text.into_bytes())
+}
