@@ -31,7 +31,8 @@ edges_as ns (s ∷ ss) [] flags e = absurd (cc)
 edges_as ns (s ∷ ss) (t ∷ ts) [] e = refl
 edges_as ns (s ∷ ss) (t ∷ ts) (f ∷ flags) e =
     let edge : ℕ × ℕ → NetEdge = λ pair. record { a = index_in ns pair.0; b = index_in ns pair.1; passing = f } in
-    let here : (s.node1, s.node2) ≡ (t.node1, t.node2) = cc in
+    let pair : Switch → ℕ × ℕ = λ x. (x.node1, x.node2) in
+    let here : pair s ≡ pair t = cc in
     let rest : switch_ends ss ≡ switch_ends ts = cc in
     ap (λ z. edge z ∷ switch_net_edges ns ss flags) here ∙ ap (λ z. switch_net_edge ns t f ∷ z) (edges_as ns ss ts flags rest)
 

@@ -21,8 +21,12 @@ one_more p n =
       length-filter p (places n),
     )
 
+pub counted_none : (p : ℕ → Bool) → 0 ≡ count_by p (places 0)
+unfolding places
+counted_none p = refl
+
 pub counted_yes : (p : ℕ → Bool) (n count : ℕ) → count ≡ count_by p (places n) → p n ≡ true → count + 1 ≡ count_by p (places (n + 1))
-counted_yes p n count e t = omega (arith, e, one_more p n, ap (λ z. cond z 1 0) t)
+counted_yes p n count e t = omega (arith, e, one_more p n, ap {B = ℕ} (λ z. cond z 1 0) t)
 
 pub counted_no : (p : ℕ → Bool) (n count : ℕ) → count ≡ count_by p (places n) → p n ≡ false → count ≡ count_by p (places (n + 1))
-counted_no p n count e f = omega (arith, e, one_more p n, ap (λ z. cond z 1 0) f)
+counted_no p n count e f = omega (arith, e, one_more p n, ap {B = ℕ} (λ z. cond z 1 0) f)
