@@ -22,13 +22,13 @@ loop-place-preserved c =
     let so_far = c.loop-place.invariant in
     elim c.if-differs.branch [
       | then-differs w ↦ record {
-          counted = w.count-is ∙ counted_yes p place c.loop-place.count so_far.counted (sym c.differs.ensures ∙ w.if-differs.true);
-          few = omega (arith, w.count-is, so_far.few);
-        }
+        counted = w.count-is ∙ counted_yes p place c.loop-place.count so_far.counted (sym c.differs.ensures ∙ w.if-differs.true);
+        few = omega (arith, w.count-is, so_far.few);
+      }
       | else-differs w ↦ record {
-          counted = w.count-is ∙ counted_no p place c.loop-place.count so_far.counted (sym c.differs.ensures ∙ w.if-differs.false);
-          few = omega (arith, w.count-is, so_far.few);
-        }
+        counted = w.count-is ∙ counted_no p place c.loop-place.count so_far.counted (sym c.differs.ensures ∙ w.if-differs.false);
+        few = omega (arith, w.count-is, so_far.few);
+      }
     ]
 
 pub returns : goal.returns
