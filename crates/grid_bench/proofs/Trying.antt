@@ -16,30 +16,10 @@ use Rattle.grid_groups.proofs.Lists.{In_get}
 use Rattle.grid_groups.proofs.Standing.{nodes-stood}
 use Rattle.grid_bench.specs.Contents.{Content, content}
 use Rattle.grid_bench.specs.Costs.{is_at_end, touched_by, touched_both, standing_with, with_flags_at, change_cost, content_midway, flag_at, differs_at, place_cost, changes_cost}
+use Rattle.grid_bench.proofs.Costing.{place_le}
 use Rattle.grid_bench.proofs.Following.{beq_refl}
 
 -- ---- what a change touches
-
-touched_le : (rule : Rule) (before after : VoltageLevel) (s : Switch) → touched_by rule before after s ≤ length (nodes before)
-unfolding touched_by
-touched_le rule before after s = count_by-le-length (λ node. is_at_end rule before s node || is_at_end rule after s node) (nodes before)
-
-both_le : (before after : Content) (found : Option Switch) → touched_both before after found ≤ 2 * length (nodes before.level)
-unfolding touched_both
-both_le before after None = omega arith
-both_le before after (Some s) =
-    omega (arith, touched_le bus (standing_with before) (standing_with after) s, touched_le breaker (standing_with before) (standing_with after) s, ap length (nodes-stood before.level before.opened before.retained))
-
-cond_le : (b : Bool) (x n : ℕ) → x ≤ n → cond b x 0 ≤ n
-cond_le true x n le = le
-cond_le false x n le = omega arith
-
-place_le : (old new : Content) (place : ℕ) → place_cost old new place ≤ 2 * length (nodes old.level)
-unfolding place_cost
-place_le old new place =
-    let was = content_midway old new place in
-    cond_le (differs_at old new place) (change_cost was place (flag_at new.opened place) (flag_at new.retained place)) (2 * length (nodes old.level))
-    (both_le was (with_flags_at was place (flag_at new.opened place) (flag_at new.retained place)) (slice_get old.level.switches place))
 
 unchanged : (old new : Content) (place : ℕ) → flag_at old.opened place ≡ flag_at new.opened place → flag_at old.retained place ≡ flag_at new.retained place → place_cost old new place ≡ 0
 unfolding place_cost differs_at

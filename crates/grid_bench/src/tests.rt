@@ -25,6 +25,8 @@ const PARTED: [bool; 5] = [false, true, false, true, false];
 
 const RETAINED: [bool; 5] = [false, false, false, true, false];
 
+const BRIDGED: [bool; 6] = [false, true, false, true, false, false];
+
 fn flags(alloc: Global, values: &[bool]) -> Result<Flags, Fail> {
     Ok(Flags::from_vec(Vec::from_slice(alloc, values)?))
 }
@@ -253,7 +255,7 @@ fn buses<L: Ledger>(
 // The same level with the same flags again costs no visit.
 fn refresh_again<L: Ledger>(
     bench: &mut Bench,
-    level: &Level,
+    level: &SharedLevel,
     steps: &mut Steps<L>,
 ) -> Result<(), Memory>
     requires switches { length level.now.switches ≡ 5 }
@@ -267,7 +269,7 @@ fn refresh_again<L: Ledger>(
 // The coupler opens: under either rule all nodes are touched at most.
 fn open_coupler<L: Ledger>(
     bench: &mut Bench,
-    level: &Level,
+    level: &SharedLevel,
     steps: &mut Steps<L>,
 ) -> Result<(), Memory>
     requires switches { length level.now.switches ≡ 5 }
@@ -296,20 +298,63 @@ fn follow_coupler<L: Ledger>(rt: &impl Abort, alloc: Global, blank: Blank) -> Re
 {
     let mut steps: Steps<L> = Steps::begin(blank);
     let mut bench = Bench::empty(alloc);
-    let level = duo(alloc)?;
-    assert_eq!(rt; level.switch_count(), 5);
-    assert_eq!(rt; level.node_count(), 6);
+    let level = SharedLevel::new(alloc, duo(alloc)?)?;
+    assert_eq!(rt; level.level().switch_count(), 5);
+    assert_eq!(rt; level.level().node_count(), 6);
     bench.refresh(&level, &CLOSED, &RETAINED, &mut steps)?;
-    expect_labels(rt, &bench, &level, &[0; 6], &[0, 1, 0, 0, 0, 1]);
+    expect_labels(rt, &bench, level.level(), &[0; 6], &[0, 1, 0, 0, 0, 1]);
     refresh_again(&mut bench, &level, &mut steps)?;
     open_coupler(&mut bench, &level, &mut steps)?;
-    expect_labels(rt, &bench, &level, &[0, 1, 0, 0, 0, 1], &[0, 1, 0, 0, 0, 1]);
+    expect_labels(
+        rt,
+        &bench,
+        level.level(),
+        &[0, 1, 0, 0, 0, 1],
+        &[0, 1, 0, 0, 0, 1],
+    );
     Ok(())
 }
 
 #[test]
 fn labels_follow_the_coupler(rt: HostRuntime) -> Result<(), Fail> {
     follow_coupler::<Brand>(&rt, rt.alloc(), Blank::new(1))
+}
+
+// A level with one more terminal, at a node that it has, takes the place of the kept one; then one with one more switch.
+fn follow_content<L: Ledger>(rt: &impl Abort, alloc: Global, blank: Blank) -> Result<(), Fail>
+    requires name { blank.name ≡ L.name }
+    requires parts { blank.parts ≡ L.parts }
+    requires some { 0 < blank.parts }
+{
+    let mut steps: Steps<L> = Steps::begin(blank);
+    let mut bench = Bench::empty(alloc);
+    let level = SharedLevel::new(alloc, duo(alloc)?)?;
+    let mut laden = duo(alloc)?;
+    place(alloc, &mut laden, "LE", 2, load())?;
+    let laden = SharedLevel::new(alloc, laden)?;
+    let mut bridged = duo(alloc)?;
+    breaker(alloc, &mut bridged, "BX", 1, 4)?;
+    let bridged = SharedLevel::new(alloc, bridged)?;
+    assert_eq!(rt; level.level().switch_count(), 5);
+    assert_eq!(rt; laden.level().switch_count(), 5);
+    assert_eq!(rt; bridged.level().switch_count(), 6);
+    bench.refresh(&level, &CLOSED, &RETAINED, &mut steps)?;
+    bench.refresh(&laden, &PARTED, &RETAINED, &mut steps)?;
+    expect_labels(
+        rt,
+        &bench,
+        laden.level(),
+        &[0, 1, 0, 0, 0, 1],
+        &[0, 1, 0, 0, 0, 1],
+    );
+    bench.refresh(&bridged, &BRIDGED, &[false; 6], &mut steps)?;
+    expect_labels(rt, &bench, bridged.level(), &[0; 6], &[0; 6]);
+    Ok(())
+}
+
+#[test]
+fn labels_follow_other_content(rt: HostRuntime) -> Result<(), Fail> {
+    follow_content::<Brand>(&rt, rt.alloc(), Blank::new(1))
 }
 
 // ---- answers
