@@ -1,13 +1,13 @@
 -- Checking lines one after the other, as a loop does.
-use Rattle.std.proofs.Common.{◌≡◌, refl, sym, ap, ◌∙◌, ℕ, suc, ◌+◌, ◌<◌, ◌≤◌, List, [], ◌∷◌, ◌++◌, length, get_or, take, drop, Result, Ok, Err, add-one, drop-cons}
-use Rattle.std.specs.Prelude.{decimal, ⊤}
+use Rattle.std.proofs.Common.{◌≡◌, refl, sym, ap, subst, ◌∙◌, ℕ, suc, ◌+◌, ◌<◌, ◌≤◌, List, [], ◌∷◌, ◌++◌, length, get_or, take, drop, Result, Ok, Err, add-one, drop-cons}
+use Rattle.std.specs.Prelude.{decimal, ⊤, OnOk}
 use Rattle.std.proofs.lemmas.List.{take_more, drop_all, map-append}
 use Rattle.std.proofs.lemmas.Grind.{flat_map-append}
 use Rattle.grid_json.specs.declared.fault.Fault.{Fault}
 use Rattle.grid_json.specs.declared.fault.ReadError.{ReadError}
 use Rattle.grid_json.specs.declared.fault.ReadError.TheVariants as errors
 use Rattle.grid_ids.specs.Name.{has_id}
-use Rattle.grid_json.specs.Reading.{Fails, IsUnder, placed}
+use Rattle.grid_json.specs.Reading.{Fails, Gives, IsUnder, placed}
 use Rattle.grid_json.specs.Seen.{Knows}
 use Rattle.grid_json.proofs.IdSets.{knows-append}
 use Rattle.grid_structure.specs.Network.{Network}
@@ -46,6 +46,17 @@ id_alike net ids other id k = rw (k id) refl
 pub station_alike : (net : Network) (side : ℕ) (used other : List (List ℕ)) (id : List ℕ) → Knows used other → station_check net side used id ≡ station_check net side other id
 unfolding station_check
 station_alike net side used other id k = rw (k id) refl
+
+-- the last of a line's checks tells what all come to
+pub line_last : (net : Network) (ids used mid : List (List ℕ)) (line : HvdcLine) (r : Result ⊤ ReadError) {a b : ⊤} → id_check net ids line.id ≡ Ok a → station_check net 1 used line.station1 ≡ Ok b
+    → Knows mid (used ++ line.station1 ∷ []) → Gives r (station_check net 2 mid line.station2) → Gives r (line_check net ids used line)
+unfolding line_check
+line_last net ids used mid line r one two known last =
+    rw (one, two) (subst (Gives r) (station_alike net 2 mid (used ++ line.station1 ∷ []) line.station2 known) last)
+
+pub stations_known : (r : Result ⊤ ReadError) (used mid now : List (List ℕ)) (first second : List ℕ) → Knows mid (used ++ first ∷ []) → OnOk r (Knows now (mid ++ second ∷ [])) → OnOk r (Knows now ((used ++ first ∷ []) ++ second ∷ []))
+stations_known (Ok done) used mid now first second one two = known_twice used mid now first second one two
+stations_known (Err e) used mid now first second one two = tt
 
 line_alike : (net : Network) (ids other used others : List (List ℕ)) (line : HvdcLine) → Knows ids other → Knows used others → line_check net ids used line ≡ line_check net other others line
 unfolding line_check
