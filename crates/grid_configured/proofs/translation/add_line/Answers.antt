@@ -103,8 +103,8 @@ accepted-requires-2 c =
     let z2 = two ∙ c.second_node-node2.ensures ∙ ap (λ t. pos (c.next_node-next.result + cond t 1 0)) c.is_one-behind.ensures in
     let first : to_z w64 (of_z w64 c.from.result) ≡ pos c.bus_node-bus1.result = search rules in
     let second : to_z w64 (of_z w64 c.from-2.result) ≡ pos c.bus_node-bus2.result = search rules in
-    let mid = made_by c.add_breaker.result _ c.add_breaker.new.self _ c.in_ok-accepted.ensures c.add_breaker.ensures.done (line_first n k line h old c.requires.structure c.bus_node-bus1.result c.bus_node-bus2.result c.next_node.result c.next_node-next.result _ _ _ _ c.bus_node-bus1.ensures c.bus_node-bus2.ensures c.next_node.ensures c.next_node-next.ensures first second z1 z2 c.in_ok-breaker1.breaker1 c.in_ok-breaker1.ensures) in
-    only_memory _ _ c.add_breaker-2.result (line_second n k line h old c.requires.structure c.bus_node-bus1.result c.bus_node-bus2.result c.next_node.result c.next_node-next.result _ _ _ _ c.bus_node-bus1.ensures c.bus_node-bus2.ensures c.next_node.ensures c.next_node-next.ensures first second z1 z2 c.add_breaker.new.self c.in_ok-breaker2.breaker2 mid c.in_ok-breaker2.ensures) c.add_breaker-2.ensures.refused
+    let mid = made_by c.add_breaker.result _ c.add_breaker.new.structure _ c.in_ok-accepted.ensures c.add_breaker.ensures.done (line_first n k line h old c.requires.structure c.bus_node-bus1.result c.bus_node-bus2.result c.next_node.result c.next_node-next.result _ _ _ _ c.bus_node-bus1.ensures c.bus_node-bus2.ensures c.next_node.ensures c.next_node-next.ensures first second z1 z2 c.in_ok-breaker1.breaker1 c.in_ok-breaker1.ensures) in
+    only_memory _ _ c.add_breaker-2.result (line_second n k line h old c.requires.structure c.bus_node-bus1.result c.bus_node-bus2.result c.next_node.result c.next_node-next.result _ _ _ _ c.bus_node-bus1.ensures c.bus_node-bus2.ensures c.next_node.ensures c.next_node-next.ensures first second z1 z2 c.add_breaker.new.structure c.in_ok-breaker2.breaker2 mid c.in_ok-breaker2.ensures) c.add_breaker-2.ensures.refused
 
 pub accepted-requires-3 : goal.accepted-requires-3
 accepted-requires-3 c =
@@ -121,9 +121,9 @@ accepted-requires-3 c =
     let z2 = two ∙ c.second_node-node2.ensures ∙ ap (λ t. pos (c.next_node-next.result + cond t 1 0)) c.is_one-behind.ensures in
     let first : to_z w64 (of_z w64 c.from.result) ≡ pos c.bus_node-bus1.result = search rules in
     let second : to_z w64 (of_z w64 c.from-2.result) ≡ pos c.bus_node-bus2.result = search rules in
-    let mid = made_by c.add_breaker.result _ c.add_breaker.new.self _ c.in_ok-accepted.ensures c.add_breaker.ensures.done (line_first n k line h old c.requires.structure c.bus_node-bus1.result c.bus_node-bus2.result c.next_node.result c.next_node-next.result _ _ _ _ c.bus_node-bus1.ensures c.bus_node-bus2.ensures c.next_node.ensures c.next_node-next.ensures first second z1 z2 c.in_ok-breaker1.breaker1 c.in_ok-breaker1.ensures) in
-    let last = made_by c.add_breaker-2.result _ c.add_breaker-2.new.self _ c.in_ok-accepted-2.ensures c.add_breaker-2.ensures.done (line_second n k line h old c.requires.structure c.bus_node-bus1.result c.bus_node-bus2.result c.next_node.result c.next_node-next.result _ _ _ _ c.bus_node-bus1.ensures c.bus_node-bus2.ensures c.next_node.ensures c.next_node-next.ensures first second z1 z2 c.add_breaker.new.self c.in_ok-breaker2.breaker2 mid c.in_ok-breaker2.ensures) in
-    only_memory _ _ c.add_branch.result (line_third n k line h old c.requires.structure c.bus_node-bus1.result c.bus_node-bus2.result c.next_node.result c.next_node-next.result _ _ _ _ c.bus_node-bus1.ensures c.bus_node-bus2.ensures c.next_node.ensures c.next_node-next.ensures first second z1 z2 c.add_breaker-2.new.self _ _ _ _ last c.in_ok-end_at.ensures c.in_ok-end_at-2.ensures refl refl) c.add_branch.ensures.refused
+    let mid = made_by c.add_breaker.result _ c.add_breaker.new.structure _ c.in_ok-accepted.ensures c.add_breaker.ensures.done (line_first n k line h old c.requires.structure c.bus_node-bus1.result c.bus_node-bus2.result c.next_node.result c.next_node-next.result _ _ _ _ c.bus_node-bus1.ensures c.bus_node-bus2.ensures c.next_node.ensures c.next_node-next.ensures first second z1 z2 c.in_ok-breaker1.breaker1 c.in_ok-breaker1.ensures) in
+    let last = made_by c.add_breaker-2.result _ c.add_breaker-2.new.structure _ c.in_ok-accepted-2.ensures c.add_breaker-2.ensures.done (line_second n k line h old c.requires.structure c.bus_node-bus1.result c.bus_node-bus2.result c.next_node.result c.next_node-next.result _ _ _ _ c.bus_node-bus1.ensures c.bus_node-bus2.ensures c.next_node.ensures c.next_node-next.ensures first second z1 z2 c.add_breaker.new.structure c.in_ok-breaker2.breaker2 mid c.in_ok-breaker2.ensures) in
+    only_memory _ _ c.add_branch.result (line_third n k line h old c.requires.structure c.bus_node-bus1.result c.bus_node-bus2.result c.next_node.result c.next_node-next.result _ _ _ _ c.bus_node-bus1.ensures c.bus_node-bus2.ensures c.next_node.ensures c.next_node-next.ensures first second z1 z2 c.add_breaker-2.new.structure _ _ _ _ last c.in_ok-end_at.ensures c.in_ok-end_at-2.ensures refl refl) c.add_branch.ensures.refused
 
 pub returns : goal.returns
 returns c =
@@ -140,6 +140,6 @@ returns c =
     let z2 = two ∙ c.second_node-node2.ensures ∙ ap (λ t. pos (c.next_node-next.result + cond t 1 0)) c.is_one-behind.ensures in
     let first : to_z w64 (of_z w64 c.from.result) ≡ pos c.bus_node-bus1.result = search rules in
     let second : to_z w64 (of_z w64 c.from-2.result) ≡ pos c.bus_node-bus2.result = search rules in
-    let mid = made_by c.add_breaker.result _ c.add_breaker.new.self _ c.in_ok-accepted.ensures c.add_breaker.ensures.done (line_first n k line h old c.requires.structure c.bus_node-bus1.result c.bus_node-bus2.result c.next_node.result c.next_node-next.result _ _ _ _ c.bus_node-bus1.ensures c.bus_node-bus2.ensures c.next_node.ensures c.next_node-next.ensures first second z1 z2 c.in_ok-breaker1.breaker1 c.in_ok-breaker1.ensures) in
-    let last = made_by c.add_breaker-2.result _ c.add_breaker-2.new.self _ c.in_ok-accepted-2.ensures c.add_breaker-2.ensures.done (line_second n k line h old c.requires.structure c.bus_node-bus1.result c.bus_node-bus2.result c.next_node.result c.next_node-next.result _ _ _ _ c.bus_node-bus1.ensures c.bus_node-bus2.ensures c.next_node.ensures c.next_node-next.ensures first second z1 z2 c.add_breaker.new.self c.in_ok-breaker2.breaker2 mid c.in_ok-breaker2.ensures) in
-    finished c.accepted-3.result c.add_branch.result _ c.add_branch.new.self _ c.accepted-3.ensures c.add_branch.ensures.done (line_third n k line h old c.requires.structure c.bus_node-bus1.result c.bus_node-bus2.result c.next_node.result c.next_node-next.result _ _ _ _ c.bus_node-bus1.ensures c.bus_node-bus2.ensures c.next_node.ensures c.next_node-next.ensures first second z1 z2 c.add_breaker-2.new.self _ _ _ _ last c.in_ok-end_at.ensures c.in_ok-end_at-2.ensures refl refl)
+    let mid = made_by c.add_breaker.result _ c.add_breaker.new.structure _ c.in_ok-accepted.ensures c.add_breaker.ensures.done (line_first n k line h old c.requires.structure c.bus_node-bus1.result c.bus_node-bus2.result c.next_node.result c.next_node-next.result _ _ _ _ c.bus_node-bus1.ensures c.bus_node-bus2.ensures c.next_node.ensures c.next_node-next.ensures first second z1 z2 c.in_ok-breaker1.breaker1 c.in_ok-breaker1.ensures) in
+    let last = made_by c.add_breaker-2.result _ c.add_breaker-2.new.structure _ c.in_ok-accepted-2.ensures c.add_breaker-2.ensures.done (line_second n k line h old c.requires.structure c.bus_node-bus1.result c.bus_node-bus2.result c.next_node.result c.next_node-next.result _ _ _ _ c.bus_node-bus1.ensures c.bus_node-bus2.ensures c.next_node.ensures c.next_node-next.ensures first second z1 z2 c.add_breaker.new.structure c.in_ok-breaker2.breaker2 mid c.in_ok-breaker2.ensures) in
+    finished c.accepted-3.result c.add_branch.result _ c.add_branch.new.self _ c.accepted-3.ensures c.add_branch.ensures.done (line_third n k line h old c.requires.structure c.bus_node-bus1.result c.bus_node-bus2.result c.next_node.result c.next_node-next.result _ _ _ _ c.bus_node-bus1.ensures c.bus_node-bus2.ensures c.next_node.ensures c.next_node-next.ensures first second z1 z2 c.add_breaker-2.new.structure _ _ _ _ last c.in_ok-end_at.ensures c.in_ok-end_at-2.ensures refl refl)
