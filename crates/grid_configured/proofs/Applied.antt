@@ -1,12 +1,12 @@
 -- No edit by which a network with configured buses is put into node/breaker form is refused, and what each makes: levels.
-use Rattle.std.proofs.Common.{◌≡◌, refl, sym, ap, ◌∙◌, subst, ℕ, zero, suc, ◌+◌, ◌<◌, ◌≤◌, Bool, true, false, cond, not, ◌&&◌, ◌||◌, List, [], ◌∷◌, ◌++◌, length, get_or, Result, Ok, Err, append_assoc, inl, inr, arith}
-use Rattle.std.specs.Prelude.{ℤ, pos, eqb, Option, Some, None, map, find, flat_map, slice_get, take, codes, decimal, ⊤, All, IsTrue, IfErr, not}
+use Rattle.std.proofs.Common.{◌≡◌, refl, sym, ap, ◌∙◌, subst, ℕ, zero, suc, ◌+◌, ◌<◌, ◌≤◌, Bool, true, false, not, ◌&&◌, List, [], ◌∷◌, ◌++◌, length, get_or, Result, Ok, Err, append_assoc, arith}
+use Rattle.std.specs.Prelude.{pos, eqb, Some, None, map, slice_get, take, decimal, ⊤, All, IfErr, not}
 use Rattle.std.specs.List.{list_any, list_all}
 use Rattle.std.proofs.lemmas.Bool.{and_parts, not-true}
-use Rattle.std.proofs.lemmas.List.{append-nil, map-append, map-id, length-append, length-map, take_all}
+use Rattle.std.proofs.lemmas.List.{append-nil, take_all}
 use Rattle.std.proofs.lemmas.Option.{slice_get-get_or}
-use Rattle.std.proofs.lemmas.List.Elements.{All-nil, All-cons, All-head, All-tail}
-use Rattle.grid_ids.specs.Name.{same_id, has_id}
+use Rattle.std.proofs.lemmas.List.Elements.{All-nil, All-cons}
+use Rattle.grid_ids.specs.Name.{has_id}
 use Rattle.grid_level.specs.Passing.{is_busbar}
 use Rattle.grid_kinds.specs.declared.SwitchKind.TheVariants.{Breaker}
 use Rattle.grid_level.specs.LevelEdits.{max_nodes}
@@ -19,7 +19,7 @@ use Rattle.grid_structure.specs.Editing.{apply, IsTold}
 use Rattle.grid_structure.proofs.Adding.{with_bare}
 use Rattle.grid_paths.proofs.Least.{some_same, some_none}
 use Rattle.grid_json.specs.declared.fault.Fault.{Fault}
-use Rattle.grid_json.specs.Reading.{◌>>=◌, here, under}
+use Rattle.grid_json.specs.Reading.{under}
 use Rattle.grid_configured.specs.declared.network.BusSwitch.{BusSwitch}
 use Rattle.grid_configured.specs.declared.network.Item.{Item}
 use Rattle.grid_configured.specs.declared.network.ConfiguredLine.{ConfiguredLine}
@@ -28,15 +28,15 @@ use Rattle.grid_configured.specs.declared.network.ConfiguredNetwork.{ConfiguredN
 use Rattle.grid_configured.specs.Names.{is_plain, switch_plain, item_plain, line_plain, level_plain, network_plain}
 use Rattle.grid_configured.specs.Checks as checks
 use Rattle.grid_configured.specs.Checks.{each_check, ids_of, level_check, bus_check, switch_check, item_check, line_check, IsTranslatable}
-use Rattle.grid_configured.specs.Places.{Joint, Outlet, PlacedLevel, PlacesFit}
+use Rattle.grid_configured.specs.Places.{Joint, PlacesFit}
 use Rattle.grid_configured.specs.Levels.{bus_place, joint_of, item_outlet}
 use Rattle.grid_configured.specs.Translation.{breaker_id, substation_id, translated}
-use Rattle.grid_configured.specs.Partial.{first_levels, with_level, first_buses, first_switches, first_items, with_part, with_buses, with_switches, with_items}
+use Rattle.grid_configured.specs.Partial.{first_levels, first_buses, first_switches, first_items, with_part, with_buses, with_switches, with_items}
 use Rattle.grid_configured.proofs.Nodes.{StandsWell}
 use Rattle.grid_configured.proofs.Checked.{right_first, right_under, NetworkRight, network_right, LevelRight, level_right, PartsRight, bus_there}
 use Rattle.grid_configured.proofs.Stacked.{Each}
 use Rattle.grid_configured.proofs.Tagged.{Unmarked, PlainLevel, PlainNetwork}
-use Rattle.grid_configured.proofs.Building.{TerminalRight, alone, levels_only, SwitchRight, switch_right, ItemRight, item_right, bus_few, home_step, level_step, bus_step, joint_step, half, item_breaker, item_step}
+use Rattle.grid_configured.proofs.Building.{alone, levels_only, switch_right, item_right, bus_few, home_step, level_step, bus_step, joint_step, half, item_breaker, item_step}
 
 -- ---- the answers of edits
 

@@ -1,6 +1,6 @@
 -- The machines of the two forms side by side: of one request, of a lineage, and of a history.
-use Rattle.std.proofs.Common.{◌≡◌, refl, sym, ap, ◌∙◌, subst, ℕ, ℤ, zero, suc, ◌+◌, ◌<◌, ◌≤◌, Bool, true, false, cond, not, ◌&&◌, ◌||◌, List, [], ◌∷◌, ◌++◌, length, get_or, inl, inr, ◌⊎◌, arith}
-use Rattle.std.specs.Prelude.{Option, Some, None, Result, Ok, Err, map, option_map, option_and_then, slice_get, nat_le, All, IsTrue}
+use Rattle.std.proofs.Common.{◌≡◌, refl, sym, ap, ◌∙◌, subst, ℕ, ℤ, Bool, true, false, cond, not, ◌&&◌, ◌||◌, List, [], ◌∷◌, length, inl, inr}
+use Rattle.std.specs.Prelude.{nat_le, All, IsTrue}
 use Rattle.std.proofs.lemmas.Bool.{cases_Bool, false≢true, true≢false, and_parts, not-true}
 use Rattle.std.proofs.lemmas.List.Elements.{All-head, All-tail, All-cons, All-nil}
 use Rattle.grid_ids.specs.Name.{same_id, has_id}
@@ -19,16 +19,15 @@ use Rattle.grid_core.specs.History.{Command, live, is_live, working, switches_on
 use Rattle.grid_core.specs.Replies as answers
 use Rattle.grid_core.specs.Replies.{state_of, use_reply, clone_reply, remove_reply}
 use Rattle.grid_configured.specs.declared.network.ConfiguredNetwork.{ConfiguredNetwork}
-use Rattle.grid_configured.specs.declared.reply.ConfiguredReply.{ConfiguredReply}
 use Rattle.grid_configured.specs.declared.reply.ConfiguredReply.TheVariants as told
-use Rattle.grid_configured.specs.Names.{is_plain, is_mark, request_plain}
+use Rattle.grid_configured.specs.Names.{is_plain, request_plain}
 use Rattle.grid_configured.specs.Translation.{translated}
-use Rattle.grid_configured.specs.Sites.{bus_ids, find_level, find_joint, sides}
-use Rattle.grid_configured.specs.Machine.{Flags, Step, opening, refused, switched, outlet_of_side, plugged, machine, after}
-use Rattle.grid_configured.specs.Histories.{lineage, flags_of, variant_reply, reply_on, reply_to, reply, ArePlain}
+use Rattle.grid_configured.specs.Sites.{bus_ids}
+use Rattle.grid_configured.specs.Machine.{Flags, refused, outlet_of_side, plugged, machine, after}
+use Rattle.grid_configured.specs.Histories.{lineage, flags_of, variant_reply, reply_on, reply_to, ArePlain}
 use Rattle.grid_configured.specs.Told.{told_reply}
 use Rattle.grid_configured.proofs.Located.{is_marked}
-use Rattle.grid_configured.proofs.Mirrored.{NetworkFits, Mirrors, StepMirrors, opening_mirrors, switch_mirrors}
+use Rattle.grid_configured.proofs.Mirrored.{NetworkFits, Mirrors, opening_mirrors, switch_mirrors}
 use Rattle.grid_configured.proofs.Plugged.{plug_mirrors}
 use Rattle.grid_configured.proofs.Buses.{bus_stays}
 

@@ -1,14 +1,13 @@
 -- What the edits make of a network in node/breaker form, whose last level gets one thing more.
-use Rattle.std.proofs.Common.{◌≡◌, refl, sym, ap, ◌∙◌, subst, ℕ, zero, suc, ◌+◌, ◌<◌, ◌≤◌, Bool, true, false, cond, not, ◌&&◌, ◌||◌, List, [], ◌∷◌, ◌++◌, length, get_or, Result, Ok, Err, append_assoc, inl, inr, arith}
-use Rattle.std.specs.Prelude.{ℤ, pos, Option, Some, None, map, find, flat_map, position, unwrap_or, slice_get, take, codes, decimal, ⊤, All, nat_le, sum_by}
-use Rattle.std.specs.List.{list_any, enumerate_from}
+use Rattle.std.proofs.Common.{◌≡◌, refl, sym, ap, ◌∙◌, subst, ℕ, ◌+◌, ◌<◌, ◌≤◌, true, false, cond, not, ◌&&◌, ◌||◌, List, [], ◌∷◌, ◌++◌, length, get_or, Ok, Err, arith}
+use Rattle.std.specs.Prelude.{pos, Option, Some, None, map, find, flat_map, position, unwrap_or, slice_get, codes, decimal, nat_le}
+use Rattle.std.specs.List.{enumerate_from}
 use Rattle.std.proofs.lemmas.Bool.{and_parts, or_parts, true≢false, not-false, leb-false}
 use Rattle.std.proofs.lemmas.List.{append-nil, map-append, map-id, length-append, length-map}
 use Rattle.std.proofs.lemmas.List.Concat.{flat_map-append}
-use Rattle.std.proofs.lemmas.List.Folds.{find-append}
 use Rattle.std.proofs.lemmas.List.FromFn.{length-enumerate_from}
-use Rattle.std.proofs.lemmas.List.Elements.{All-nil, All-cons}
-use Rattle.std.proofs.lemmas.List.Sums.{sum_by-append, sum_by-cons}
+use Rattle.std.proofs.lemmas.List.Elements.{All-nil}
+use Rattle.std.proofs.lemmas.List.Sums.{sum_by-cons}
 use Rattle.std.proofs.lemmas.Option.{slice_get-get_or}
 use Rattle.std.proofs.lemmas.Slice.Eq.{bytes_eq-Decides}
 use Rattle.grid_ids.specs.Name.{same_id, has_id}
@@ -18,30 +17,26 @@ use Rattle.grid_kinds.specs.declared.CheckFault.{CheckFault}
 use Rattle.grid_kinds.specs.declared.SwitchKind.TheVariants.{Breaker}
 use Rattle.grid_level.specs.declared.Switch.{Switch}
 use Rattle.grid_level.specs.declared.Placed.{Placed}
-use Rattle.grid_level.specs.declared.Stand.TheVariants.{Busbar, Feeder}
 use Rattle.grid_level.specs.VoltageLevel.{VoltageLevel}
-use Rattle.grid_level.specs.LevelEdits.{max_nodes, max_edges, level_with_switch, level_with_terminal}
-use Rattle.grid_structure.specs.declared.NamedBranch.{NamedBranch}
+use Rattle.grid_level.specs.LevelEdits.{max_nodes, max_edges}
 use Rattle.grid_structure.specs.declared.Edit.TheVariants as edits
 use Rattle.grid_structure.specs.Network.{Network}
 use Rattle.grid_structure.specs.Editing.{max_levels, max_switches, apply}
 use Rattle.grid_structure.proofs.Adding.{with_bare}
 use Rattle.grid_structure.proofs.Places.{position_none, position_found}
-use Rattle.grid_json.specs.declared.fault.Fault.{Fault}
-use Rattle.grid_json.specs.Reading.{◌>>=◌, here, under}
 use Rattle.grid_configured.specs.declared.network.BusSwitch.{BusSwitch}
 use Rattle.grid_configured.specs.declared.network.Item.{Item}
 use Rattle.grid_configured.specs.declared.network.ConfiguredLevel.{ConfiguredLevel}
 use Rattle.grid_configured.specs.declared.network.ConfiguredNetwork.{ConfiguredNetwork}
 use Rattle.grid_configured.specs.Checks as checks
 use Rattle.grid_configured.specs.Checks.{each_check, level_ids, ids_of, level_edges, level_check, level_reasons, id_reasons, bus_check, bus_reasons, switch_check, switch_reasons, buses_reasons, item_check, item_reasons, terminal_reasons, record_fault}
-use Rattle.grid_configured.specs.Places.{Joint, Outlet, PlacedLevel, PlacesFit}
+use Rattle.grid_configured.specs.Places.{PlacedLevel, PlacesFit}
 use Rattle.grid_configured.specs.Levels.{bus_place, joint_of, item_outlet, line_outlets, outlets, placed_level, placed_levels}
-use Rattle.grid_configured.specs.Translation.{joint_breaker, breaker_id, outlet_breaker, bus_section, outlet_placed, outlets_at, translated_level, substation_id, translated_line, translated}
-use Rattle.grid_configured.proofs.Stacked.{Each, each_join, Lacks, Free, Keeps, At, at_changed, on, on_own, on_none, stack, free_switched, join_free, same_itself, same_back, empty_level, home_added, level_added, busbar_added, injection_added, switch_added}
-use Rattle.grid_configured.proofs.Enlarged.{Under, switch_more, placed_more, switch_fits, switch_under, terminal_fit, terminal_under, next_node, outlet_more, outlet_grown, joint_more, joint_grown, bus_more, bus_grown, placed_below, level_under}
-use Rattle.grid_configured.proofs.Tagged.{Unmarked, tagged, tagged_marked, plain_apart, breaker_tagged, home_tagged, PlainLevel, PlainNetwork, Fresh, join_parts, shaped, shaped_lines, translated_stack, free_plain, free_tagged}
-use Rattle.grid_configured.proofs.Checked.{right_first, right_under, not_refused, bus_there, fresh_bus, fresh_switch, fresh_item}
+use Rattle.grid_configured.specs.Translation.{joint_breaker, breaker_id, outlet_breaker, bus_section, outlet_placed, outlets_at, translated_level, substation_id, translated}
+use Rattle.grid_configured.proofs.Stacked.{Each, each_join, Free, At, on, on_own, on_none, stack, free_switched, join_free, same_itself, empty_level, home_added, level_added, busbar_added, injection_added, switch_added}
+use Rattle.grid_configured.proofs.Enlarged.{Under, switch_more, placed_more, switch_fits, switch_under, terminal_fit, next_node, outlet_grown, joint_grown, bus_grown, placed_below, level_under}
+use Rattle.grid_configured.proofs.Tagged.{Unmarked, tagged, tagged_marked, plain_apart, breaker_tagged, home_tagged, PlainLevel, PlainNetwork, Fresh, join_parts, shaped, translated_stack, free_plain, free_tagged}
+use Rattle.grid_configured.proofs.Checked.{right_first, not_refused, bus_there, fresh_bus, fresh_switch, fresh_item}
 use Rattle.grid_configured.proofs.Located.{is_marked}
 
 -- ---- levels without lines

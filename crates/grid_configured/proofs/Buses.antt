@@ -1,22 +1,17 @@
 -- Buses as equipment of the node/breaker form: where they are, and that connecting and disconnecting them changes nothing.
-use Rattle.std.proofs.Common.{◌≡◌, refl, sym, ap, ◌∙◌, subst, ℕ, ℤ, zero, suc, ◌+◌, ◌<◌, ◌≤◌, Bool, true, false, cond, not, ◌&&◌, ◌||◌, List, [], ◌∷◌, ◌++◌, length, get_or, append_assoc, inl, inr, ◌⊎◌, arith}
-use Rattle.std.specs.Prelude.{Option, Some, None, Result, Ok, Err, eqb, map, find, flat_map, option_map, slice_get, All}
+use Rattle.std.proofs.Common.{◌≡◌, refl, sym, ap, ◌∙◌, subst, ℕ, ℤ, suc, ◌+◌, ◌<◌, ◌≤◌, Bool, true, false, cond, ◌&&◌, ◌||◌, List, [], ◌∷◌, ◌++◌, length, append_assoc, inl, inr, ◌⊎◌, arith}
+use Rattle.std.specs.Prelude.{Option, Some, None, Result, eqb, map, find, flat_map, option_map, slice_get}
 use Rattle.std.specs.Option.{option_or}
 use Rattle.std.specs.List.{list_any, enumerate_from}
-use Rattle.std.proofs.lemmas.Bool.{cases_Bool, or_parts, true≢false, false≢true}
+use Rattle.std.proofs.lemmas.Bool.{or_parts}
 use Rattle.std.proofs.lemmas.List.Folds.{find-append}
 use Rattle.grid_ids.specs.Name.{same_id, has_id}
 use Rattle.grid_ids.specs.Refusing.{◌>>=◌, found_or}
 use Rattle.grid_level.specs.declared.Placed.{Placed}
-use Rattle.grid_level.specs.declared.Terminal.{Terminal}
 use Rattle.grid_level.specs.declared.Stand.TheVariants.{BranchEnd}
-use Rattle.grid_level.specs.VoltageLevel.{VoltageLevel}
 use Rattle.grid_structure.specs.Sites as sites
 use Rattle.grid_structure.specs.Sites.{levels, first_found}
 use Rattle.grid_states.specs.Rows.{row_at}
-use Rattle.grid_connect.specs.Plans.{connect_plan_of, disconnect_plan_of}
-use Rattle.grid_connect.specs.declared.ConnectPlan.{ConnectPlan}
-use Rattle.grid_connect.specs.declared.DisconnectPlan.{DisconnectPlan}
 use Rattle.grid_core.specs.declared.reply.Refusal.{Refusal}
 use Rattle.grid_core.specs.declared.reply.Refusal.TheVariants as refusals
 use Rattle.grid_core.specs.Solo as solo
@@ -27,14 +22,14 @@ use Rattle.grid_configured.specs.declared.network.BusEnd.{BusEnd}
 use Rattle.grid_configured.specs.declared.network.ConfiguredLine.{ConfiguredLine}
 use Rattle.grid_configured.specs.declared.network.ConfiguredLevel.{ConfiguredLevel}
 use Rattle.grid_configured.specs.declared.network.ConfiguredNetwork.{ConfiguredNetwork}
-use Rattle.grid_configured.specs.Places.{Outlet, PlacedLevel, PlacesFit, stood}
+use Rattle.grid_configured.specs.Places.{Outlet, PlacedLevel, stood}
 use Rattle.grid_configured.specs.Levels.{bus_place, item_outlet, end_outlets, line_outlets, outlets, placed_level, placed_levels}
 use Rattle.grid_configured.specs.Translation.{bus_section, outlet_placed, outlets_at, translated_level, translated}
 use Rattle.grid_configured.specs.Sites.{bus_ids, item_ids, line_ids, sides}
 use Rattle.grid_configured.proofs.Flagged.{places_stood}
 use Rattle.grid_configured.proofs.Connecting.{connect_bus}
 use Rattle.grid_configured.proofs.Parting.{disconnect_bus}
-use Rattle.grid_configured.proofs.Located.{levels_are, placed_test, level_test, has_join, site_is, buses_from}
+use Rattle.grid_configured.proofs.Located.{placed_test, level_test, has_join, site_is, buses_from}
 use Rattle.grid_configured.specs.Machine.{Flags}
 use Rattle.grid_configured.proofs.Mirrored.{NetworkFits, Mirrors}
 use Rattle.grid_configured.proofs.Plugged.{fits_at, level_there, level_now}

@@ -1,11 +1,11 @@
 -- What the calls that put a network with configured buses into node/breaker form answer.
-use Rattle.std.proofs.Common.{◌≡◌, refl, sym, ap, ◌∙◌, subst, ℕ, zero, suc, ◌+◌, ◌<◌, ◌≤◌, Bool, true, false, cond, not, ◌&&◌, ◌||◌, List, [], ◌∷◌, ◌++◌, length, get_or, Result, Ok, Err, append_assoc, inl, inr, arith}
-use Rattle.std.specs.Prelude.{ℤ, pos, eqb, nat_lt, Option, Some, None, IsSome, IfSome, map, find, slice_get, slice_index_or, take, codes, decimal, ⊤, IsTrue, IsOk, IfErr, IfOk, OnOk, option_map}
+use Rattle.std.proofs.Common.{◌≡◌, refl, sym, ap, ◌∙◌, subst, ℕ, zero, suc, ◌+◌, ◌<◌, ◌≤◌, Bool, true, false, cond, not, ◌&&◌, List, [], ◌∷◌, ◌++◌, length, Result, Ok, Err, append_assoc, arith}
+use Rattle.std.specs.Prelude.{ℤ, pos, eqb, nat_lt, Option, Some, None, IsSome, IfSome, map, find, slice_get, slice_index_or, codes, ⊤, IsTrue, IsOk, IfOk, OnOk, option_map}
 use Rattle.std.specs.List.{list_any, list_all}
 use Rattle.std.specs.Fmt.{digits}
 use Rattle.std.specs.Option.{option_or}
-use Rattle.std.proofs.lemmas.Bool.{false≢true, and_parts, leb-true, le-ltb, ne_eqb, cases_lt}
-use Rattle.std.proofs.lemmas.List.{append-nil, length-append, take_all}
+use Rattle.std.proofs.lemmas.Bool.{false≢true, and_parts, leb-true, le-ltb, ne_eqb}
+use Rattle.std.proofs.lemmas.List.{length-append, take_all}
 use Rattle.std.proofs.lemmas.List.Folds.{find-append}
 use Rattle.grid_ids.specs.Fault.{id_fault, is_control}
 use Rattle.grid_ids.specs.Name.{same_id}
@@ -22,7 +22,7 @@ use Rattle.grid_structure.specs.declared.ApplyFault.{ApplyFault}
 use Rattle.grid_structure.specs.Network.{Network}
 use Rattle.grid_structure.specs.Editing.{apply}
 use Rattle.grid_structure.proofs.Adding.{with_bare}
-use Rattle.grid_structure.proofs.Places.{get_there, got_below}
+use Rattle.grid_structure.proofs.Places.{get_there}
 use Rattle.grid_structure.proofs.ListOfLevels.{level_at}
 use Rattle.grid_paths.proofs.Least.{some_same, some_none}
 use Rattle.grid_configured.specs.declared.network.Item.{Item}
@@ -33,9 +33,9 @@ use Rattle.grid_configured.specs.Names.{is_plain, item_plain, line_plain, level_
 use Rattle.grid_configured.specs.Checks.{IsTranslatable}
 use Rattle.grid_configured.specs.Levels.{bus_place}
 use Rattle.grid_configured.specs.Translation.{breaker_id, substation_id, substation_of, translated_line, translated}
-use Rattle.grid_configured.specs.Partial.{first_levels, first_lines, with_buses, with_switches, with_items, with_lines}
-use Rattle.grid_configured.proofs.Applied.{made, LevelAt, level_of, home_law, level_law, bus_law, joint_law, breaker_law, between, item_law, all_buses, all_switches, all_items}
-use Rattle.grid_configured.proofs.Extended.{joint_sites, item_site, LineAt, line_of, LineSteps, line_steps}
+use Rattle.grid_configured.specs.Partial.{first_levels, with_buses, with_switches, with_items, with_lines}
+use Rattle.grid_configured.proofs.Applied.{made, LevelAt, home_law, level_law, bus_law, joint_law, breaker_law, between, item_law, all_buses, all_switches, all_items}
+use Rattle.grid_configured.proofs.Extended.{joint_sites, item_site, LineAt, LineSteps, line_steps}
 use Rattle.grid_structure.specs.Sites as sites
 use Rattle.grid_configured.specs.declared.network.BusSwitch.{BusSwitch}
 

@@ -1,21 +1,21 @@
 -- What a network in which no fault is found keeps: its ids differ, and what names a bus names one that is there.
-use Rattle.std.proofs.Common.{◌≡◌, refl, sym, ap, ◌∙◌, subst, ℕ, zero, suc, ◌+◌, ◌<◌, ◌≤◌, Bool, true, false, cond, not, ◌&&◌, ◌||◌, List, [], ◌∷◌, ◌++◌, length, get_or, Result, Ok, Err, append_assoc, inl, inr, arith}
-use Rattle.std.specs.Prelude.{Option, Some, None, map, find, flat_map, position, unwrap_or, slice_get, decimal, codes, ⊤, All, IsTrue}
-use Rattle.std.proofs.lemmas.Bool.{cases_Bool, false≢true, true≢false, and_parts, not-true, not-false, false_from_ne_true}
+use Rattle.std.proofs.Common.{◌≡◌, refl, sym, ap, ◌∙◌, subst, ℕ, zero, suc, ◌+◌, ◌<◌, ◌≤◌, Bool, true, false, cond, not, ◌&&◌, List, [], ◌∷◌, ◌++◌, length, get_or, Result, Ok, Err, append_assoc, arith}
+use Rattle.std.specs.Prelude.{Option, Some, None, map, find, flat_map, position, unwrap_or, slice_get, decimal, codes, ⊤, All}
+use Rattle.std.proofs.lemmas.Bool.{true≢false, and_parts, not-false, false_from_ne_true}
 use Rattle.std.proofs.lemmas.List.{append-nil, map-append, map-id}
 use Rattle.std.proofs.lemmas.List.Concat.{flat_map-append}
-use Rattle.std.proofs.lemmas.List.Elements.{All-append, All-map, All-nil, All-cons, All-head, All-tail, All-weaker}
+use Rattle.std.proofs.lemmas.List.Elements.{All-append, All-map, All-nil, All-cons, All-head, All-tail}
 use Rattle.std.proofs.lemmas.Option.{slice_get-get_or}
 use Rattle.std.proofs.lemmas.Slice.Eq.{bytes_eq-Decides}
 use Rattle.grid_ids.specs.Name.{same_id, has_id}
-use Rattle.grid_ids.specs.Refusing.{refuse_if, refuse_by, found_or}
+use Rattle.grid_ids.specs.Refusing.{refuse_if, found_or}
 use Rattle.grid_level.specs.declared.Stand.TheVariants.{BranchEnd}
 use Rattle.grid_level.specs.Passing.{is_busbar}
 use Rattle.grid_structure.proofs.Counts.{times, times-append, not_there, there}
 use Rattle.grid_structure.proofs.Places.{position_none, position_found}
 use Rattle.grid_paths.proofs.Least.{some_same, some_none}
 use Rattle.grid_json.specs.declared.fault.Fault.{Fault}
-use Rattle.grid_json.specs.Reading.{◌>>=◌, here, under}
+use Rattle.grid_json.specs.Reading.{◌>>=◌, under}
 use Rattle.grid_configured.specs.declared.network.BusSwitch.{BusSwitch}
 use Rattle.grid_configured.specs.declared.network.Item.{Item}
 use Rattle.grid_configured.specs.declared.network.BusEnd.{BusEnd}
@@ -24,7 +24,7 @@ use Rattle.grid_configured.specs.declared.network.ConfiguredLevel.{ConfiguredLev
 use Rattle.grid_configured.specs.declared.network.ConfiguredNetwork.{ConfiguredNetwork}
 use Rattle.grid_configured.specs.Checks as checks
 use Rattle.grid_configured.specs.Checks.{each_check, list_check, level_ids, ids_of, level_check, parts_check, bus_check, switch_check, item_check, line_check, end_check, level_reasons, bus_reasons, buses_reasons, switch_reasons, item_reasons, end_reasons, id_reasons, terminal_reasons, network_check, IsTranslatable}
-use Rattle.grid_configured.specs.Places.{Joint, Outlet, PlacedLevel, PlacesFit}
+use Rattle.grid_configured.specs.Places.{Joint, PlacesFit}
 use Rattle.grid_configured.specs.Levels.{bus_place, joint_of, item_outlet, end_outlets, line_outlets, outlets, placed_level, placed_levels}
 use Rattle.grid_configured.specs.Sites.{bus_ids, item_ids, line_ids, sides}
 use Rattle.grid_configured.proofs.Nodes.{StandsWell}

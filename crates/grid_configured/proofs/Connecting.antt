@@ -1,23 +1,19 @@
 -- The plan that connects a terminal of a level in node/breaker form: it closes the terminal's own breaker.
-use Rattle.std.proofs.Common.{◌≡◌, refl, sym, ap, ◌∙◌, subst, ℕ, zero, suc, ◌+◌, ◌-◌, ◌<◌, ◌≤◌, Bool, true, false, cond, not, ◌&&◌, ◌||◌, List, [], ◌∷◌, ◌++◌, length, get_or, inl, inr, ◌⊎◌, arith}
-use Rattle.std.specs.Prelude.{Option, Some, None, eqb, filter, count_by, slice_get}
-use Rattle.std.specs.List.{list_any, list_all}
+use Rattle.std.proofs.Common.{◌≡◌, refl, sym, ap, ◌∙◌, subst, ℕ, ◌+◌, ◌<◌, ◌≤◌, Bool, true, false, cond, not, List, [], ◌∷◌, length, get_or, inl, inr, arith}
+use Rattle.std.specs.Prelude.{Option, Some, None, eqb, count_by, slice_get}
 use Rattle.std.specs.declared.cmp.Ordering.{Ordering}
-use Rattle.std.specs.declared.cmp.Ordering.TheVariants.{Less, Equal, Greater}
+use Rattle.std.specs.declared.cmp.Ordering.TheVariants.{Equal, Greater}
 use Rattle.std.specs.Ordering.{nat_cmp, is_lt, ordering_then}
 use Rattle.std.specs.Cmp.Lexicographic.{slice_cmp}
-use Rattle.std.proofs.lemmas.Bool.{cases_Bool, cases_lt, eq-eqb, ne_eqb, le-ltb, both_ways, or_right, and_from}
+use Rattle.std.proofs.lemmas.Bool.{cases_Bool, ne_eqb, le-ltb, both_ways, or_right, and_from}
 use Rattle.std.proofs.lemmas.List.Sums.{sum_by-cons}
 use Rattle.grid_graph.proofs.Reach.{In}
 use Rattle.grid_graph.proofs.Places.{In_places}
-use Rattle.grid_level.specs.declared.Switch.{Switch}
-use Rattle.grid_level.specs.VoltageLevel.{VoltageLevel}
 use Rattle.grid_level.specs.Passing.{nodes, carries_busbar, is_connected, is_operable, is_breaker}
-use Rattle.grid_paths.specs.Paths.{◌>>=◌, has_node, across, visited, differ_if_some, all_differ, is_path, last_in, last_node, measure_cmp, is_better}
+use Rattle.grid_paths.specs.Paths.{◌>>=◌, has_node, across, visited, all_differ, last_in, measure_cmp, is_better}
 use Rattle.grid_paths.proofs.Least.{some_same, some_none}
 use Rattle.grid_connect.specs.Plans.{all_ends, opened_at, is_open, closable_at, may_be_closed, is_closable, connect_plan_of}
-use Rattle.grid_connect.specs.declared.ConnectPlan.{ConnectPlan}
-use Rattle.grid_connect.specs.declared.ConnectPlan.TheVariants.{Close, AlreadyConnected, NoPath}
+use Rattle.grid_connect.specs.declared.ConnectPlan.TheVariants.{Close, AlreadyConnected}
 use Rattle.grid_connect.proofs.Joining.{Parts, parts_of, closable_of}
 use Rattle.grid_connect.proofs.Planning.{LeastClosable, plan_least, plan_with}
 use Rattle.grid_configured.specs.Places.{Outlet, PlacedLevel, PlacesFit}

@@ -1,8 +1,8 @@
 -- Which groups of a level in node/breaker form are buses.
-use Rattle.std.proofs.Common.{◌≡◌, refl, sym, ap, ◌∙◌, subst, ℕ, zero, suc, ◌+◌, ◌-◌, ◌<◌, ◌≤◌, Bool, true, false, cond, not, ◌&&◌, ◌||◌, List, [], ◌∷◌, ◌++◌, length, get_or, inl, inr, arith}
-use Rattle.std.specs.Prelude.{eqb, nat_lt, nat_le, map, filter, count_by, All}
+use Rattle.std.proofs.Common.{◌≡◌, refl, sym, ap, ◌∙◌, ℕ, zero, suc, ◌+◌, ◌<◌, ◌≤◌, Bool, true, false, cond, not, ◌&&◌, ◌||◌, List, [], ◌∷◌, ◌++◌, length, arith}
+use Rattle.std.specs.Prelude.{eqb, nat_le, map, filter, count_by, All}
 use Rattle.std.specs.List.{list_any, enumerate_from, range_with_len}
-use Rattle.std.proofs.lemmas.Bool.{cases_Bool, and_right, le-leb, lt-leb, leb-true, leb-false, eqb-true, false_from_ne_true, both_ways}
+use Rattle.std.proofs.lemmas.Bool.{and_right, le-leb, lt-leb, eqb-true, false_from_ne_true, both_ways}
 use Rattle.std.proofs.lemmas.List.{append-nil, length-map}
 use Rattle.std.proofs.lemmas.List.Elements.{filter-append, All-head, All-tail, All-cons, All-nil, All-filter}
 use Rattle.std.proofs.lemmas.List.Sums.{sum_by-append, sum_by-cons}
@@ -11,18 +11,17 @@ use Rattle.grid_graph.specs.Components.{places}
 use Rattle.grid_graph.proofs.Reach.{In, joined_refl}
 use Rattle.grid_graph.proofs.Places.{places_In}
 use Rattle.grid_level.specs.declared.Placed.{Placed}
-use Rattle.grid_level.specs.VoltageLevel.{VoltageLevel}
-use Rattle.grid_level.specs.Passing.{bus, nodes, passing, placed_among, is_busbar, is_branch_end}
-use Rattle.grid_groups.specs.Groups.{group_under, leaders}
+use Rattle.grid_level.specs.Passing.{bus, passing, is_busbar, is_branch_end}
+use Rattle.grid_groups.specs.Groups.{leaders}
 use Rattle.grid_groups.proofs.Lists.{some_member, filter_In}
 use Rattle.grid_busview.specs.Views.{is_feeder, is_valid, is_bus}
 use Rattle.grid_configured.specs.Places.{Outlet, PlacedLevel, PlacesFit, closed_pairs, joined_places, first_places}
 use Rattle.grid_configured.specs.Translation.{bus_section, outlet_placed, outlets_at, translated_level}
 use Rattle.grid_configured.specs.Views.{connects_among, is_view_bus}
-use Rattle.grid_configured.proofs.Nodes.{StandsWell, level_nodes, level_passing, numbers_from, filter_map_of, spokes}
+use Rattle.grid_configured.proofs.Nodes.{StandsWell, level_nodes, level_passing, numbers_from, filter_map_of}
 use Rattle.grid_configured.proofs.Hanging.{outlet_of}
 use Rattle.grid_configured.proofs.Joined.{pairs_of, node_total, buses_joined, places_split, range_bounds, least_bus, least_hanging}
-use Rattle.grid_configured.proofs.Grouped.{filter_same, filter_none, filter_neither, at_places, at_nodes, sections, feeders, in_places, standing, standing_alone}
+use Rattle.grid_configured.proofs.Grouped.{filter_same, filter_neither, at_places, at_nodes, sections, feeders, in_places, standing, standing_alone}
 
 -- ---- counts
 

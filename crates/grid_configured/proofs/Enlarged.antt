@@ -1,20 +1,14 @@
 -- Levels in node/breaker form that get one thing more.
-use Rattle.std.proofs.Common.{◌≡◌, refl, sym, ap, ◌∙◌, subst, ℕ, zero, suc, ◌+◌, ◌<◌, ◌≤◌, Bool, true, false, cond, not, ◌&&◌, ◌||◌, List, [], ◌∷◌, ◌++◌, length, Result, Ok, Err, append_assoc, arith}
-use Rattle.std.specs.Prelude.{ℤ, pos, eqb, nat_lt, nat_le, Option, Some, None, map, find, flat_map}
-use Rattle.std.specs.List.{list_any, list_all, enumerate_from, range_with_len}
+use Rattle.std.proofs.Common.{◌≡◌, refl, sym, ap, ◌∙◌, ℕ, zero, suc, ◌+◌, ◌<◌, ◌≤◌, Bool, true, List, [], ◌∷◌, ◌++◌, length, Ok, append_assoc, arith}
+use Rattle.std.specs.Prelude.{pos, nat_lt, nat_le, None, map, find, flat_map}
+use Rattle.std.specs.List.{list_all, enumerate_from, range_with_len}
 use Rattle.std.proofs.lemmas.Bool.{and_from, and_parts, lt-ltb, ltb-true, le-ltb, lt-leb, le-leb, leb-true, ne_eqb}
-use Rattle.std.proofs.lemmas.List.{append-nil, map-append, length-append, length-map}
-use Rattle.std.proofs.lemmas.List.Folds.{list_all-append}
-use Rattle.grid_kinds.specs.declared.SwitchKind.{SwitchKind}
-use Rattle.grid_kinds.specs.declared.SwitchKind.TheVariants.{Breaker}
+use Rattle.std.proofs.lemmas.List.{append-nil, map-append}
 use Rattle.grid_graph.specs.Components.{places}
 use Rattle.grid_level.specs.declared.Switch.{Switch}
 use Rattle.grid_level.specs.declared.Placed.{Placed}
-use Rattle.grid_level.specs.declared.Terminal.{Terminal}
-use Rattle.grid_level.specs.declared.Stand.{Stand}
-use Rattle.grid_level.specs.declared.Internal.{Internal}
 use Rattle.grid_level.specs.VoltageLevel.{VoltageLevel}
-use Rattle.grid_level.specs.Passing.{Edge, switch_edge, internal_edge, edges, ends, both, with_node, rising, named, nodes, is_rising, placed_at, stands_at}
+use Rattle.grid_level.specs.Passing.{switch_edge, internal_edge, edges, ends, both, with_node, rising, named, nodes, is_rising, placed_at, stands_at}
 use Rattle.grid_level.specs.LevelEdits.{max_node, max_nodes, max_edges, node_of, edge_fits, level_with_switch, with_placed, refuse_taken, terminal_fits, level_with_terminal}
 use Rattle.grid_level.proofs.Places.{rising_is_rising}
 use Rattle.grid_level.proofs.Editing.{list_all-rising, all_join}

@@ -1,10 +1,9 @@
 -- No edit by which a network with configured buses is put into node/breaker form is refused, and what each makes: nodes and lines.
-use Rattle.std.proofs.Common.{◌≡◌, refl, sym, ap, ◌∙◌, subst, ℕ, zero, suc, ◌+◌, ◌<◌, ◌≤◌, Bool, true, false, cond, not, ◌&&◌, ◌||◌, List, [], ◌∷◌, ◌++◌, length, get_or, Result, Ok, Err, append_assoc, inl, inr, arith}
-use Rattle.std.specs.Prelude.{ℤ, pos, Option, Some, None, map, find, flat_map, slice_get, take, drop, option_map, decimal, ⊤, All, IsTrue}
-use Rattle.std.proofs.lemmas.List.{append-nil, map-append, length-append, length-map, take_all}
+use Rattle.std.proofs.Common.{◌≡◌, refl, sym, ap, ◌∙◌, subst, ℕ, zero, suc, ◌+◌, ◌≤◌, Bool, true, false, cond, not, List, [], ◌∷◌, ◌++◌, length, Result, Ok, arith}
+use Rattle.std.specs.Prelude.{pos, Some, map, find, slice_get, take, drop, decimal, ⊤, All}
+use Rattle.std.proofs.lemmas.List.{append-nil, map-append}
 use Rattle.std.proofs.lemmas.List.Concat.{flat_map-append}
 use Rattle.std.proofs.lemmas.List.Elements.{All-head, All-tail}
-use Rattle.std.proofs.lemmas.Slice.Eq.{bytes_eq-Decides}
 use Rattle.grid_ids.specs.Name.{same_id, has_id}
 use Rattle.grid_kinds.specs.declared.SwitchKind.TheVariants.{Breaker}
 use Rattle.grid_level.specs.VoltageLevel.{VoltageLevel}
@@ -19,20 +18,18 @@ use Rattle.grid_structure.specs.Editing.{apply}
 use Rattle.grid_structure.proofs.Counts.{times, times-append, there}
 use Rattle.grid_paths.proofs.Least.{some_same, some_none}
 use Rattle.grid_json.specs.declared.fault.Fault.{Fault}
-use Rattle.grid_json.specs.Reading.{◌>>=◌, here, under}
+use Rattle.grid_json.specs.Reading.{◌>>=◌, under}
 use Rattle.grid_configured.specs.declared.network.BusSwitch.{BusSwitch}
 use Rattle.grid_configured.specs.declared.network.Item.{Item}
 use Rattle.grid_configured.specs.declared.network.ConfiguredLine.{ConfiguredLine}
 use Rattle.grid_configured.specs.declared.network.ConfiguredLevel.{ConfiguredLevel}
 use Rattle.grid_configured.specs.declared.network.ConfiguredNetwork.{ConfiguredNetwork}
-use Rattle.grid_configured.specs.Checks as checks
-use Rattle.grid_configured.specs.Checks.{each_check, level_ids, ids_of, level_check, line_check, network_check, IsTranslatable}
-use Rattle.grid_configured.specs.Places.{PlacedLevel, PlacesFit}
+use Rattle.grid_configured.specs.Checks.{each_check, level_ids, ids_of, line_check, network_check, IsTranslatable}
+use Rattle.grid_configured.specs.Places.{PlacesFit}
 use Rattle.grid_configured.specs.Levels.{bus_place, placed_level, placed_levels}
 use Rattle.grid_configured.specs.Translation.{breaker_id, outlet_breaker, translated_line, translated}
-use Rattle.grid_configured.specs.Partial.{first_levels, first_lines, first_switches, first_items, with_part, with_switches, with_items, with_lines}
-use Rattle.grid_configured.proofs.Mirrored.{NetworkFits}
-use Rattle.grid_configured.proofs.Checked.{right_first, right_under, NetworkRight, network_right, Once, network_once, times_levels, absent_by, translatable_fits}
+use Rattle.grid_configured.specs.Partial.{first_switches, first_items, with_switches, with_items, with_lines}
+use Rattle.grid_configured.proofs.Checked.{right_first, right_under, NetworkRight, network_right, network_once, times_levels, absent_by, translatable_fits}
 use Rattle.grid_configured.proofs.Stacked.{Each, each_join, on, stack, levels_stack}
 use Rattle.grid_configured.proofs.Enlarged.{switch_more, next_node}
 use Rattle.grid_configured.proofs.Tagged.{Unmarked, PlainLevel, PlainNetwork, shaped, shaped_lines, translated_stack, line_ids_are}
@@ -41,7 +38,7 @@ use Rattle.grid_configured.proofs.Lining as lining
 use Rattle.grid_configured.proofs.Lining.{shape, shaped_is}
 use Rattle.grid_configured.proofs.Sighted as sighted
 use Rattle.grid_configured.proofs.Sighted.{bus_site, nodes_counted}
-use Rattle.grid_configured.proofs.Applied.{take_more, take_length, each_take, each_get, get_mapped, take_ids, check_at, plain_network, LevelAt, level_of, part_is, level_is, plain_before, plain_here, switches_there, items_there}
+use Rattle.grid_configured.proofs.Applied.{take_more, take_length, each_take, each_get, get_mapped, take_ids, check_at, plain_network, LevelAt, part_is, plain_before, plain_here, switches_there, items_there}
 
 -- ---- counts of first things
 

@@ -1,11 +1,11 @@
 -- How many levels a network has in which no fault is found.
-use Rattle.std.proofs.Common.{◌≡◌, refl, sym, ap, ◌∙◌, ℕ, suc, ◌+◌, ◌<◌, ◌≤◌, Bool, false, List, [], ◌∷◌, ◌++◌, length, length-append, Ok, arith}
-use Rattle.std.specs.Prelude.{decimal, nat_le, codes, IsTrue}
+use Rattle.std.proofs.Common.{◌≡◌, ℕ, suc, ◌+◌, ◌<◌, ◌≤◌, false, List, [], ◌∷◌, ◌++◌, length, length-append, Ok, arith}
+use Rattle.std.specs.Prelude.{decimal, nat_le}
 use Rattle.std.proofs.lemmas.Bool.{leb-false}
 use Rattle.grid_ids.specs.Name.{has_id}
 use Rattle.grid_ids.specs.Refusing.{refuse_if}
 use Rattle.grid_structure.specs.Editing.{max_levels}
-use Rattle.grid_json.specs.Reading.{◌>>=◌, under}
+use Rattle.grid_json.specs.Reading.{under}
 use Rattle.grid_configured.specs.declared.network.ConfiguredLevel.{ConfiguredLevel}
 use Rattle.grid_configured.specs.declared.network.ConfiguredNetwork.{ConfiguredNetwork}
 use Rattle.grid_configured.specs.Checks.{each_check, ids_of, level_check, level_reasons, id_reasons, IsTranslatable}

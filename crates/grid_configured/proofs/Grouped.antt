@@ -1,28 +1,23 @@
 -- What stands in the groups of a level in node/breaker form, and which groups are buses.
-use Rattle.std.proofs.Common.{◌≡◌, refl, sym, ap, ◌∙◌, subst, ℕ, zero, suc, ◌+◌, ◌-◌, ◌<◌, ◌≤◌, Bool, true, false, cond, not, ◌&&◌, ◌||◌, List, [], ◌∷◌, ◌++◌, length, get_or, inl, inr, arith}
-use Rattle.std.specs.Prelude.{eqb, nat_lt, nat_le, map, filter, count_by}
-use Rattle.std.specs.List.{list_any, enumerate_from, range_with_len}
-use Rattle.std.proofs.lemmas.Bool.{false≢true, both_ways, or_cases, cases_Bool, and_left, and_right, le-leb, lt-leb, eqb-true, eq-eqb, ne_eqb, true_from_ne_false}
-use Rattle.std.proofs.lemmas.List.{append-nil, map-append, length-append, length-map}
-use Rattle.std.proofs.lemmas.List.Elements.{filter-append, All-get_or, All-head, All-tail}
-use Rattle.std.proofs.lemmas.List.Sums.{sum_by-append, sum_by-cons}
-use Rattle.grid_graph.specs.Joined.{joined, is_least, least_nodes, group_of}
+use Rattle.std.proofs.Common.{◌≡◌, refl, sym, ap, ◌∙◌, subst, ℕ, suc, ◌+◌, ◌<◌, ◌≤◌, Bool, true, false, cond, ◌&&◌, List, [], ◌∷◌, ◌++◌, length, get_or, arith}
+use Rattle.std.specs.Prelude.{eqb, map, filter}
+use Rattle.std.specs.List.{list_any, enumerate_from}
+use Rattle.std.proofs.lemmas.Bool.{ne_eqb}
+use Rattle.std.proofs.lemmas.List.Elements.{filter-append, All-get_or}
+use Rattle.grid_graph.specs.Joined.{joined, group_of}
 use Rattle.grid_graph.specs.Components.{places}
-use Rattle.grid_graph.proofs.Reach.{In, In_here, In_there, any_of}
-use Rattle.grid_graph.proofs.Places.{In_places, places_In}
+use Rattle.grid_graph.proofs.Reach.{In, In_here, In_there}
+use Rattle.grid_graph.proofs.Places.{In_places}
 use Rattle.grid_level.specs.declared.Placed.{Placed}
-use Rattle.grid_level.specs.declared.Stand.{Stand}
-use Rattle.grid_level.specs.VoltageLevel.{VoltageLevel}
-use Rattle.grid_level.specs.Passing.{bus, nodes, passing, placed_among, is_busbar, is_branch_end}
-use Rattle.grid_groups.specs.Groups.{group_under, leaders, terminals_at}
-use Rattle.grid_groups.proofs.Lists.{In_filtered, filter_In, filter_passes, get_or_any}
-use Rattle.grid_busview.specs.Views.{is_feeder, is_valid, is_bus}
-use Rattle.grid_configured.specs.Places.{Outlet, PlacedLevel, PlacesFit, closed_pairs, joined_places, first_places}
+use Rattle.grid_level.specs.Passing.{bus, passing, placed_among}
+use Rattle.grid_groups.specs.Groups.{group_under}
+use Rattle.grid_groups.proofs.Lists.{In_filtered, get_or_any}
+use Rattle.grid_configured.specs.Places.{Outlet, PlacedLevel, PlacesFit, closed_pairs, joined_places}
 use Rattle.grid_configured.specs.Translation.{bus_section, outlet_placed, outlets_at, translated_level}
-use Rattle.grid_configured.specs.Views.{connects_among, outlets_among, is_view_bus}
-use Rattle.grid_configured.proofs.Nodes.{StandsWell, level_nodes, level_passing, numbers_from, enumerated, map_map, filter_map_of, spokes}
-use Rattle.grid_configured.proofs.Hanging.{absent, outlet_of, outlet_at, outlet_place}
-use Rattle.grid_configured.proofs.Joined.{pairs_of, node_total, nodes_joined, buses_joined, places_split, range_bounds, joined_places_alike, joined_behind, joined_alone, joined_self, least_bus, least_hanging, level_joined, any_none}
+use Rattle.grid_configured.specs.Views.{connects_among}
+use Rattle.grid_configured.proofs.Nodes.{StandsWell, level_nodes, level_passing, filter_map_of}
+use Rattle.grid_configured.proofs.Hanging.{absent, outlet_of, outlet_at}
+use Rattle.grid_configured.proofs.Joined.{node_total, nodes_joined, buses_joined, joined_places_alike, joined_behind, joined_alone}
 
 -- ---- filters
 

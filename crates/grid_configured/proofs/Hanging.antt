@@ -1,9 +1,9 @@
 -- The connected terminals of a level hang at their buses.
-use Rattle.std.proofs.Common.{◌≡◌, refl, sym, ap, ◌∙◌, subst, ℕ, zero, suc, ◌+◌, ◌-◌, ◌<◌, ◌≤◌, Bool, true, false, cond, List, [], ◌∷◌, ◌++◌, length, get_or, inl, inr, ◌⊎◌, arith}
-use Rattle.std.specs.Prelude.{eqb, map, filter, flat_map, not, All}
-use Rattle.std.specs.List.{list_any, enumerate_from}
-use Rattle.std.proofs.lemmas.Bool.{false≢true, true≢false}
-use Rattle.std.proofs.lemmas.List.Elements.{All-from_get_or, All-get_or, All-head, All-tail, All-cons, All-nil}
+use Rattle.std.proofs.Common.{◌≡◌, refl, sym, ap, ◌∙◌, subst, ℕ, zero, suc, ◌+◌, ◌-◌, ◌<◌, ◌≤◌, Bool, true, false, cond, List, [], ◌∷◌, length, get_or, inl, inr, ◌⊎◌, arith}
+use Rattle.std.specs.Prelude.{map, filter, flat_map, not, All}
+use Rattle.std.specs.List.{enumerate_from}
+use Rattle.std.proofs.lemmas.Bool.{false≢true}
+use Rattle.std.proofs.lemmas.List.Elements.{All-get_or, All-head, All-tail, All-cons, All-nil}
 use Rattle.grid_graph.specs.Joined.{end_across, neighbours}
 use Rattle.grid_graph.specs.Graph.{EndsBelow}
 use Rattle.grid_graph.proofs.Reach.{In, In_parts, In_left, In_right, across_from, across_first}

@@ -1,6 +1,6 @@
 -- Which nodes of a level in node/breaker form are joined.
-use Rattle.std.proofs.Common.{◌≡◌, refl, sym, ap, ◌∙◌, subst, ℕ, zero, suc, ◌+◌, ◌<◌, ◌≤◌, Bool, true, false, cond, not, ◌&&◌, ◌||◌, List, [], ◌∷◌, ◌++◌, length, inl, inr, arith}
-use Rattle.std.specs.Prelude.{eqb, nat_lt, filter}
+use Rattle.std.proofs.Common.{◌≡◌, refl, sym, ap, ◌∙◌, ℕ, zero, suc, ◌+◌, ◌<◌, ◌≤◌, Bool, true, false, not, ◌&&◌, ◌||◌, List, [], ◌∷◌, ◌++◌, length, inl, inr, arith}
+use Rattle.std.specs.Prelude.{eqb, nat_lt}
 use Rattle.std.specs.List.{list_any, range_with_len}
 use Rattle.std.proofs.lemmas.Bool.{false≢true, or_cases, and_left, le-ltb, lt-ltb, eqb-true}
 use Rattle.std.proofs.lemmas.List.Folds.{list_any-append}
@@ -8,9 +8,8 @@ use Rattle.grid_graph.specs.Joined.{joined, is_least}
 use Rattle.grid_graph.specs.Components.{places}
 use Rattle.grid_graph.proofs.Reach.{In, In_here, In_there, any_of, joined_refl}
 use Rattle.grid_graph.proofs.Places.{In_places, places_In}
-use Rattle.grid_level.specs.VoltageLevel.{VoltageLevel}
-use Rattle.grid_level.specs.Passing.{bus, nodes, passing, joined_under}
-use Rattle.grid_configured.specs.Places.{Outlet, PlacedLevel, PlacesFit, closed_pairs}
+use Rattle.grid_level.specs.Passing.{bus, passing, joined_under}
+use Rattle.grid_configured.specs.Places.{PlacedLevel, PlacesFit, closed_pairs}
 use Rattle.grid_configured.specs.Translation.{translated_level}
 use Rattle.grid_configured.proofs.Nodes.{range_join, level_nodes, level_passing, spokes}
 use Rattle.grid_configured.proofs.Spokes.{places_joined, behind_joined, hangs_joined, alone_joined}

@@ -1,10 +1,10 @@
 -- What the edits make of a network in node/breaker form that gets one line more.
-use Rattle.std.proofs.Common.{◌≡◌, refl, sym, ap, ◌∙◌, subst, ℕ, zero, suc, ◌+◌, ◌<◌, ◌≤◌, Bool, true, false, cond, not, ◌&&◌, ◌||◌, List, [], ◌∷◌, ◌++◌, length, get_or, Result, Ok, Err, append_assoc, inl, inr, arith}
-use Rattle.std.specs.Prelude.{ℤ, pos, eqb, Option, Some, None, map, find, flat_map, position, unwrap_or, option_map, slice_get, take, codes, decimal, ⊤, nat_le, sum_by, count_by}
+use Rattle.std.proofs.Common.{◌≡◌, refl, sym, ap, ◌∙◌, subst, ℕ, suc, ◌+◌, ◌<◌, ◌≤◌, Bool, true, false, cond, not, ◌&&◌, ◌||◌, List, [], ◌∷◌, ◌++◌, length, Ok, Err, append_assoc, arith}
+use Rattle.std.specs.Prelude.{pos, eqb, Option, Some, None, map, find, flat_map, position, unwrap_or, option_map, decimal, count_by}
 use Rattle.std.specs.Fmt.{digits}
 use Rattle.std.specs.List.{list_any, list_all, enumerate_from}
-use Rattle.std.proofs.lemmas.Bool.{cases_Bool, false_from_ne_true, and_parts, and_from, or_parts, true≢false, false≢true, not-false, leb-false, eq-eqb, both_ways, lt-ltb, ltb-true}
-use Rattle.std.proofs.lemmas.List.{append-nil, map-append, map-id, length-append, length-map}
+use Rattle.std.proofs.lemmas.Bool.{false_from_ne_true, and_parts, and_from, or_parts, true≢false, not-false, eq-eqb, both_ways, lt-ltb, ltb-true}
+use Rattle.std.proofs.lemmas.List.{append-nil, length-append, length-map}
 use Rattle.std.proofs.lemmas.List.Concat.{flat_map-append}
 use Rattle.std.proofs.lemmas.List.Sums.{sum_by-append, sum_by-cons}
 use Rattle.std.proofs.lemmas.List.FromFn.{length-enumerate_from}
@@ -16,34 +16,30 @@ use Rattle.grid_level.specs.declared.Switch.{Switch}
 use Rattle.grid_level.specs.declared.Placed.{Placed}
 use Rattle.grid_level.specs.declared.Stand.TheVariants.{BranchEnd}
 use Rattle.grid_level.specs.VoltageLevel.{VoltageLevel}
-use Rattle.grid_level.specs.LevelEdits.{max_nodes, max_edges, level_with_switch, level_with_terminal}
+use Rattle.grid_level.specs.LevelEdits.{max_nodes, max_edges}
 use Rattle.grid_structure.specs.declared.NamedBranch.{NamedBranch}
 use Rattle.grid_structure.specs.declared.Branch.TheVariants.{Line}
-use Rattle.grid_structure.specs.declared.End.{End}
 use Rattle.grid_structure.specs.declared.Edit.TheVariants as edits
-use Rattle.grid_structure.specs.Network.{Network}
-use Rattle.grid_structure.specs.Editing.{max_levels, max_switches, apply, place_end}
-use Rattle.grid_structure.proofs.Counts.{times, times-append, there, not_there}
-use Rattle.grid_structure.proofs.Places.{position-cons, position_none, position_found}
+use Rattle.grid_structure.specs.Editing.{max_switches, apply}
+use Rattle.grid_structure.proofs.Counts.{times}
+use Rattle.grid_structure.proofs.Places.{position-cons}
 use Rattle.grid_paths.proofs.Least.{some_same, some_none}
 use Rattle.grid_json.specs.declared.fault.Fault.{Fault}
-use Rattle.grid_json.specs.Reading.{◌>>=◌, here, under}
-use Rattle.grid_configured.specs.declared.network.Item.{Item}
 use Rattle.grid_configured.specs.declared.network.BusEnd.{BusEnd}
 use Rattle.grid_configured.specs.declared.network.ConfiguredLine.{ConfiguredLine}
 use Rattle.grid_configured.specs.declared.network.ConfiguredLevel.{ConfiguredLevel}
 use Rattle.grid_configured.specs.declared.network.ConfiguredNetwork.{ConfiguredNetwork}
 use Rattle.grid_configured.specs.Checks as checks
 use Rattle.grid_configured.specs.Checks.{ids_of, level_nodes, level_edges, ends_in, line_ends, level_of, id_reasons, end_reasons, end_check, line_check, terminal_reasons}
-use Rattle.grid_configured.specs.Places.{Joint, Outlet, PlacedLevel, PlacesFit}
+use Rattle.grid_configured.specs.Places.{Outlet, PlacedLevel, PlacesFit}
 use Rattle.grid_configured.specs.Levels.{bus_place, joint_of, item_outlet, end_outlets, line_outlets, outlets, placed_level, placed_levels}
 use Rattle.grid_configured.specs.Sites.{is_outlet}
-use Rattle.grid_configured.specs.Translation.{joint_breaker, breaker_id, outlet_breaker, outlet_placed, outlets_at, translated_level, terminal_node, node_in, translated_end, translated_line, translated}
+use Rattle.grid_configured.specs.Translation.{joint_breaker, breaker_id, outlet_breaker, outlet_placed, outlets_at, translated_level, terminal_node, node_in, translated_end, translated_line}
 use Rattle.grid_configured.proofs.Nodes.{map_map}
-use Rattle.grid_configured.proofs.Checked.{right_first, right_under, not_refused, bus_there, fresh_line, times_levels}
-use Rattle.grid_configured.proofs.Stacked.{Each, each_map, each_same, Free, Keeps, At, at_changed, on, on_own, on_other, on_id, stack, free_switched, join_free, same_itself, same_back, switch_added, end_added, line_added}
+use Rattle.grid_configured.proofs.Checked.{right_first, not_refused, bus_there, fresh_line}
+use Rattle.grid_configured.proofs.Stacked.{Each, each_same, Free, Keeps, At, at_changed, on, on_own, on_other, on_id, stack, free_switched, same_itself, same_back, switch_added, end_added, line_added}
 use Rattle.grid_configured.proofs.Enlarged.{Under, switch_more, placed_more, below, switch_fits, switch_under, terminal_fit, terminal_under, below_more, next_node, outlet_more, outlet_grown, placed_below, level_under}
-use Rattle.grid_configured.proofs.Tagged.{Unmarked, tagged, tagged_marked, plain_apart, breaker_tagged, PlainNetwork, Fresh, Other, outlets_other, join_parts, shaped, shaped_lines, translated_stack, free_plain, free_tagged, line_ids_are}
+use Rattle.grid_configured.proofs.Tagged.{Unmarked, tagged, tagged_marked, plain_apart, breaker_tagged, PlainNetwork, Fresh, Other, outlets_other, join_parts, shaped, shaped_lines, free_plain, free_tagged, line_ids_are}
 use Rattle.grid_configured.proofs.Building.{TerminalRight, terminal_right}
 use Rattle.grid_configured.proofs.Located.{is_marked}
 

@@ -1,40 +1,27 @@
 -- What is seen of a level of the node/breaker form is what is seen of its configured buses.
-use Rattle.std.proofs.Common.{◌≡◌, refl, sym, ap, ◌∙◌, subst, ℕ, suc, ◌<◌, Bool, true, false, cond, not, List, [], ◌∷◌, ◌++◌, length, arith}
-use Rattle.std.specs.Prelude.{Option, Some, None, map, option_map, option_and_then, slice_get, IsTrue}
-use Rattle.std.proofs.lemmas.Option.{slice_get_within, slice_get-get_or}
-use Rattle.std.proofs.lemmas.List.{length-map}
-use Rattle.grid_ids.specs.Name.{has_id}
-use Rattle.grid_level.specs.VoltageLevel.{VoltageLevel}
-use Rattle.grid_level.specs.declared.Placed.{Placed}
+use Rattle.std.proofs.Common.{◌≡◌, refl, sym, ap, ◌∙◌, ℕ, Bool, true, false, List, length}
+use Rattle.std.specs.Prelude.{Some, None, option_map, slice_get}
 use Rattle.grid_level.specs.Passing.{positioned}
-use Rattle.grid_structure.specs.Sites as sites
 use Rattle.grid_states.specs.Rows.{row_at}
-use Rattle.grid_busview.specs.Views.{stand_watts, record_watts, bus_view_of}
+use Rattle.grid_busview.specs.Views.{record_watts, bus_view_of}
 use Rattle.grid_core.specs.declared.request.Request.TheVariants as requests
-use Rattle.grid_core.specs.declared.reply.Reply.{Reply}
-use Rattle.grid_core.specs.declared.reply.Reply.TheVariants as replies
 use Rattle.grid_core.specs.declared.reply.Refusal.TheVariants as refusals
-use Rattle.grid_core.specs.Solo as solo
 use Rattle.grid_core.specs.Solo.{State, positioned_at}
 use Rattle.grid_core.specs.History.{Command, is_live, working}
-use Rattle.grid_core.specs.Replies as answers
 use Rattle.grid_core.specs.Replies.{state_of}
 use Rattle.grid_configured.specs.declared.network.ConfiguredNetwork.{ConfiguredNetwork}
 use Rattle.grid_configured.specs.declared.view.ConfiguredView.{ConfiguredView}
-use Rattle.grid_configured.specs.declared.reply.ConfiguredReply.{ConfiguredReply}
 use Rattle.grid_configured.specs.declared.reply.ConfiguredReply.TheVariants as told
-use Rattle.grid_configured.specs.Places.{Outlet, PlacedLevel, PlacesFit, stood}
-use Rattle.grid_configured.specs.Levels.{placed_level, placed_levels}
+use Rattle.grid_configured.specs.Places.{PlacedLevel, stood}
+use Rattle.grid_configured.specs.Levels.{placed_levels}
 use Rattle.grid_configured.specs.Translation.{outlets_at, translated_level, translated}
 use Rattle.grid_configured.specs.Views.{configured_view}
 use Rattle.grid_configured.specs.Viewed.{told_view}
 use Rattle.grid_configured.specs.Sites.{find_level}
 use Rattle.grid_configured.specs.Machine.{Flags, level_under, view_under, viewed, viewed_at, machine}
 use Rattle.grid_configured.specs.Histories.{flags_of, reply_on, reply_to, view, ArePlain}
-use Rattle.grid_configured.specs.Told.{told_reply}
 use Rattle.grid_configured.proofs.Flagged.{places_stood, placed_flagged}
 use Rattle.grid_configured.proofs.Viewing.{view_told}
-use Rattle.grid_configured.proofs.Located.{levels_are, level_found}
 use Rattle.grid_configured.proofs.Mirrored.{NetworkFits, Mirrors}
 use Rattle.grid_configured.proofs.Plugged.{fits_at, level_now}
 use Rattle.grid_configured.proofs.Asked.{variant_mirrors}

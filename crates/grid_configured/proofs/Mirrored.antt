@@ -1,45 +1,29 @@
 -- The machine of the node/breaker form mirrors that of the configured buses.
-use Rattle.std.proofs.Common.{◌≡◌, refl, sym, ap, ◌∙◌, subst, ℕ, ℤ, zero, suc, ◌+◌, ◌<◌, ◌≤◌, Bool, true, false, cond, not, List, [], ◌∷◌, ◌++◌, length, get_or, inl, inr, ◌⊎◌, arith}
-use Rattle.std.specs.Prelude.{Option, Some, None, Result, Ok, Err, map, position, slice_get, All}
+use Rattle.std.proofs.Common.{◌≡◌, refl, sym, ap, ◌∙◌, subst, ℕ, suc, ◌+◌, ◌<◌, Bool, true, false, cond, List, [], ◌∷◌, length, arith}
+use Rattle.std.specs.Prelude.{Option, Some, None, map, position, slice_get, All}
 use Rattle.std.specs.Bool.{beq}
-use Rattle.std.specs.List.{slice_index_or}
-use Rattle.std.proofs.lemmas.Bool.{cases_Bool, both_ways}
-use Rattle.std.proofs.lemmas.List.{get_or-map, length-map}
+use Rattle.std.proofs.lemmas.List.{length-map}
 use Rattle.grid_ids.specs.Name.{has_id}
-use Rattle.grid_ids.specs.Refusing.{◌>>=◌, found_or}
 use Rattle.grid_level.specs.declared.Switch.{Switch}
 use Rattle.grid_level.specs.VoltageLevel.{VoltageLevel}
-use Rattle.grid_level.specs.Passing.{positioned}
-use Rattle.grid_structure.specs.Network.{Network}
 use Rattle.grid_structure.specs.Sites as sites
 use Rattle.grid_structure.specs.Sites.{levels, first_found}
-use Rattle.grid_states.specs.Rows.{row_at, with_flag, with_flags}
-use Rattle.grid_connect.specs.Plans.{connect_plan_of, disconnect_plan_of}
-use Rattle.grid_connect.specs.declared.ConnectPlan.TheVariants as connects
-use Rattle.grid_connect.specs.declared.DisconnectPlan.TheVariants as disconnects
-use Rattle.grid_core.specs.declared.reply.Reply.{Reply}
+use Rattle.grid_states.specs.Rows.{row_at, with_flag}
 use Rattle.grid_core.specs.declared.reply.Reply.TheVariants as replies
-use Rattle.grid_core.specs.declared.reply.Refusal.{Refusal}
-use Rattle.grid_core.specs.declared.reply.Refusal.TheVariants as refusals
 use Rattle.grid_core.specs.Solo as solo
 use Rattle.grid_core.specs.Solo.{State, record_rows, flag_at, side_of, site_of_side, level_at, positioned_at, with_all_opened, switch_names, connected_from, connected_at, disconnected_from, disconnected_at, set_from}
 use Rattle.grid_paths.proofs.Least.{some_same, some_none}
 use Rattle.grid_structure.proofs.Places.{position_found}
 use Rattle.grid_configured.specs.declared.network.ConfiguredNetwork.{ConfiguredNetwork}
-use Rattle.grid_configured.specs.declared.reply.ConfiguredReply.{ConfiguredReply}
 use Rattle.grid_configured.specs.declared.reply.ConfiguredReply.TheVariants as told
-use Rattle.grid_configured.specs.Places.{Joint, Outlet, PlacedLevel, PlacesFit, stood}
+use Rattle.grid_configured.specs.Places.{PlacedLevel, PlacesFit}
 use Rattle.grid_configured.specs.Levels.{placed_levels}
 use Rattle.grid_configured.specs.Translation.{translated_level, translated}
-use Rattle.grid_configured.specs.Sites.{bus_ids, is_joint, is_outlet, find_joint, find_outlet, sides}
-use Rattle.grid_configured.specs.Machine.{Flags, Step, opening, refused, switched, already, outlet_of_side, plugged}
+use Rattle.grid_configured.specs.Sites.{bus_ids, is_joint, find_joint, sides}
+use Rattle.grid_configured.specs.Machine.{Flags, Step, opening, refused, switched}
 use Rattle.grid_configured.specs.Told.{told_reply}
-use Rattle.grid_configured.proofs.Hanging.{absent}
-use Rattle.grid_configured.proofs.Flagged.{length_opened, length_connected, level_positioned, places_stood, flag_of}
-use Rattle.grid_configured.proofs.Connecting.{connect_closes, connect_stays}
-use Rattle.grid_configured.proofs.Parting.{disconnect_opens, disconnect_stays}
-use Rattle.grid_configured.proofs.Located.{levels_are, switch_found, sides_found, IsAt, sited, is_marked}
-use Rattle.grid_configured.proofs.Rows.{joined_row, joined_rows, row_joined, flag_first, put_first, flag_second, put_second, record_flags, length_flagged, row_long}
+use Rattle.grid_configured.proofs.Located.{levels_are, switch_found, is_marked}
+use Rattle.grid_configured.proofs.Rows.{joined_rows, flag_first, put_first, record_flags, length_flagged, row_long}
 
 -- what each network that can be translated keeps: places of buses, and no bus has the id of an injection or a line
 pub record NetworkFits (network : ConfiguredNetwork) : Type 0 where

@@ -1,21 +1,16 @@
 -- The nodes of a level in node/breaker form, and which of its switches pass.
-use Rattle.std.proofs.Common.{◌≡◌, refl, sym, ap, ◌∙◌, subst, ℕ, zero, suc, ◌+◌, ◌<◌, ◌≤◌, Bool, true, false, cond, not, ◌&&◌, List, [], ◌∷◌, ◌++◌, length, get_or, inl, inr, ◌⊎◌, ◌||◌, arith}
+use Rattle.std.proofs.Common.{◌≡◌, refl, sym, ap, ◌∙◌, ℕ, zero, suc, ◌+◌, ◌<◌, ◌≤◌, Bool, true, false, cond, not, ◌&&◌, List, [], ◌∷◌, ◌++◌, length, inl, inr, ◌⊎◌, ◌||◌, arith}
 use Rattle.std.specs.Prelude.{eqb, nat_lt, map, filter, flat_map, All}
 use Rattle.std.specs.List.{list_any, list_all, enumerate_from, range_with_len}
-use Rattle.std.proofs.lemmas.Bool.{false≢true, and_parts, and_from, or_cases, cases_Bool, lt-ltb, ltb-true, le-ltb, eqb-true, eq-eqb, ne_eqb, not-true}
-use Rattle.std.proofs.lemmas.List.{append-nil, map-append, length-append, length-map}
+use Rattle.std.proofs.lemmas.Bool.{false≢true, and_parts, and_from, or_cases, lt-ltb, ltb-true, le-ltb, eqb-true, eq-eqb}
+use Rattle.std.proofs.lemmas.List.{append-nil, map-append}
 use Rattle.std.proofs.lemmas.List.Elements.{filter-append, All-head, All-tail}
-use Rattle.std.proofs.lemmas.List.Concat.{flat_map-append}
-use Rattle.std.proofs.lemmas.List.FromFn.{length-enumerate_from}
-use Rattle.grid_graph.specs.Joined.{end_across, neighbours}
 use Rattle.grid_graph.specs.Components.{places}
-use Rattle.grid_graph.specs.Graph.{EndsBelow}
-use Rattle.grid_graph.proofs.Reach.{In, In_here, In_there, In_parts, In_left, In_right}
+use Rattle.grid_graph.proofs.Reach.{In, In_here, In_there, In_parts}
 use Rattle.grid_graph.proofs.Places.{In_places}
 use Rattle.grid_level.specs.declared.Switch.{Switch}
 use Rattle.grid_level.specs.declared.Placed.{Placed}
-use Rattle.grid_level.specs.VoltageLevel.{VoltageLevel}
-use Rattle.grid_level.specs.Passing.{Edge, bus, switch_edge, internal_edge, edges, ends, both, with_node, rising, named, nodes, is_rising, is_busbar, passing, switch_passes, passes_closed}
+use Rattle.grid_level.specs.Passing.{bus, switch_edge, internal_edge, edges, ends, both, with_node, rising, named, nodes, is_rising, is_busbar, passing, switch_passes, passes_closed}
 use Rattle.grid_level.proofs.Coding.{rising_self}
 use Rattle.grid_configured.specs.Places.{Joint, Outlet, PlacedLevel, PlacesFit, closed_pairs}
 use Rattle.grid_configured.specs.Translation.{joint_breaker, outlet_breaker, bus_section, outlet_placed, outlets_at, translated_level}

@@ -4,7 +4,7 @@ use Rattle.std.specs.Prelude.{Option, Some, None, eqb, map, filter, find, All}
 use Rattle.std.specs.List.{list_any, enumerate_from}
 use Rattle.std.specs.Option.{option_or}
 use Rattle.std.proofs.lemmas.Bool.{cases_eq, eq-eqb, ne_eqb, and_right}
-use Rattle.std.proofs.lemmas.List.{append-nil, map-append, length-map}
+use Rattle.std.proofs.lemmas.List.{append-nil, length-map}
 use Rattle.std.proofs.lemmas.List.Elements.{filter-append, All-head, All-tail, All-filter}
 use Rattle.std.proofs.lemmas.List.Folds.{find-append}
 use Rattle.grid_graph.specs.Joined.{within, joined, neighbours}
@@ -13,12 +13,10 @@ use Rattle.grid_graph.proofs.Places.{In_places}
 use Rattle.grid_level.specs.declared.Switch.{Switch}
 use Rattle.grid_level.specs.declared.Placed.{Placed}
 use Rattle.grid_level.specs.declared.Terminal.{Terminal}
-use Rattle.grid_level.specs.VoltageLevel.{VoltageLevel}
-use Rattle.grid_level.specs.Passing.{core, switch_edge, internal_edge, ends, nodes, passing, switch_passes, passes_closed, is_operable, is_breaker, is_busbar, joined_under, placed_among, is_connected}
+use Rattle.grid_level.specs.Passing.{core, switch_edge, ends, nodes, passing, switch_passes, passes_closed, is_operable, is_breaker, is_busbar, joined_under, placed_among}
 use Rattle.grid_groups.proofs.Lists.{In_filtered}
 use Rattle.grid_paths.specs.Paths.{has_node}
-use Rattle.grid_connect.specs.Plans.{core_of, core_busbar, leaves_core, leaving, opens_or, disconnect_plan_of}
-use Rattle.grid_connect.specs.declared.DisconnectPlan.{DisconnectPlan}
+use Rattle.grid_connect.specs.Plans.{core_of, core_busbar, leaves_core, leaving, disconnect_plan_of}
 use Rattle.grid_connect.specs.declared.DisconnectPlan.TheVariants.{Opens, AlreadyDisconnected, NoBreaker}
 use Rattle.grid_connect.proofs.Leaving.{disconnect_yes, disconnect_no, breaks, opens}
 use Rattle.grid_configured.specs.Places.{Joint, Outlet, PlacedLevel, PlacesFit}
@@ -29,7 +27,7 @@ use Rattle.grid_configured.proofs.Joined.{node_total}
 use Rattle.grid_configured.proofs.Grouped.{standing_only}
 use Rattle.grid_configured.proofs.Counted.{IsFed, outlets_fed}
 use Rattle.grid_configured.proofs.Placed.{bus_connected}
-use Rattle.grid_configured.proofs.Connecting.{node_connected, node_there}
+use Rattle.grid_configured.proofs.Connecting.{node_connected}
 
 -- ---- a node's core is the node alone
 

@@ -1,20 +1,18 @@
 -- Which nodes of a level in node/breaker form carry a busbar section, and which are connected to one.
-use Rattle.std.proofs.Common.{◌≡◌, refl, sym, ap, ◌∙◌, subst, ℕ, zero, suc, ◌+◌, ◌<◌, ◌≤◌, Bool, true, false, cond, not, ◌&&◌, ◌||◌, List, [], ◌∷◌, ◌++◌, length, get_or, inl, inr, arith}
+use Rattle.std.proofs.Common.{◌≡◌, refl, sym, ap, ◌∙◌, subst, ℕ, ◌+◌, ◌<◌, ◌≤◌, Bool, true, false, ◌&&◌, ◌||◌, List, [], ◌∷◌, length, inl, inr, arith}
 use Rattle.std.specs.Prelude.{eqb, map, All}
 use Rattle.std.specs.List.{list_any, enumerate_from}
-use Rattle.std.proofs.lemmas.Bool.{and_from, and_parts, and_left, and_right, cases_Bool, cases_lt, cases_eq, eq-eqb, ne_eqb, eqb-true, or_left, or_right, both_ways}
+use Rattle.std.proofs.lemmas.Bool.{and_from, and_left, and_right, cases_Bool, cases_lt, cases_eq, eq-eqb, ne_eqb, or_left, or_right}
 use Rattle.std.proofs.lemmas.List.Folds.{list_any-append}
 use Rattle.std.proofs.lemmas.List.Elements.{All-head, All-tail}
 use Rattle.grid_graph.proofs.Reach.{In, any_of}
-use Rattle.grid_graph.proofs.Places.{In_places, places_In}
-use Rattle.grid_graph.specs.Components.{places}
+use Rattle.grid_graph.proofs.Places.{In_places}
 use Rattle.grid_level.specs.declared.Placed.{Placed}
-use Rattle.grid_level.specs.VoltageLevel.{VoltageLevel}
 use Rattle.grid_level.specs.Passing.{bus, nodes, stands_at, is_busbar, carries_busbar, joined_under, is_connected}
 use Rattle.grid_configured.specs.Places.{Outlet, PlacedLevel, PlacesFit}
 use Rattle.grid_configured.specs.Translation.{bus_section, outlet_placed, outlets_at, translated_level}
 use Rattle.grid_configured.proofs.Nodes.{level_nodes}
-use Rattle.grid_configured.proofs.Hanging.{absent, outlet_of, outlet_at, outlet_place}
+use Rattle.grid_configured.proofs.Hanging.{outlet_of, outlet_place}
 use Rattle.grid_configured.proofs.Joined.{node_total, nodes_joined, level_joined, joined_hanging, joined_alone, joined_self, any_none}
 use Rattle.grid_configured.proofs.Counted.{IsFed, outlets_fed}
 

@@ -1,8 +1,7 @@
 -- Terminals that are connected and disconnected mirror their breakers of the node/breaker form.
-use Rattle.std.proofs.Common.{◌≡◌, refl, sym, ap, ◌∙◌, subst, ℕ, ℤ, zero, suc, ◌+◌, ◌<◌, ◌≤◌, Bool, true, false, cond, not, List, [], ◌∷◌, ◌++◌, length, get_or, inl, inr, ◌⊎◌, arith}
-use Rattle.std.specs.Prelude.{Option, Some, None, Result, Ok, Err, map, slice_get, All}
+use Rattle.std.proofs.Common.{◌≡◌, refl, sym, ap, ◌∙◌, subst, ℕ, ℤ, zero, suc, ◌+◌, ◌<◌, Bool, true, false, cond, not, List, [], ◌∷◌, length, get_or, inl, inr, ◌⊎◌, arith}
+use Rattle.std.specs.Prelude.{Option, Some, None, Result, Ok, map, slice_get}
 use Rattle.std.specs.Bool.{beq}
-use Rattle.std.proofs.lemmas.Bool.{cases_Bool}
 use Rattle.std.proofs.lemmas.Option.{slice_get_within, get_or_from_slice_get}
 use Rattle.std.proofs.lemmas.List.Elements.{All-get_or}
 use Rattle.grid_ids.specs.Name.{has_id}
@@ -14,31 +13,26 @@ use Rattle.grid_structure.specs.Sites.{levels}
 use Rattle.grid_states.specs.Rows.{row_at, with_flag, with_flags}
 use Rattle.grid_connect.specs.Plans.{connect_plan_of, disconnect_plan_of}
 use Rattle.grid_connect.specs.declared.ConnectPlan.{ConnectPlan}
-use Rattle.grid_connect.specs.declared.ConnectPlan.TheVariants as connects
 use Rattle.grid_connect.specs.declared.DisconnectPlan.{DisconnectPlan}
-use Rattle.grid_connect.specs.declared.DisconnectPlan.TheVariants as disconnects
-use Rattle.grid_core.specs.declared.reply.Reply.{Reply}
-use Rattle.grid_core.specs.declared.reply.Reply.TheVariants as replies
 use Rattle.grid_core.specs.declared.reply.Refusal.{Refusal}
 use Rattle.grid_core.specs.declared.reply.Refusal.TheVariants as refusals
 use Rattle.grid_core.specs.Solo as solo
 use Rattle.grid_core.specs.Solo.{State, flag_at, side_of, site_of_side, level_at, positioned_at, with_all_opened, connected, connected_from, connected_at, disconnected, disconnected_from, disconnected_at}
 use Rattle.grid_paths.proofs.Least.{some_same, some_none}
 use Rattle.grid_configured.specs.declared.network.ConfiguredNetwork.{ConfiguredNetwork}
-use Rattle.grid_configured.specs.declared.reply.ConfiguredReply.{ConfiguredReply}
 use Rattle.grid_configured.specs.declared.reply.ConfiguredReply.TheVariants as told
-use Rattle.grid_configured.specs.Places.{Outlet, PlacedLevel, PlacesFit, stood}
+use Rattle.grid_configured.specs.Places.{PlacedLevel, PlacesFit, stood}
 use Rattle.grid_configured.specs.Levels.{placed_levels}
 use Rattle.grid_configured.specs.Translation.{translated_level, translated}
 use Rattle.grid_configured.specs.Sites.{bus_ids, find_outlet, sides}
-use Rattle.grid_configured.specs.Machine.{Flags, Step, refused, already, outlet_of_side, plugged}
+use Rattle.grid_configured.specs.Machine.{Flags, refused, already, outlet_of_side, plugged}
 use Rattle.grid_configured.specs.Told.{told_reply}
 use Rattle.grid_configured.proofs.Hanging.{absent}
 use Rattle.grid_configured.proofs.Flagged.{length_opened, length_connected, level_positioned, places_stood, flag_of}
 use Rattle.grid_configured.proofs.Connecting.{connect_closes, connect_stays}
 use Rattle.grid_configured.proofs.Parting.{disconnect_opens, disconnect_stays}
 use Rattle.grid_configured.proofs.Located.{levels_are, sides_found, IsAt, sited}
-use Rattle.grid_configured.proofs.Rows.{joined_row, joined_rows, row_joined, put_second, length_flagged}
+use Rattle.grid_configured.proofs.Rows.{row_joined, put_second, length_flagged}
 use Rattle.grid_configured.proofs.Mirrored.{NetworkFits, Mirrors, StepMirrors, rows_here}
 
 pub mapped_at : (ls : List PlacedLevel) (p : ℕ) (l : PlacedLevel) → slice_get ls p ≡ Some l → slice_get (map translated_level ls) p ≡ Some (translated_level l)

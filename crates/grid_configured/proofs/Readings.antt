@@ -1,6 +1,6 @@
 -- What was read: plain ids, known commands, and a network that is right.
 use Rattle.std.proofs.Common.{◌≡◌, refl, sym, ap, ◌∙◌, ℕ, ℤ, pos, suc, Bool, true, false, cond, List, [], ◌∷◌, length, map, subst, inl, inr, Option, Some, None, Result, Ok, Err}
-use Rattle.std.specs.Prelude.{All, codes, decimal, nat_lt, if◌then◌else◌, slice_index_or, ◌⊎◌}
+use Rattle.std.specs.Prelude.{All, codes, decimal, nat_lt, if◌then◌else◌, slice_index_or}
 use Rattle.std.specs.List.{list_all}
 use Rattle.std.proofs.lemmas.List.Sums.{AllPass-from_list_all}
 use Rattle.serde_json.specs.Data.{Data, Items, no_items, item}
@@ -10,12 +10,12 @@ use Rattle.grid_core.specs.declared.request.Request.TheVariants as requests
 use Rattle.grid_json.specs.declared.ends.Two.{Two}
 use Rattle.grid_json.specs.declared.fault.Fault.{Fault}
 use Rattle.grid_json.specs.declared.fault.Reason.{Reason}
-use Rattle.grid_json.specs.declared.fault.Reason.TheVariants.{Reserved, Schedule, TooManyCommands, TooManyWorkers, WrongKind}
+use Rattle.grid_json.specs.declared.fault.Reason.TheVariants.{Reserved, Schedule, TooManyWorkers, WrongKind}
 use Rattle.grid_json.specs.declared.format.Format.TheVariants.{Four}
 use Rattle.grid_json.specs.Job.{command_total, counted_scripts, few_at, is_order, max_commands, max_workers, natural_of, order_at, ordered}
 use Rattle.grid_json.specs.Kinds.{injection_kind_at}
 use Rattle.grid_json.specs.Network.{both, item_at, two_at, two_of}
-use Rattle.grid_json.specs.Reading.{◌>>=◌, array_at, flag_at, here, id_at, items_at, items_len, member_at, member_or, object_at, only_at, optional_at, or_fault, present, present_or, some_of, under, whole_at, word_at}
+use Rattle.grid_json.specs.Reading.{◌>>=◌, array_at, flag_at, here, id_at, items_at, items_len, member_at, member_or, object_at, only_at, optional_at, or_fault, present, some_of, under, whole_at, word_at}
 use Rattle.grid_json.proofs.Results.{all_counted, bound, either_read, inside, member_read, some_read}
 use Rattle.grid_configured.specs.declared.commands.Verb.{Verb}
 use Rattle.grid_configured.specs.declared.commands.Verb.TheVariants as verbs

@@ -1,9 +1,9 @@
 -- Rows of flags of the node/breaker form: a level's switches, then its terminals, whose breakers are open where they are not connected.
-use Rattle.std.proofs.Common.{◌≡◌, refl, sym, ap, ◌∙◌, subst, ℕ, zero, suc, ◌+◌, ◌-◌, ◌<◌, ◌≤◌, Bool, true, false, not, List, [], ◌∷◌, ◌++◌, length, get_or, set, length-set, arith}
-use Rattle.std.specs.Prelude.{Option, Some, None, map, slice_get, slice_set}
-use Rattle.std.specs.List.{slice_index_or, enumerate_from}
-use Rattle.std.proofs.lemmas.List.{map-append, map-set, length-map, get_or_append_left, get_or-append-add, set-append_left, set-append_right, get_or-map}
-use Rattle.grid_states.specs.Rows.{row_at, with_row, with_flag, with_flags}
+use Rattle.std.proofs.Common.{◌≡◌, refl, sym, ap, ◌∙◌, ℕ, zero, suc, ◌+◌, ◌-◌, ◌<◌, Bool, true, false, not, List, [], ◌∷◌, ◌++◌, length, get_or, set, length-set, arith}
+use Rattle.std.specs.Prelude.{Some, map, slice_get}
+use Rattle.std.specs.List.{enumerate_from}
+use Rattle.std.proofs.lemmas.List.{map-append, map-set, get_or_append_left, get_or-append-add, set-append_left, set-append_right, get_or-map}
+use Rattle.grid_states.specs.Rows.{row_at, with_row, with_flag}
 use Rattle.grid_level.specs.declared.Switch.{Switch}
 use Rattle.grid_core.specs.Solo.{flag_at}
 use Rattle.grid_paths.proofs.Least.{some_same, some_none}

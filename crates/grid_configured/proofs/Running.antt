@@ -1,10 +1,10 @@
 -- What a world of configured buses reads of its node/breaker form.
-use Rattle.std.proofs.Common.{◌≡◌, refl, sym, ap, ◌∙◌, subst, ℕ, ℤ, zero, suc, ◌+◌, ◌<◌, ◌≤◌, Bool, true, false, cond, List, [], ◌∷◌, ◌++◌, length, get_or, inl, inr, arith}
-use Rattle.std.specs.Prelude.{Option, Some, None, eqb, nat_lt, map, option_map, slice_get, All, IsTrue}
+use Rattle.std.proofs.Common.{◌≡◌, refl, sym, ap, ◌∙◌, subst, ℕ, ℤ, zero, suc, ◌+◌, ◌<◌, Bool, true, false, cond, List, [], ◌∷◌, length, get_or, inl, inr, arith}
+use Rattle.std.specs.Prelude.{Option, Some, None, nat_lt, map, option_map, slice_get, IsTrue}
 use Rattle.std.proofs.lemmas.Bool.{cases_Bool, both_ways, lt-ltb, le-ltb, false≢true}
 use Rattle.std.proofs.lemmas.List.{length-map}
 use Rattle.std.proofs.lemmas.List.Elements.{All-head, All-tail, All-cons}
-use Rattle.std.proofs.lemmas.Option.{slice_get_within, slice_get-get_or}
+use Rattle.std.proofs.lemmas.Option.{slice_get-get_or}
 use Rattle.grid_ids.specs.Name.{has_id}
 use Rattle.grid_level.specs.VoltageLevel.{VoltageLevel}
 use Rattle.grid_level.specs.Passing.{positioned}
@@ -40,9 +40,9 @@ use Rattle.grid_configured.specs.declared.view.ConfiguredView.{ConfiguredView}
 use Rattle.grid_configured.specs.declared.reply.ConfiguredReply.TheVariants as told
 use Rattle.grid_configured.specs.Told.{told_reply, bus_refusal, IsTerminalAsked, IsPassed, is_passed}
 use Rattle.grid_configured.specs.Worlds.{history_of, IsConfiguredWorld, bus_count, is_bus_site}
-use Rattle.grid_configured.proofs.Located.{levels_are, level_found, IsAt, sited}
-use Rattle.grid_configured.proofs.Mirrored.{NetworkFits, Mirrors}
-use Rattle.grid_configured.proofs.Buses.{IsBusAt, bus_sited}
+use Rattle.grid_configured.proofs.Located.{levels_are, level_found, sited}
+use Rattle.grid_configured.proofs.Mirrored.{NetworkFits}
+use Rattle.grid_configured.proofs.Buses.{bus_sited}
 use Rattle.grid_configured.proofs.Asked.{IsPlainStep, asks_bus, asks_view, reply_told, bus_reply}
 use Rattle.grid_configured.proofs.Looking.{variant_view, view_reply, dead_reply, lost_reply}
 use Rattle.grid_configured.proofs.Checked.{translatable_fits}

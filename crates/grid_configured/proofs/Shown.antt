@@ -1,21 +1,17 @@
 -- What the report of a history tells: the order of its steps, and each worker's script.
-use Rattle.std.proofs.Common.{◌≡◌, ℕ, suc, ◌==◌, cond, Bool, true, false, List, [], ◌∷◌, ◌++◌, map, length, refl, sym, ap, ◌∙◌, arith}
-use Rattle.std.specs.Prelude.{filter, zip, slice_get, codes, decimal}
-use Rattle.std.specs.List.{flat_map}
-use Rattle.grid_core.specs.declared.request.Request.{Request}
+use Rattle.std.proofs.Common.{◌≡◌, ℕ, ◌==◌, cond, Bool, true, false, List, [], ◌∷◌, map, length, refl, sym, ap, ◌∙◌, arith}
+use Rattle.std.specs.Prelude.{filter, zip}
 use Rattle.grid_core.specs.declared.journal.Entry.{Entry}
-use Rattle.grid_core.specs.History.{Command}
 use Rattle.grid_core.specs.Journals.{journal_of}
 use Rattle.grid_report.specs.Outcomes as outcomes
-use Rattle.grid_report.specs.Histories.{steps_of, told_order, script_of, IsOrder}
+use Rattle.grid_report.specs.Histories.{steps_of}
 use Rattle.grid_report.proofs.Listening.{shows}
 use Rattle.grid_report.proofs.Scripts.{scripts_shown}
-use Rattle.grid_configured.specs.declared.network.ConfiguredNetwork.{ConfiguredNetwork}
 use Rattle.grid_configured.specs.declared.reply.ConfiguredReply.{ConfiguredReply}
 use Rattle.grid_configured.specs.Translation.{translated}
 use Rattle.grid_configured.specs.Texts.{Told, order_line, steps_by}
 use Rattle.grid_configured.specs.Outcomes.{told_pair, told_of}
-use Rattle.grid_configured.specs.Reports.{told_steps, replies_of, ReportShowsOrder, ReportShowsScripts}
+use Rattle.grid_configured.specs.Reports.{replies_of, ReportShowsOrder, ReportShowsScripts}
 use Rattle.grid_configured.proofs.Reported.{order_shown}
 use Rattle.grid_configured.proofs.Showing.{evenly, tells}
 

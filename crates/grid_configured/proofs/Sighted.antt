@@ -1,10 +1,9 @@
 -- Where a bus is in a network in node/breaker form, and how many nodes a level has there.
-use Rattle.std.proofs.Common.{◌≡◌, refl, sym, ap, ◌∙◌, subst, ℕ, zero, suc, ◌+◌, ◌<◌, ◌≤◌, Bool, true, false, cond, not, ◌&&◌, ◌||◌, List, [], ◌∷◌, ◌++◌, length, get_or, arith}
-use Rattle.std.specs.Prelude.{eqb, Option, Some, None, map, find, flat_map, position, unwrap_or, option_map, slice_get, take}
-use Rattle.std.specs.List.{list_any, enumerate_from}
+use Rattle.std.proofs.Common.{◌≡◌, refl, sym, ap, ◌∙◌, ℕ, zero, suc, ◌+◌, ◌≤◌, Bool, true, false, cond, ◌&&◌, List, [], ◌∷◌, ◌++◌, length, arith}
+use Rattle.std.specs.Prelude.{eqb, Option, Some, None, map, find, flat_map, position, unwrap_or, option_map, slice_get}
+use Rattle.std.specs.List.{enumerate_from}
 use Rattle.std.specs.Option.{option_or}
-use Rattle.std.proofs.lemmas.Bool.{true≢false, or_parts, eq-eqb}
-use Rattle.std.proofs.lemmas.List.{append-nil, map-append}
+use Rattle.std.proofs.lemmas.Bool.{true≢false, eq-eqb}
 use Rattle.std.proofs.lemmas.List.Folds.{find-append}
 use Rattle.std.proofs.lemmas.List.FromFn.{length-range_with_len}
 use Rattle.grid_ids.specs.Name.{same_id, has_id}
@@ -15,7 +14,7 @@ use Rattle.grid_level.specs.Passing.{nodes}
 use Rattle.grid_structure.specs.Network.{Network}
 use Rattle.grid_structure.specs.Sites as sites
 use Rattle.grid_structure.specs.Sites.{levels, level_named, first_found}
-use Rattle.grid_structure.proofs.Counts.{times, times-append, there, not_there}
+use Rattle.grid_structure.proofs.Counts.{times, times-append, there}
 use Rattle.grid_structure.proofs.Places.{position-cons, position_none, none_position}
 use Rattle.grid_paths.proofs.Least.{some_same, some_none}
 use Rattle.grid_configured.specs.declared.network.BusSwitch.{BusSwitch}
@@ -24,15 +23,15 @@ use Rattle.grid_configured.specs.declared.network.ConfiguredLine.{ConfiguredLine
 use Rattle.grid_configured.specs.declared.network.ConfiguredLevel.{ConfiguredLevel}
 use Rattle.grid_configured.specs.declared.network.ConfiguredNetwork.{ConfiguredNetwork}
 use Rattle.grid_configured.specs.Checks.{level_ids, ids_of}
-use Rattle.grid_configured.specs.Places.{Joint, Outlet, PlacedLevel, PlacesFit}
+use Rattle.grid_configured.specs.Places.{Outlet, PlacedLevel, PlacesFit}
 use Rattle.grid_configured.specs.Levels.{bus_place, item_outlet, line_outlets, outlets, placed_level, placed_levels}
 use Rattle.grid_configured.specs.Translation.{bus_section, outlet_placed, outlets_at, translated_level}
 use Rattle.grid_configured.proofs.Nodes.{level_nodes}
 use Rattle.grid_configured.proofs.Checked.{absent_by}
-use Rattle.grid_configured.proofs.Located.{placed_test, level_test, found_mapped, found_bus, none_or}
+use Rattle.grid_configured.proofs.Located.{placed_test, level_test, found_mapped}
 use Rattle.grid_configured.proofs.Stacked.{Each, each_join}
 use Rattle.grid_configured.proofs.Enlarged.{next_node}
-use Rattle.grid_configured.proofs.Tagged.{PlainLevel, PlainNetwork, FreshIn, fresh_in, Other, items_other, lines_other, shaped}
+use Rattle.grid_configured.proofs.Tagged.{PlainLevel, PlainNetwork, fresh_in, Other, items_other, lines_other, shaped}
 use Rattle.grid_configured.proofs.Lining.{shape, shaped_is, find_shape}
 
 -- ---- in one level

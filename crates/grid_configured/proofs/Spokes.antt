@@ -1,14 +1,14 @@
 -- Places that pairs join, with further nodes behind them that each hang at one place, or at none.
-use Rattle.std.proofs.Common.{◌≡◌, refl, sym, ap, ◌∙◌, subst, ℕ, ◌+◌, ◌<◌, ◌≤◌, Bool, true, false, cond, ◌&&◌, ◌||◌, List, [], ◌∷◌, ◌++◌, inl, inr, ◌⊎◌, arith}
+use Rattle.std.proofs.Common.{◌≡◌, refl, sym, ap, ◌∙◌, subst, ℕ, ◌<◌, ◌≤◌, Bool, true, false, cond, ◌&&◌, ◌||◌, List, ◌++◌, inl, inr, ◌⊎◌, arith}
 use Rattle.std.specs.Prelude.{eqb, nat_lt}
-use Rattle.std.specs.List.{list_any, flat_map}
-use Rattle.std.proofs.lemmas.Bool.{false≢true, both_ways, and_parts, and_from, or_cases, or_left, or_right, cases_Bool, cases_lt, cases_eq, lt-ltb, le-ltb, ltb-true, eqb-true, eq-eqb, ne_eqb}
+use Rattle.std.specs.List.{flat_map}
+use Rattle.std.proofs.lemmas.Bool.{both_ways, and_parts, and_from, or_cases, or_left, or_right, lt-ltb, le-ltb, eqb-true, eq-eqb}
 use Rattle.std.proofs.lemmas.List.Concat.{flat_map-append}
 use Rattle.grid_graph.specs.Joined.{end_across, neighbours, joined}
 use Rattle.grid_graph.specs.Components.{places}
 use Rattle.grid_graph.specs.Graph.{EndsBelow}
 use Rattle.grid_graph.proofs.Reach.{In, In_parts, In_left, In_right, neighbours_back}
-use Rattle.grid_graph.proofs.Places.{AreBelow, same_test, j_refl, j_symm, j_trans, j_near, j_step, j_along, j_below}
+use Rattle.grid_graph.proofs.Places.{AreBelow, same_test, j_refl, j_near, j_step, j_along}
 use Rattle.grid_graph.proofs.Below.{pairs_below}
 
 -- ---- neighbours by two lists of pairs

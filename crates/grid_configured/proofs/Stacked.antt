@@ -1,11 +1,9 @@
 -- Networks in which each level stands in a substation of its own, and what edits make of them.
-use Rattle.std.proofs.Common.{◌≡◌, refl, sym, ap, ◌∙◌, subst, ℕ, zero, suc, ◌+◌, ◌<◌, ◌≤◌, Bool, true, false, cond, not, ◌&&◌, ◌||◌, List, [], ◌∷◌, ◌++◌, length, Result, Ok, Err, inl, inr, arith}
-use Rattle.std.specs.Prelude.{ℤ, Option, Some, None, map, filter, find, flat_map, nat_le, option_map}
-use Rattle.std.specs.List.{list_any}
+use Rattle.std.proofs.Common.{◌≡◌, refl, sym, ap, ◌∙◌, subst, ℕ, ◌<◌, Bool, true, false, cond, not, ◌||◌, List, [], ◌∷◌, ◌++◌, length, Ok, inl, inr, arith}
+use Rattle.std.specs.Prelude.{ℤ, Some, None, map, filter, find, flat_map, option_map}
 use Rattle.std.proofs.lemmas.Bool.{cases_Bool, or_parts, lt-leb}
 use Rattle.std.proofs.lemmas.List.{append-nil, map-append}
 use Rattle.std.proofs.lemmas.List.Concat.{flat_map-append}
-use Rattle.std.proofs.lemmas.List.Folds.{list_any-append, find-append}
 use Rattle.std.proofs.lemmas.Slice.Eq.{bytes_eq-Decides}
 use Rattle.grid_ids.specs.Name.{same_id, has_id}
 use Rattle.grid_kinds.specs.Records.{level_fault, injection_fault}

@@ -12,7 +12,7 @@ use Rattle.grid_core.specs.History.{Command, command}
 use Rattle.grid_report.specs.Histories.{next_of, step_at, steps_of, script_of, IsOrder}
 use Rattle.grid_configured.specs.declared.network.ConfiguredNetwork.{ConfiguredNetwork}
 use Rattle.grid_configured.specs.declared.reply.ConfiguredReply.{ConfiguredReply}
-use Rattle.grid_configured.specs.Histories.{ConfiguredHistory, begun, longer, reply}
+use Rattle.grid_configured.specs.Histories.{ConfiguredHistory, longer, reply}
 use Rattle.grid_configured.specs.Reports.{replies_of, history_of}
 
 -- so many steps of the order, the newest first

@@ -1,9 +1,9 @@
 -- Ids that nothing in a network in node/breaker form has: plain ids that are new, and the ids that the form adds for them.
-use Rattle.std.proofs.Common.{◌≡◌, refl, sym, ap, ◌∙◌, subst, ℕ, zero, suc, ◌+◌, Bool, true, false, cond, not, ◌&&◌, ◌||◌, List, [], ◌∷◌, ◌++◌, length, append_assoc, inl, inr, arith}
+use Rattle.std.proofs.Common.{◌≡◌, refl, sym, ap, ◌∙◌, ℕ, ◌+◌, Bool, true, false, cond, not, ◌||◌, List, [], ◌∷◌, ◌++◌, length, append_assoc}
 use Rattle.std.specs.Prelude.{eqb, map, filter, flat_map, codes, decimal}
 use Rattle.std.specs.List.{list_any, enumerate_from}
-use Rattle.std.proofs.lemmas.Bool.{cases_Bool, false≢true, true≢false, or_parts, or_left, or_right, both_ways, false_from_ne_true, eq-eqb}
-use Rattle.std.proofs.lemmas.List.{append-nil, map-append}
+use Rattle.std.proofs.lemmas.Bool.{or_parts, or_left, or_right, both_ways, false_from_ne_true, eq-eqb}
+use Rattle.std.proofs.lemmas.List.{map-append}
 use Rattle.std.proofs.lemmas.List.Folds.{list_any-append}
 use Rattle.std.proofs.lemmas.Slice.Eq.{bytes_eq-Decides}
 use Rattle.grid_ids.specs.Name.{same_id, has_id}
@@ -14,7 +14,6 @@ use Rattle.grid_level.specs.declared.Stand.TheVariants.{BranchEnd}
 use Rattle.grid_level.specs.VoltageLevel.{VoltageLevel}
 use Rattle.grid_level.specs.Passing.{is_branch_end}
 use Rattle.grid_structure.specs.declared.NamedBranch.{NamedBranch}
-use Rattle.grid_structure.specs.Network.{Network, Substation}
 use Rattle.grid_configured.specs.declared.network.BusSwitch.{BusSwitch}
 use Rattle.grid_configured.specs.declared.network.Item.{Item}
 use Rattle.grid_configured.specs.declared.network.BusEnd.{BusEnd}
@@ -22,12 +21,11 @@ use Rattle.grid_configured.specs.declared.network.ConfiguredLine.{ConfiguredLine
 use Rattle.grid_configured.specs.declared.network.ConfiguredLevel.{ConfiguredLevel}
 use Rattle.grid_configured.specs.declared.network.ConfiguredNetwork.{ConfiguredNetwork}
 use Rattle.grid_configured.specs.Checks.{level_ids, ids_of}
-use Rattle.grid_configured.specs.Places.{Joint, Outlet, PlacedLevel}
+use Rattle.grid_configured.specs.Places.{Outlet}
 use Rattle.grid_configured.specs.Levels.{bus_place, joint_of, item_outlet, end_outlets, line_outlets, outlets, placed_level, placed_levels}
 use Rattle.grid_configured.specs.Translation.{joint_breaker, breaker_id, outlet_breaker, outlets_at, translated_level, substation_id, substation_of, translated_line, translated}
-use Rattle.grid_configured.proofs.Nodes.{map_map}
 use Rattle.grid_configured.proofs.Located.{is_marked, has_join, own_ids, singles, level_singles}
-use Rattle.grid_configured.proofs.Stacked.{Each, each_map, each_join, Lacks, Free, lone, stack, join_free, same_back}
+use Rattle.grid_configured.proofs.Stacked.{Each, each_join, Lacks, Free, lone, stack, join_free, same_back}
 
 -- ---- ids with the byte of reserved ids
 

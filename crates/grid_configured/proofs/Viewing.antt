@@ -1,9 +1,9 @@
 -- The bus view of a level in node/breaker form is its configured view.
-use Rattle.std.proofs.Common.{◌≡◌, refl, sym, ap, ◌∙◌, subst, ℕ, ℤ, zero, suc, ◌+◌, ◌<◌, ◌≤◌, Bool, true, false, cond, not, ◌&&◌, List, [], ◌∷◌, ◌++◌, length, get_or, take, drop, inl, inr, arith}
+use Rattle.std.proofs.Common.{◌≡◌, refl, sym, ap, ◌∙◌, ℕ, ℤ, suc, ◌+◌, ◌<◌, Bool, true, false, cond, List, [], ◌∷◌, ◌++◌, length, get_or, take, drop, arith}
 use Rattle.std.specs.Prelude.{eqb, nat_lt, pos, ◌+ℤ◌, map, filter, fold, count_by, zip}
 use Rattle.std.specs.List.{list_any, enumerate_from, range_with_len, slice_index_or}
 use Rattle.std.proofs.lemmas.Bool.{lt-ltb, le-ltb}
-use Rattle.std.proofs.lemmas.List.{append-nil, map-append, map-id, length-map, take_at, drop_at}
+use Rattle.std.proofs.lemmas.List.{map-append, map-id, length-map, take_at, drop_at}
 use Rattle.std.proofs.lemmas.List.Elements.{filter-append}
 use Rattle.std.proofs.lemmas.List.Folds.{fold-map}
 use Rattle.std.proofs.lemmas.List.Sums.{sum_by-append, sum_by-cons}
@@ -19,17 +19,14 @@ use Rattle.grid_level.specs.VoltageLevel.{VoltageLevel}
 use Rattle.grid_level.specs.Passing.{bus, placed_among}
 use Rattle.grid_groups.specs.Groups.{group_under, leaders, terminals_at}
 use Rattle.grid_groups.proofs.Lists.{filter_In}
-use Rattle.grid_busview.specs.declared.ViewBus.{ViewBus}
-use Rattle.grid_busview.specs.declared.BusView.{BusView}
 use Rattle.grid_busview.specs.Views.{Fed, is_load, is_generation, is_bus, stand_watts, record_watts, fed_among, watts_over, bus_of, bus_view_of}
 use Rattle.grid_configured.specs.declared.view.ConfiguredBus.{ConfiguredBus}
-use Rattle.grid_configured.specs.declared.view.ConfiguredView.{ConfiguredView}
 use Rattle.grid_configured.specs.Places.{Outlet, PlacedLevel, PlacesFit, closed_pairs, joined_places, first_places}
 use Rattle.grid_configured.specs.Translation.{bus_section, outlet_placed, outlets_at, translated_level}
 use Rattle.grid_configured.specs.Views.{connects_among, outlets_among, is_view_bus, outlet_watts, configured_bus, configured_view}
 use Rattle.grid_configured.specs.Viewed.{section_total, told_bus, told_view}
-use Rattle.grid_configured.proofs.Nodes.{enumerated, map_map, map_alike, filter_map_of}
-use Rattle.grid_configured.proofs.Joined.{node_total, nodes_joined, buses_joined, places_split, range_bounds, joined_places_alike}
+use Rattle.grid_configured.proofs.Nodes.{enumerated, map_map, filter_map_of}
+use Rattle.grid_configured.proofs.Joined.{nodes_joined, buses_joined, places_split, range_bounds, joined_places_alike}
 use Rattle.grid_configured.proofs.Grouped.{filter_same, at_places, at_nodes, sections, feeders, group_is, standing}
 use Rattle.grid_configured.proofs.Counted.{section_places, section_count, view_places}
 

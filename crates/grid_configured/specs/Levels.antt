@@ -1,5 +1,5 @@
 -- The levels of a network with configured buses, by places of buses.
-use Rattle.std.specs.Prelude.{ℕ, Bool, ◌==◌, if◌then◌else◌, unwrap_or, List, [], ◌∷◌, ◌++◌, map, flat_map, position}
+use Rattle.std.specs.Prelude.{ℕ, if◌then◌else◌, unwrap_or, List, [], ◌∷◌, ◌++◌, map, flat_map, position}
 use Rattle.grid_ids.specs.Name.{same_id}
 use Rattle.grid_level.specs.declared.Terminal.{Terminal}
 use Rattle.grid_level.specs.declared.Stand.TheVariants.{Feeder, BranchEnd}

@@ -1,5 +1,5 @@
 -- What a report tells of the journal of the node/breaker form and the replies of the same steps.
-use Rattle.std.specs.Prelude.{◌≡◌, ℕ, List, length, map, zip}
+use Rattle.std.specs.Prelude.{ℕ, List, map, zip}
 use Rattle.grid_core.specs.declared.journal.Entry.{Entry}
 use Rattle.grid_configured.specs.declared.reply.ConfiguredReply.{ConfiguredReply}
 use Rattle.grid_configured.specs.declared.outcome.ConfiguredVariant.{ConfiguredVariant}

@@ -1,5 +1,5 @@
 -- Networks with configured buses of which only a part is there yet.
-use Rattle.std.specs.Prelude.{ℕ, Option, Some, None, List, [], ◌∷◌, ◌++◌, take, map, slice_get}
+use Rattle.std.specs.Prelude.{ℕ, Some, None, [], ◌∷◌, ◌++◌, take, map, slice_get}
 use Rattle.grid_structure.specs.Network.{Network}
 use Rattle.grid_configured.specs.declared.network.ConfiguredLevel.{ConfiguredLevel}
 use Rattle.grid_configured.specs.declared.network.ConfiguredNetwork.{ConfiguredNetwork}

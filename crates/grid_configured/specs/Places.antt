@@ -1,6 +1,6 @@
 -- A level with configured buses as it stands: its switches by the places of the buses that they join, and its terminals by the
 -- places of the buses at which they stand.
-use Rattle.std.specs.Prelude.{ℕ, ℤ, ◌<◌, Bool, false, not, ◌≡◌, List, [], ◌∷◌, length, map, filter, All}
+use Rattle.std.specs.Prelude.{ℕ, ℤ, ◌<◌, Bool, false, not, ◌≡◌, List, ◌∷◌, length, map, filter, All}
 use Rattle.grid_graph.specs.Joined.{group_of, least_nodes}
 use Rattle.grid_graph.specs.Components.{places}
 use Rattle.grid_level.specs.declared.Terminal.{Terminal}

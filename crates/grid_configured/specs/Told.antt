@@ -4,7 +4,6 @@ use Rattle.grid_core.specs.declared.request.Request.{Request}
 use Rattle.grid_core.specs.declared.request.Request.TheVariants as requests
 use Rattle.grid_core.specs.declared.reply.Reply.{Reply}
 use Rattle.grid_core.specs.declared.reply.Reply.TheVariants as replies
-use Rattle.grid_core.specs.declared.reply.Refusal.{Refusal}
 use Rattle.grid_core.specs.declared.reply.Refusal.TheVariants as refusals
 use Rattle.grid_configured.specs.declared.reply.ConfiguredReply.{ConfiguredReply}
 use Rattle.grid_configured.specs.declared.reply.ConfiguredReply.TheVariants.{Done, Unchanged, AlreadyConnected, AlreadyDisconnected, Created, Overwritten, Refused}

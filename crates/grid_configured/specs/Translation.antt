@@ -1,7 +1,7 @@
 -- A level with configured buses in node/breaker form: bus k is a busbar section at node k, the switches are retained breakers
 -- between those nodes, and terminal j stands behind them, at the count of buses and j more, joined to its bus by a breaker of its
 -- own, which is closed where it is connected.
-use Rattle.std.specs.Prelude.{ℕ, pos, ◌+◌, Bool, true, false, not, Option, Some, None, unwrap_or, List, [], ◌∷◌, ◌++◌, length, map, find, position, codes, decimal}
+use Rattle.std.specs.Prelude.{ℕ, pos, ◌+◌, true, false, not, Some, None, unwrap_or, List, [], ◌∷◌, ◌++◌, length, map, find, position, codes, decimal}
 use Rattle.std.specs.List.{enumerate_from}
 use Rattle.grid_kinds.specs.declared.SwitchKind.TheVariants.{Breaker}
 use Rattle.grid_level.specs.declared.Switch.{Switch}

@@ -1,6 +1,5 @@
 -- The configured view by the bus view of the level in node/breaker form.
 use Rattle.std.specs.Prelude.{ℕ, Bool, nat_lt, Option, List, length, map, count_by, take, drop, slice_get, option_map}
-use Rattle.grid_level.specs.declared.Terminal.{Terminal}
 use Rattle.grid_level.specs.Passing.{positioned}
 use Rattle.grid_states.specs.Rows.{row_at}
 use Rattle.grid_busview.specs.Views.{record_watts, bus_view_of}

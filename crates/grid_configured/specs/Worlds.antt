@@ -1,5 +1,5 @@
 -- The history that a world of configured buses is seen as, and what such a world keeps.
-use Rattle.std.specs.Prelude.{◌≡◌, ℕ, Bool, false, nat_lt, Option, Some, None, List, length, slice_get}
+use Rattle.std.specs.Prelude.{◌≡◌, ℕ, Bool, false, nat_lt, Option, Some, None, length, slice_get}
 use Rattle.grid_structure.specs.declared.Site.{Site}
 use Rattle.grid_core.specs.History.{History}
 use Rattle.grid_configured.specs.declared.network.ConfiguredNetwork.{ConfiguredNetwork}

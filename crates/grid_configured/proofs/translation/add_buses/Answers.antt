@@ -1,8 +1,6 @@
-use Rattle.std.proofs.Common.{refl, sym, ap, ◌∙◌, ◌≡◌, ◌<◌, length, arith, rules, to_z, w64, pos}
-use Rattle.std.specs.Prelude.{Some, slice_get, IsOk}
-use Rattle.grid_configured.specs.Partial.{with_buses, with_switches, with_items, with_lines}
-use Rattle.grid_configured.proofs.Applied.{LevelAt, level_of, only_memory, bus_law, joint_law, all_buses, all_switches, all_items}
-use Rattle.grid_configured.proofs.Carried.{got, inside, finished, made_by, level_is_plain, own_is_plain, home_first, home_second, bus_next, buses_done}
+use Rattle.std.proofs.Common.{◌≡◌, rules, to_z, w64, pos}
+use Rattle.grid_configured.proofs.Applied.{level_of, only_memory}
+use Rattle.grid_configured.proofs.Carried.{got, inside, made_by, bus_next, buses_done}
 use Rattle.grid_configured.proofs.translation.add_buses.Goals as goal
 
 pub loop-node-init : goal.loop-node-init

@@ -1,8 +1,6 @@
-use Rattle.std.proofs.Common.{refl, sym, ap, ◌∙◌, ◌≡◌, ◌<◌, ◌≤◌, ◌+◌, length, arith, rules, to_z, of_z, w64, pos, ℕ}
-use Rattle.std.specs.Prelude.{Some, slice_get, IsOk}
-use Rattle.grid_configured.specs.Partial.{with_buses, with_switches, with_items, with_lines}
-use Rattle.grid_configured.proofs.Applied.{LevelAt, level_of, only_memory}
-use Rattle.grid_configured.proofs.Extended.{LineAt, line_of}
+use Rattle.std.proofs.Common.{ap, ◌∙◌, ◌≡◌, ◌<◌, ◌+◌, length, arith, rules, to_z, of_z, w64, pos}
+use Rattle.std.specs.Prelude.{slice_get}
+use Rattle.grid_configured.proofs.Applied.{level_of, only_memory}
 use Rattle.grid_configured.proofs.Carried.{got, inside, finished, made_by, if_some, level_is_plain, item_is_plain, item_there, item_first, item_second}
 use Rattle.grid_configured.proofs.translation.add_item.Goals as goal
 use Rattle.grid_configured.proofs.Applied.{node_few}

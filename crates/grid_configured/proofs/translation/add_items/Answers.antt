@@ -1,4 +1,4 @@
-use Rattle.std.proofs.Common.{◌≡◌, ◌≤◌, ap, length, arith, slice_index_or}
+use Rattle.std.proofs.Common.{◌≡◌, ap, length, arith, slice_index_or}
 use Rattle.grid_configured.specs.declared.network.ConfiguredLevel.{ConfiguredLevel}
 use Rattle.grid_configured.proofs.Applied.{level_of}
 use Rattle.grid_configured.proofs.Carried.{got, inside, items_done}

@@ -1,4 +1,4 @@
-use Rattle.std.proofs.Common.{◌≡◌, ◌≤◌, length, arith}
+use Rattle.std.proofs.Common.{arith}
 use Rattle.grid_configured.proofs.Carried.{levels_done}
 use Rattle.grid_configured.proofs.translation.add_levels.Goals as goal
 

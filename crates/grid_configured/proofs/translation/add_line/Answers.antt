@@ -1,5 +1,4 @@
-use Rattle.std.proofs.Common.{refl, sym, ap, ◌∙◌, ◌≡◌, ◌<◌, ◌≤◌, ◌+◌, length, arith, rules, to_z, of_z, w64, pos, ℕ, cond, ◌+ℤ◌}
-use Rattle.grid_ids.specs.Name.{same_id}
+use Rattle.std.proofs.Common.{refl, ap, ◌∙◌, ◌≡◌, ◌+◌, rules, to_z, of_z, w64, pos, cond}
 use Rattle.grid_configured.proofs.Applied.{only_memory}
 use Rattle.grid_configured.proofs.Extended.{line_of}
 use Rattle.grid_configured.proofs.Carried.{got, inside, finished, made_by, line_is_plain, line_there, line_first, line_second, line_third}
