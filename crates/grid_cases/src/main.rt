@@ -1,33 +1,21 @@
 //! Runs whole jobs by the top call. Each folder of `data/` is a case: the words, the job, and the exit status, the output and
 //! the line on standard error that they must give, and for a job with a fault also its place and reason. Then come what is
-//! told by many calls each: broken input, sources and sinks that fail, and commits that come between.
-//!
-//! With the word `parts` it leaves the cases out. With `replies` it makes the commands of a job on a board and in a world
-//! alone, for tools/failing, which refuses its allocations.
+//! told by many calls each: broken input, and sources and sinks that fail.
 #![tactic(auto)]
 
-mod between;
-mod both;
 mod broken;
 mod failing;
-mod gated;
-mod refused;
-mod telling;
-mod trouble;
 mod words;
 
-use crate::between::CASES;
-use crate::trouble::Trouble;
 use crate::words::words_of;
 use grid_cli::{Status, grid};
 use grid_lines::{ending, usage_text};
 use grid_manager::Idle;
-use grid_report::Text;
-use grid_source::{KeepingSource, StdSource, SureSink, SureSource, read_all};
+use grid_source::{KeepingSource, SureSink, SureSource};
 use std::alloc::Global;
 use std::sync::Wait;
 use std::thread::Threads;
-use std::{env, fs, io};
+use std::{fs, io};
 
 /// What a run has come to.
 #[derive(Drop)]
@@ -225,63 +213,14 @@ fn show_failing<R: Threads + Wait + Sync>(rt: &HostRuntime, threads: &R) -> io::
     Ok(())
 }
 
-/// Prints what came of a case, by its number.
-fn show_made(
-    rt: &HostRuntime,
-    number: usize,
-    by: &str,
-    made: Result<Text, Trouble>,
-) -> io::Result<()> {
-    let text = match &made {
-        Ok(text) => std::str::from_utf8(text.as_bytes()).unwrap_or("no text"),
-        Err(_) => "not made to its end",
-    };
-    println!(rt; "{number} {by}: {text}")
-}
-
-/// Prints what comes of each case in which commits come between an answer and its commit.
-fn show_between<R: Threads + Wait + Sync>(rt: &HostRuntime, threads: &R) -> io::Result<()> {
-    let alloc = rt.alloc();
-    for (place, (network, scripts)) in CASES.iter().enumerate() {
-        let number = place.saturating_add(1);
-        let other = text_of(rt, network, "job.json")?;
-        let made = between::on_board(alloc, other.as_str(), scripts);
-        show_made(rt, number, "on a board", made)?;
-        if (2..=6).contains(&number) || number == 8 {
-            let made = gated::by_callers(threads, alloc, other.as_str(), scripts);
-            show_made(rt, number, "by callers", made)?;
-        }
-    }
-    Ok(())
-}
-
-/// Prints the replies of a board and of a world to the commands of the job on standard input.
-fn show_replies(rt: &HostRuntime) -> io::Result<()> {
-    let Ok(job) = read_all(rt.alloc(), &mut StdSource::new(rt.reader())) else {
-        return Err(io::Error::from(io::ErrorKind::OutOfMemory));
-    };
-    match refused::replies(rt.alloc(), job.as_slice()) {
-        Ok(text) => print!(rt; "{text}"),
-        Err(Trouble::Memory) => Err(io::Error::from(io::ErrorKind::OutOfMemory)),
-        Err(_) => println!(rt; "no job"),
-    }
-}
-
 /// Prints what is told by many calls each.
 fn show_parts<R: Threads + Wait + Sync>(rt: &HostRuntime, threads: &R) -> io::Result<()> {
     show_broken(rt)?;
-    show_failing(rt, threads)?;
-    show_between(rt, threads)
+    show_failing(rt, threads)
 }
 
 fn main(rt: HostRuntime) -> io::Result<()> {
-    match env::args(&rt)?.nth(1) {
-        None => {
-            show_cases(&rt, &rt)?;
-            show_lines(&rt)?;
-            show_parts(&rt, &rt)
-        }
-        Some(word) if word.as_str() == "parts" => show_parts(&rt, &rt),
-        Some(_) => show_replies(&rt),
-    }
+    show_cases(&rt, &rt)?;
+    show_lines(&rt)?;
+    show_parts(&rt, &rt)
 }
