@@ -1,4 +1,5 @@
 pub mod Lists
+pub mod Filling
 pub mod Holding
 pub mod Indices
 pub mod Bridge

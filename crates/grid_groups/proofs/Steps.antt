@@ -1,9 +1,9 @@
 -- One step more of a loop.
-use Rattle.std.proofs.Common.{◌≡◌, refl, sym, ap, ◌∙◌, subst, ℕ, zero, suc, ◌+◌, ◌<◌, ◌≤◌, Bool, true, false, cond, ◌&&◌, List, [], ◌∷◌, ◌++◌, length, get_or, set, take, append_assoc, inl, inr, arith, Some, get_or-set_same, get_or-set_other, length-set}
+use Rattle.std.proofs.Common.{◌≡◌, refl, sym, ap, ◌∙◌, subst, ℕ, zero, suc, ◌+◌, ◌<◌, ◌≤◌, Bool, true, false, cond, ◌&&◌, List, [], ◌∷◌, ◌++◌, length, get_or, take, append_assoc, arith, Some}
 use Rattle.std.specs.Prelude.{eqb, map, filter, slice_get}
 use Rattle.std.specs.List.{list_all, filter_map, range_with_len, zip}
 use Rattle.std.proofs.lemmas.Slice.Zip.{length-zip, get_or-zip}
-use Rattle.std.proofs.lemmas.Bool.{and_parts, cases_eq, eq-eqb, ne_eqb}
+use Rattle.std.proofs.lemmas.Bool.{and_parts}
 use Rattle.std.proofs.lemmas.Option.{slice_get_read}
 use Rattle.std.proofs.lemmas.List.{append-nil, map-append, take_more}
 use Rattle.std.proofs.lemmas.List.Elements.{filter_more, filter-append, filter_map-append}
@@ -65,15 +65,6 @@ places_more n = let next : n + 1 ≡ suc n = omega arith in ap (range_with_len 0
 pub places_passed : (p : ℕ → Bool) (n : ℕ) → filter p (places (n + 1)) ≡ filter p (places n) ++ cond (p n) (n ∷ []) []
 places_passed p n = ap (filter p) (places_more n) ∙ filter-append p (places n) (n ∷ [])
 
--- one place more in one of the rows
-pub row_more : (rows : List (List ℕ)) (row place a : ℕ) → row < length rows → get_or (set rows row (get_or rows row [] ++ place ∷ [])) a [] ≡ get_or rows a [] ++ cond (eqb row a) (place ∷ []) []
-row_more rows row place a lt = elim (cases_eq a row) [
-  | inl e ↦ (let P : ℕ → Type 0 = λ z. get_or (set rows row (get_or rows row [] ++ place ∷ [])) z [] ≡ get_or rows z [] ++ cond (eqb row z) (place ∷ []) [] in
-      subst P (sym e) (get_or-set_same rows row (get_or rows row [] ++ place ∷ []) [] lt ∙ sym (ap (λ t. get_or rows row [] ++ cond t (place ∷ []) []) (eq-eqb row row refl))))
-  | inr ne ↦ get_or-set_other rows row a (get_or rows row [] ++ place ∷ []) [] ne ∙ sym (append-nil (get_or rows a []))
-      ∙ sym (ap (λ t. get_or rows a [] ++ cond t (place ∷ []) []) (ne_eqb row a (λ e. ne (sym e))))
-]
-
 -- ---- the nodes of an item
 
 pub switch_ends : (ns : List ℕ) (ss : List Switch) (rest : List Edge) (i : ℕ) (s : Switch) → list_all (ends_among ns) (map switch_edge ss ++ rest) ≡ true → i < length ss → s ≡ get_or ss i s
@@ -99,9 +90,6 @@ pub all_at : {X : Type 0} (p : X → Bool) (xs : List X) (i : ℕ) (x : X) → l
 all_at p [] i x h lt at = absurd (omega arith)
 all_at {X} p (y ∷ xs) zero x h lt at = let P : X → Type 0 = λ z. p z ≡ true in subst P (sym at) (and_parts (p y) (list_all p xs) h).0
 all_at p (y ∷ xs) (suc i) x h lt at = all_at p xs i x (and_parts (p y) (list_all p xs) h).1 (omega arith) at
-
-pub length_put : (rows : List (List ℕ)) (row place : ℕ) → length (set rows row (get_or rows row [] ++ place ∷ [])) ≡ length rows
-length_put rows row place = length-set rows row (get_or rows row [] ++ place ∷ [])
 
 pub map_next : {A B : Type 0} (f : A → B) (xs : List A) (i : ℕ) (x : A) (now : List B) (y : B) → i < length xs → x ≡ get_or xs i x → now ≡ map f (take i xs) → y ≡ f x → now ++ y ∷ [] ≡ map f (take (i + 1) xs)
 map_next {A} f xs i x now y lt at so_far e =
@@ -150,10 +138,6 @@ mapped_place f p n now y pass so_far e =
 
 pub unmapped_place : {X : Type 0} (f : ℕ → X) (p : ℕ → Bool) (n : ℕ) (now : List X) → p n ≡ false → now ≡ map f (filter p (places n)) → now ≡ map f (filter p (places (n + 1)))
 unmapped_place f p n now pass so_far = so_far ∙ sym (ap (map f) (places_passed p n ∙ ap (λ t. filter p (places n) ++ cond t (n ∷ []) []) pass ∙ append-nil (filter p (places n))))
-
--- a row that was read is that of its number
-pub row_is : (rows : List (List ℕ)) (keys row : List ℕ) (count key : ℕ) → length rows ≡ count → key < count → row ≡ get_or rows key row → ((k : ℕ) → k < count → get_or rows k [] ≡ places_with keys k) → row ≡ places_with keys key
-row_is rows keys row count key long lt at each = at ∙ get_or_any rows key row [] (omega (arith, long, lt)) ∙ each key lt
 
 -- the places with a key are places of the list
 pub places_within : (keys row : List ℕ) (key count : ℕ) → row ≡ places_with keys key → length keys ≡ count → (k : ℕ) → k < length row → get_or row k 0 < count

@@ -1,8 +1,9 @@
 -- The groups of a level's nodes by one label per node: the index of the least node joined to it.
-use Rattle.std.specs.Prelude.{◌≡◌, IsTrue, Some, ℕ, ◌<◌, ◌==◌, Bool, List, ◌++◌, length, map, filter, position, unwrap_or, slice_get, slice_index}
+use Rattle.std.specs.Prelude.{◌≡◌, IsTrue, Some, ℕ, ◌<◌, ◌==◌, Bool, List, [], ◌++◌, length, map, filter, position, unwrap_or, slice_get, slice_index}
 use Rattle.std.specs.List.{filter_map, zip}
 use Rattle.grid_graph.specs.Components.{places}
 use Rattle.grid_graph.specs.Graph.{Graph, graph, labels_of}
+use Rattle.grid_queue.specs.Parents.{AreLabelsOf}
 use Rattle.grid_level.specs.VoltageLevel.{VoltageLevel}
 use Rattle.grid_level.specs.Kept.{among}
 use Rattle.grid_level.specs.Passing.{Rule, switch_edge, internal_edge, ends, nodes, passing}
@@ -35,6 +36,10 @@ unfoldable pub passing_where : VoltageLevel → List Bool → List (ℕ × ℕ)
 passing_where level passes =
     map (λ pair. ends (switch_edge pair.0)) (filter (λ pair. pair.1) (zip level.switches passes)) ++ map (λ i. ends (internal_edge i)) level.internals
 
+-- labels of which the new ones are those of the nodes that some more pairs join, whatever pairs joined them before
+abbrev pub Joins : ℕ → List (ℕ × ℕ) → List ℕ → List ℕ → Type 0
+Joins count more old new = (pairs : List (ℕ × ℕ)) → AreLabelsOf (graph count pairs) old → AreLabelsOf (graph count (pairs ++ more)) new
+
 -- the labels of a level's nodes, where the switches whose flag is set pass
 unfoldable pub labels_where : VoltageLevel → List Bool → List ℕ
 labels_where level passes = labels_of (graph_among (nodes level) (passing_where level passes))
@@ -58,6 +63,15 @@ labels_placed level labels = map (λ p. label_of (nodes level) labels p.node) le
 -- the indices that are their own labels: those of the least nodes
 unfoldable pub leading : List ℕ → List ℕ
 leading labels = filter (λ k. slice_index labels k == k) (places (length labels))
+
+-- how many leaders come before each index below a count
+abbrev pub AreNumbers : List ℕ → ℕ → List ℕ → Type 0
+AreNumbers labels count numbers =
+    (length numbers ≡ count) × ((k : ℕ) → k < count → slice_index numbers k ≡ length (filter (λ j. slice_index labels j == j) (places k)))
+
+-- past the end of a list of groups
+abbrev pub no_group : Group
+no_group = record { least = 0; nodes = []; terminals = [] }
 
 -- the group of a leader whose nodes have some indices, and whose terminals some places
 unfoldable pub group_of : VoltageLevel → ℕ → List ℕ → List ℕ → Group

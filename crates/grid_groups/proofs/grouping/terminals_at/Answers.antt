@@ -7,7 +7,7 @@ use Rattle.grid_groups.proofs.grouping.terminals_at.Goals as goal
 
 pub loop-place-init : goal.loop-place-init
 unfolding items_at
-loop-place-init c = c.empty-terminals.ensures
+loop-place-init c = c.from_vec-terminals.ensures ∙ c.in_ok-with_capacity.ensures.items
 
 pub loop-place-preserved : goal.loop-place-preserved
 loop-place-preserved c =
