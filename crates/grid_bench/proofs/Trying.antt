@@ -1,21 +1,13 @@
 -- What tests assert at run time, and what it tells.
-use Rattle.std.proofs.Common.{◌≡◌, refl, sym, ap, ◌∙◌, subst, ℕ, ◌*◌, ◌≤◌, ◌&&◌, ◌||◌, not, cond, Bool, true, false, List, [], ◌∷◌, length, get_or, arith, Option, Some, None}
-use Rattle.std.specs.Prelude.{eqb, position, slice_get}
+use Rattle.std.proofs.Common.{◌≡◌, refl, sym, ap, ◌∙◌, ℕ, ◌*◌, ◌≤◌, ◌&&◌, not, cond, Bool, List, [], ◌∷◌, length, arith}
 use Rattle.std.specs.Bool.{beq}
-use Rattle.std.specs.List.{list_any, sum_by}
-use Rattle.std.proofs.lemmas.Bool.{eqb-true}
-use Rattle.std.proofs.lemmas.List.Quantifiers.{position-Some}
-use Rattle.std.proofs.lemmas.List.Sums.{count_by-le-length, sum_by-cons}
+use Rattle.std.specs.List.{sum_by}
+use Rattle.std.proofs.lemmas.List.Sums.{sum_by-cons}
 use Rattle.grid_graph.specs.Components.{places}
-use Rattle.grid_graph.proofs.Reach.{In}
-use Rattle.grid_level.specs.declared.Switch.{Switch}
 use Rattle.grid_level.specs.VoltageLevel.{VoltageLevel}
-use Rattle.grid_level.specs.Passing.{Rule, bus, breaker, nodes}
-use Rattle.grid_groups.proofs.Indices.{In_among}
-use Rattle.grid_groups.proofs.Lists.{In_get}
-use Rattle.grid_groups.proofs.Standing.{nodes-stood}
+use Rattle.grid_level.specs.Passing.{nodes}
 use Rattle.grid_bench.specs.Contents.{Content, content}
-use Rattle.grid_bench.specs.Costs.{is_at_end, touched_by, touched_both, standing_with, with_flags_at, change_cost, content_midway, flag_at, differs_at, place_cost, changes_cost}
+use Rattle.grid_bench.specs.Costs.{change_cost, content_midway, flag_at, differs_at, place_cost, changes_cost}
 use Rattle.grid_bench.proofs.Costing.{place_le}
 use Rattle.grid_bench.proofs.Following.{beq_refl}
 

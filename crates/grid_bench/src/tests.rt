@@ -1,5 +1,5 @@
 // A level of two busbar sections with a coupler, and two levels that a line joins.
-ghost use Rattle.std.specs.Prelude.{◌≡◌, ◌+◌, ◌<◌, ◌≤◌, ◌&&◌, nat_lt, IsTrue, OnOk, Some, length, slice_get};
+ghost use Rattle.std.specs.Prelude.{◌≡◌, ◌+◌, ◌<◌, ◌≤◌, ◌&&◌, nat_lt, IsTrue, IfOk, OnOk, Some, length, slice_get};
 ghost use Rattle.grid_level.specs.Passing.{nodes, stands_at, is_branch_end};
 ghost use Rattle.grid_level.specs.Kept.{among};
 ghost use Rattle.grid_bench.specs.Bases.{LevelFits, carries_end};
@@ -197,7 +197,9 @@ fn has_level(base: &Base, level: u32) -> bool
 
 fn has_node(base: &Base, level: u32, node: u16) -> bool
     ensures level { IsTrue result → level < length base.now.levels }
-    ensures node { IsTrue result → (part : BaseLevel) → slice_get base.now.levels level ≡ Some part → IsTrue (among (nodes part.level) node) }
+    ensures node { IsTrue result
+        → (part : BaseLevel) → slice_get base.now.levels level ≡ Some part
+        → IsTrue (among (nodes part.level) node) }
 {
     if !has_level(base, level) {
         return false;
@@ -252,6 +254,21 @@ fn buses<L: Ledger>(
 
 // ---- visits
 
+// A bench that keeps the level with its coupler closed.
+fn closed_bench<L: Ledger>(
+    alloc: Global,
+    level: &SharedLevel,
+    steps: &mut Steps<L>,
+) -> Result<Bench, Memory>
+    requires { length level.now.switches ≡ 5 }
+    ensures { IfOk result (λ bench. kept_for bench level.now.id
+        ≡ Some (content level.now CLOSED RETAINED)) }
+{
+    let mut bench = Bench::empty(alloc);
+    bench.refresh(level, &CLOSED, &RETAINED, steps)?;
+    Ok(bench)
+}
+
 // The same level with the same flags again costs no visit.
 fn refresh_again<L: Ledger>(
     bench: &mut Bench,
@@ -260,7 +277,8 @@ fn refresh_again<L: Ledger>(
 ) -> Result<(), Memory>
     requires switches { length level.now.switches ≡ 5 }
     requires kept { kept_for bench.old level.now.id ≡ Some (content level.now CLOSED RETAINED) }
-    ensures kept { OnOk result (kept_for bench.new level.now.id ≡ Some (content level.now CLOSED RETAINED)) }
+    ensures kept { OnOk result (kept_for bench.new level.now.id
+        ≡ Some (content level.now CLOSED RETAINED)) }
     ensures cost { steps.new ≡ steps.old }
 {
     bench.refresh(level, &CLOSED, &RETAINED, steps)
@@ -291,27 +309,25 @@ fn expect_labels(rt: &impl Abort, bench: &Bench, level: &Level, bus: &[u32], bre
     }
 }
 
+// Asserts that the labels of the level are kept with its coupler open.
+fn expect_parted(rt: &impl Abort, bench: &Bench, level: &Level) {
+    expect_labels(rt, bench, level, &[0, 1, 0, 0, 0, 1], &[0, 1, 0, 0, 0, 1]);
+}
+
 fn follow_coupler<L: Ledger>(rt: &impl Abort, alloc: Global, blank: Blank) -> Result<(), Fail>
     requires name { blank.name ≡ L.name }
     requires parts { blank.parts ≡ L.parts }
     requires some { 0 < blank.parts }
 {
     let mut steps: Steps<L> = Steps::begin(blank);
-    let mut bench = Bench::empty(alloc);
     let level = SharedLevel::new(alloc, duo(alloc)?)?;
     assert_eq!(rt; level.level().switch_count(), 5);
     assert_eq!(rt; level.level().node_count(), 6);
-    bench.refresh(&level, &CLOSED, &RETAINED, &mut steps)?;
+    let mut bench = closed_bench(alloc, &level, &mut steps)?;
     expect_labels(rt, &bench, level.level(), &[0; 6], &[0, 1, 0, 0, 0, 1]);
     refresh_again(&mut bench, &level, &mut steps)?;
     open_coupler(&mut bench, &level, &mut steps)?;
-    expect_labels(
-        rt,
-        &bench,
-        level.level(),
-        &[0, 1, 0, 0, 0, 1],
-        &[0, 1, 0, 0, 0, 1],
-    );
+    expect_parted(rt, &bench, level.level());
     Ok(())
 }
 
@@ -327,7 +343,6 @@ fn follow_content<L: Ledger>(rt: &impl Abort, alloc: Global, blank: Blank) -> Re
     requires some { 0 < blank.parts }
 {
     let mut steps: Steps<L> = Steps::begin(blank);
-    let mut bench = Bench::empty(alloc);
     let level = SharedLevel::new(alloc, duo(alloc)?)?;
     let mut laden = duo(alloc)?;
     place(alloc, &mut laden, "LE", 2, load())?;
@@ -338,15 +353,9 @@ fn follow_content<L: Ledger>(rt: &impl Abort, alloc: Global, blank: Blank) -> Re
     assert_eq!(rt; level.level().switch_count(), 5);
     assert_eq!(rt; laden.level().switch_count(), 5);
     assert_eq!(rt; bridged.level().switch_count(), 6);
-    bench.refresh(&level, &CLOSED, &RETAINED, &mut steps)?;
+    let mut bench = closed_bench(alloc, &level, &mut steps)?;
     bench.refresh(&laden, &PARTED, &RETAINED, &mut steps)?;
-    expect_labels(
-        rt,
-        &bench,
-        laden.level(),
-        &[0, 1, 0, 0, 0, 1],
-        &[0, 1, 0, 0, 0, 1],
-    );
+    expect_parted(rt, &bench, laden.level());
     bench.refresh(&bridged, &BRIDGED, &[false; 6], &mut steps)?;
     expect_labels(rt, &bench, bridged.level(), &[0; 6], &[0; 6]);
     Ok(())
