@@ -1,17 +1,18 @@
 -- What the code's answer is.
-use Rattle.std.proofs.Common.{◌≡◌, refl, sym, ◌∙◌, subst, ℕ, Bool, true, false, not, List, [], ◌∷◌, length, arith}
-use Rattle.std.specs.Prelude.{filter, IsTrue}
+use Rattle.std.proofs.Common.{◌≡◌, refl, sym, ◌∙◌, subst, ℕ, Bool, true, false, not, List, [], ◌∷◌, length}
+use Rattle.std.specs.Prelude.{filter, IsTrue, Option, Some, None}
 use Rattle.std.specs.List.{slice_index_or}
 use Rattle.grid_graph.proofs.Reach.{In}
 use Rattle.grid_level.specs.VoltageLevel.{VoltageLevel}
-use Rattle.grid_level.specs.Passing.{nodes, positioned}
+use Rattle.grid_level.specs.Passing.{nodes, positioned, is_connected}
 use Rattle.grid_level.specs.Kept.{among}
 use Rattle.grid_groups.specs.Labels.{index_in}
 use Rattle.grid_groups.proofs.Indices.{among_In}
 use Rattle.grid_groups.proofs.Standing.{nodes-positioned}
 use Rattle.grid_paths.specs.declared.PathEdge.{PathEdge}
+use Rattle.grid_paths.specs.Paths.{least_path}
 use Rattle.grid_paths.specs.Routes.{is_route, IsLeastRoute}
-use Rattle.grid_connect.specs.Plans.{is_open, connect_plan_of}
+use Rattle.grid_connect.specs.Plans.{is_open, closable_paths, plan_along, connect_plan_of}
 use Rattle.grid_connect.specs.declared.ConnectPlan.TheVariants.{Close, AlreadyConnected, NoPath}
 use Rattle.grid_connect.specs.Indexed.{path_edges_of, AreBusbars}
 use Rattle.grid_connect.specs.Effects.{Connects}
@@ -44,12 +45,18 @@ module _ (level : VoltageLevel) (flags : List Bool) (node : ℕ) (edges : List P
       let Q : List ℕ → Type 0 = λ z. (path : List ℕ) → IsTrue (not (is_route (path_edges_of now) goals (index_in z node) path)) in
       plan_none now goals node (node_positioned level flags node here) (bars_positioned level flags goals bars) (subst Q (sym (nodes-positioned level flags)) (subst P made none))
 
-pub plan_zero : (opens : List ℕ) → length opens ≡ 0 → plan_with opens ≡ AlreadyConnected
-unfolding plan_with
-plan_zero [] e = refl
-plan_zero (p ∷ ps) e = absurd (omega (arith, e))
+pub plan_connected : (level : VoltageLevel) (a : ℕ) → is_connected level a ≡ true → connect_plan_of level a ≡ AlreadyConnected
+unfolding connect_plan_of
+plan_connected level a h = rw h refl
 
-pub plan_more : (opens : List ℕ) → (length opens ≡ 0 → ⊥) → plan_with opens ≡ Close opens
-unfolding plan_with
-plan_more [] ne = absurd (ne refl)
-plan_more (p ∷ ps) ne = refl
+-- no plan along a path says that the node is connected
+along_differs : (costs : ℕ → Bool) (path : Option (List ℕ)) → plan_along costs path ≡ AlreadyConnected → ⊥
+unfolding plan_along
+along_differs costs (Some path) e = cc
+along_differs costs None e = cc
+
+-- where the node is not connected, the plan closes something
+pub plan_closes : (level : VoltageLevel) (a : ℕ) (opens : List ℕ) → is_connected level a ≡ false → connect_plan_of level a ≡ plan_with opens → plan_with opens ≡ Close opens
+unfolding connect_plan_of plan_with
+plan_closes level a [] h e = absurd (along_differs (is_open level) (least_path (is_open level) (closable_paths level a)) (rw h at e))
+plan_closes level a (p ∷ ps) h e = refl

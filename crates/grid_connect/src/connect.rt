@@ -9,10 +9,11 @@ ghost use Rattle.grid_connect.specs.Effects.{Connects};
 ghost use Rattle.grid_connect.specs.Indexed.{way_through, switch_path_edge, internal_path_edge, switch_path_edges, path_edges_of, AreBusbars};
 
 use crate::ConnectPlan;
+use crate::joined::{is_busbar, is_connected};
 use grid_groups::{NodeIndices, index_of};
 use grid_ids::Memory;
 use grid_kinds::SwitchKind;
-use grid_level::{Internal, Level, Stand, Switch};
+use grid_level::{Internal, Level, Switch};
 use grid_paths::{PathEdge, Places, Way, least_path};
 use std::alloc::Global;
 
@@ -75,7 +76,8 @@ fn switch_edges(
     states: &[bool],
 ) -> Result<Vec<PathEdge>, Memory>
     requires { length states.now ≡ length indices.now.switches }
-    ensures { IfOk result (λ edges. edges.items ≡ switch_path_edges (nodes indices.now) indices.now.switches states.now) }
+    ensures { IfOk result (λ edges. edges.items
+        ≡ switch_path_edges (nodes indices.now) indices.now.switches states.now) }
 {
     let level = indices.level();
     level.keeps();
@@ -87,36 +89,30 @@ fn switch_edges(
 }
 
 // The edges of the level as it stands: its switches, then its internal connections.
-fn path_edges(alloc: Global, level: &Level, states: &[bool]) -> Result<Vec<PathEdge>, Memory>
-    requires { length states.now ≡ length level.now.switches }
-    ensures { IfOk result (λ edges. edges.items ≡ path_edges_of (positioned level.now states.now)) }
+fn path_edges(
+    alloc: Global,
+    indices: &NodeIndices,
+    states: &[bool],
+) -> Result<Vec<PathEdge>, Memory>
+    requires { length states.now ≡ length indices.now.switches }
+    ensures { IfOk result (λ edges. edges.items
+        ≡ path_edges_of (positioned indices.now states.now)) }
 {
+    let level = indices.level();
     level.keeps();
-    let indices = NodeIndices::of(alloc, level)?;
-    let mut edges = switch_edges(alloc, &indices, states)?;
+    let mut edges = switch_edges(alloc, indices, states)?;
     for internal in level.internals() {
-        edges.push(internal_edge(&indices, internal))?;
+        edges.push(internal_edge(indices, internal))?;
     }
     Ok(edges)
-}
-
-/// Whether this is a busbar section.
-#[tactic(auto, unfolding(grid_level::specs::Passing::is_busbar))]
-pub(crate) fn is_busbar(stand: &Stand) -> bool
-    ensures { result ≡ passing.is_busbar stand.now }
-{
-    match stand {
-        Stand::Busbar => true,
-        Stand::Feeder(_) => false,
-        Stand::BranchEnd => false,
-    }
 }
 
 // Marks an index, if a busbar section stands there.
 fn mark_if(marks: &mut Vec<bool>, index: u32, busbar: bool)
     requires { index < length marks.old.items }
     ensures long { length marks.new.items ≡ length marks.old.items }
-    ensures marks { (k : ℕ) → is_goal marks.new.items k ≡ (is_goal marks.old.items k || ((index == k) && busbar)) }
+    ensures marks { (k : ℕ) → is_goal marks.new.items k
+        ≡ (is_goal marks.old.items k || ((index == k) && busbar)) }
 {
     if busbar {
         marks[index as usize] = true;
@@ -153,7 +149,8 @@ fn is_open(states: &[bool], place: u32) -> bool
 
 // The open switches of a path, in its order.
 fn open_places(alloc: Global, states: &[bool], path: &[u32]) -> Result<Places, Memory>
-    ensures { IfOk result (λ opens. opens ≡ filter (λ p. slice_index_or states.now p false) path.now) }
+    ensures { IfOk result (λ opens. opens
+        ≡ filter (λ p. slice_index_or states.now p false) path.now) }
 {
     let mut opens = Places::empty(alloc);
     for place in path {
@@ -176,11 +173,16 @@ pub fn plan_connect(
 ) -> Result<ConnectPlan, Memory>
     requires flags { length states.now ≡ length level.now.switches }
     requires node { IsTrue (among (nodes level.now) node) }
-    ensures plan { IfOk result (λ plan. plan ≡ connect_plan_of (positioned level.now states.now) node) }
+    ensures plan { IfOk result (λ plan. plan
+        ≡ connect_plan_of (positioned level.now states.now) node) }
     ensures connects { IfOk result (λ plan. Connects (positioned level.now states.now) node plan) }
 {
     level.keeps();
-    let edges = path_edges(alloc, level, states)?;
+    let indices = NodeIndices::of(alloc, level)?;
+    if is_connected(alloc, &indices, states, node)? {
+        return Ok(ConnectPlan::AlreadyConnected);
+    }
+    let edges = path_edges(alloc, &indices, states)?;
     let goals = busbars(alloc, level)?;
     match least_path(
         alloc,
@@ -191,11 +193,7 @@ pub fn plan_connect(
     )? {
         Some(path) => {
             let opens = open_places(alloc, states, path.slice())?;
-            if opens.len() == 0 {
-                Ok(ConnectPlan::AlreadyConnected)
-            } else {
-                Ok(ConnectPlan::Close(opens))
-            }
+            Ok(ConnectPlan::Close(opens))
         }
         None => Ok(ConnectPlan::NoPath),
     }

@@ -1,27 +1,19 @@
 // The plan that disconnects a node.
-ghost use Rattle.std.specs.Prelude.{◌≡◌, ◌&&◌, ◌==◌, length, map, not, IfOk, IsTrue};
-ghost use Rattle.std.specs.Option.{option_copied};
+ghost use Rattle.std.specs.Prelude.{◌≡◌, length, IfOk, IsTrue};
 ghost use Rattle.grid_level.specs.Kept.{among};
-ghost use Rattle.grid_level.specs.Passing as passing;
 ghost use Rattle.grid_level.specs.Passing.{nodes, positioned};
 ghost use Rattle.grid_connect.specs.Plans.{disconnect_plan_of};
 ghost use Rattle.grid_connect.specs.Effects.{Disconnects};
-ghost use Rattle.grid_connect.specs.Indexed.{marks_where, core_flags, is_marked, marked_busbar, leaves_marked, leaving_marked};
+ghost use Rattle.grid_connect.specs.Indexed.{core_flags, leaves_marked, leaving_marked};
 
 use crate::DisconnectPlan;
-use crate::connect::{is_busbar, is_operable};
-use grid_groups::{NodeIndices, index_of, labels};
+use crate::connect::is_operable;
+use crate::joined::{first_busbar, has_mark, is_connected, joined_to};
+use grid_groups::NodeIndices;
 use grid_ids::{Duplicate, Memory};
-use grid_level::{Level, Placed, Switch};
+use grid_level::{Level, Switch};
 use grid_paths::Places;
 use std::alloc::Global;
-
-// Which switches pass: the closed ones.
-fn closed(alloc: Global, opened: &[bool]) -> Result<Vec<bool>, Memory>
-    ensures { IfOk result (λ closed. closed.items ≡ map not opened.now) }
-{
-    Ok(opened.iter().map(|opened| !*opened).collect(alloc)?)
-}
 
 // Which switches pass in the core: the closed ones that are not operable breakers.
 fn closed_core(alloc: Global, level: &Level, states: &[bool]) -> Result<Vec<bool>, Memory>
@@ -35,59 +27,6 @@ fn closed_core(alloc: Global, level: &Level, states: &[bool]) -> Result<Vec<bool
             .map(|(switch, opened)| !*opened && !is_operable(switch))
             .collect(alloc)?,
     )
-}
-
-// Which labels equal this one.
-fn equal_to(alloc: Global, labels: &[u32], own: u32) -> Result<Vec<bool>, Memory>
-    ensures { IfOk result (λ marks. marks.items ≡ map (λ label. label == own) labels.now) }
-{
-    Ok(labels.iter().map(|label| *label == own).collect(alloc)?)
-}
-
-// Which nodes are joined to this one, where the switches whose flag is set pass.
-fn joined_to(alloc: Global, level: &Level, passes: &[bool], node: u16) -> Result<Vec<bool>, Memory>
-    requires flags { length passes.now ≡ length level.now.switches }
-    requires node { IsTrue (among (nodes level.now) node) }
-    ensures marks { IfOk result (λ marks. marks.items ≡ marks_where level.now passes.now node) }
-    ensures long { IfOk result (λ marks. length marks.items ≡ length (nodes level.now)) }
-{
-    level.keeps();
-    let labels = labels(alloc, level, passes)?;
-    let own = labels[index_of(level, node) as usize];
-    equal_to(alloc, labels.as_slice(), own)
-}
-
-// Whether the node is marked.
-fn has_mark(indices: &NodeIndices, marks: &[bool], node: u16) -> bool
-    requires node { IsTrue (among (nodes indices.now) node) }
-    requires long { length marks.now ≡ length (nodes indices.now) }
-    ensures { result ≡ is_marked (nodes indices.now) marks.now node }
-{
-    marks[indices.of_node(node) as usize]
-}
-
-// Whether a busbar section stands at a marked node.
-fn is_marked_busbar(indices: &NodeIndices, marks: &[bool], placed: &Placed) -> bool
-    requires node { IsTrue (among (nodes indices.now) placed.now.node) }
-    requires long { length marks.now ≡ length (nodes indices.now) }
-    ensures { result ≡ (is_marked (nodes indices.now) marks.now placed.now.node && passing.is_busbar placed.now.stand) }
-{
-    has_mark(indices, marks, placed.node) && is_busbar(&placed.stand)
-}
-
-// The first busbar section at a marked node.
-fn first_busbar<'a>(indices: &NodeIndices<'a>, marks: &[bool]) -> Option<&'a Placed>
-    requires { length marks.now ≡ length (nodes indices.now) }
-    ensures { option_copied result ≡ marked_busbar (nodes indices.now) marks.now indices.now.placed }
-{
-    let level = indices.level();
-    level.keeps();
-    for placed in level.placed() {
-        if is_marked_busbar(indices, marks, placed) {
-            return Some(placed);
-        }
-    }
-    None
 }
 
 // Whether the switch is a closed operable breaker with exactly one marked end.
@@ -112,7 +51,8 @@ fn leaving(
 ) -> Result<Places, Memory>
     requires flags { length states.now ≡ length indices.now.switches }
     requires long { length marks.now ≡ length (nodes indices.now) }
-    ensures { IfOk result (λ places. places ≡ leaving_marked (nodes indices.now) marks.now 0 indices.now.switches states.now) }
+    ensures { IfOk result (λ places. places
+        ≡ leaving_marked (nodes indices.now) marks.now 0 indices.now.switches states.now) }
 {
     let level = indices.level();
     level.keeps();
@@ -137,14 +77,13 @@ pub fn plan_disconnect(
 ) -> Result<DisconnectPlan, Memory>
     requires flags { length states.now ≡ length level.now.switches }
     requires node { IsTrue (among (nodes level.now) node) }
-    ensures plan { IfOk result (λ plan. plan ≡ disconnect_plan_of (positioned level.now states.now) node) }
+    ensures plan { IfOk result (λ plan. plan
+        ≡ disconnect_plan_of (positioned level.now states.now) node) }
     ensures disconnects { IfOk result (Disconnects (positioned level.now states.now) node) }
 {
     level.keeps();
     let indices = NodeIndices::of(alloc, level)?;
-    let closed = closed(alloc, states)?;
-    let joined = joined_to(alloc, level, closed.as_slice(), node)?;
-    if first_busbar(&indices, joined.as_slice()).is_none() {
+    if !is_connected(alloc, &indices, states, node)? {
         return Ok(DisconnectPlan::AlreadyDisconnected);
     }
     let closed = closed_core(alloc, level, states)?;

@@ -5,6 +5,7 @@ ghost use Rattle.grid_connect.specs.Laws.{ConnectPlanIsLeast};
 
 mod connect;
 mod disconnect;
+mod joined;
 mod parts;
 
 pub use connect::plan_connect;

@@ -1,21 +1,22 @@
 use Rattle.std.proofs.Common.{◌≡◌, ℕ, List, Bool, false, arith, sym, ◌∙◌, ap, subst}
 use Rattle.std.specs.Prelude.{filter, IsTrue, not}
 use Rattle.std.specs.List.{slice_index_or}
-use Rattle.grid_level.specs.Passing.{nodes, positioned}
+use Rattle.grid_level.specs.Passing.{nodes, positioned, is_connected}
 use Rattle.grid_groups.proofs.Indices.{among_In, index_below}
 use Rattle.grid_paths.specs.Routes.{EndsBelow, IsLeastRoute, is_route}
 use Rattle.grid_connect.specs.Plans.{connect_plan_of}
 use Rattle.grid_connect.specs.Indexed.{path_edges_of, AreBusbars}
 use Rattle.grid_connect.specs.Effects.{Connects}
 use Rattle.grid_connect.specs.declared.ConnectPlan.{ConnectPlan}
+use Rattle.grid_connect.specs.declared.ConnectPlan.TheVariants.{Close}
 use Rattle.grid_connect.proofs.Planning.{plan_with}
-use Rattle.grid_connect.proofs.Planned.{planned, planned_none, plan_zero, plan_more}
+use Rattle.grid_connect.proofs.Planned.{planned, planned_none, plan_connected, plan_closes}
 use Rattle.grid_connect.proofs.Lists.{ends_below, few_edges}
 use Rattle.grid_connect.proofs.connect.plan_connect.Goals as goal
-use Rattle.grid_connect.proofs.connect.plan_connect.Goals.{After-len, After-as_slice-2}
+use Rattle.grid_connect.proofs.connect.plan_connect.Goals.{After-drop-indices-inside-in-Some, After-as_slice-2, In_ok-is_connected}
 
 made : (c : After-as_slice-2) → c.as_slice.result.now ≡ path_edges_of (positioned c.args.level.now c.args.states.now)
-made c = c.as_slice.ensures.value ∙ c.in_ok-edges.ensures
+made c = c.as_slice.ensures.value ∙ c.in_ok-edges.ensures ∙ ap (λ l. path_edges_of (positioned l c.args.states.now)) c.in_ok-indices.ensures
 
 bars : (c : After-as_slice-2) → AreBusbars c.args.level.now c.as_slice-2.result.now
 bars c = let P : List Bool → Type 0 = λ z. AreBusbars c.args.level.now z in subst P (sym c.as_slice-2.ensures.value) c.in_ok-goals.ensures.busbars
@@ -35,7 +36,11 @@ least_path-requires-clause-from c =
     let low = index_below c.args.node (nodes c.args.level.now) (among_In c.args.node (nodes c.args.level.now) c.requires.node) in
     omega (arith, low, c.index_of.ensures, c.node_count.ensures)
 
-both : (c : After-len) → (connect_plan_of (positioned c.args.level.now c.args.states.now) c.args.node ≡ plan_with c.in_ok-opens-in-Some.opens)
+-- whether the node is connected, of the level in its place
+answer : (c : In_ok-is_connected) → c.in_ok-is_connected.field-0 ≡ is_connected (positioned c.args.level.now c.args.states.now) c.args.node
+answer c = c.in_ok-is_connected.ensures ∙ ap (λ l. is_connected (positioned l c.args.states.now) c.args.node) c.in_ok-indices.ensures
+
+both : (c : After-drop-indices-inside-in-Some) → (connect_plan_of (positioned c.args.level.now c.args.states.now) c.args.node ≡ plan_with c.in_ok-opens-in-Some.opens)
     × Connects (positioned c.args.level.now c.args.states.now) c.args.node (plan_with c.in_ok-opens-in-Some.opens)
 both c =
     let least : IsLeastRoute c.as_slice.result.now c.as_slice-2.result.now c.index_of.result c.in-Some.path = rw c.in-Some.is at c.in_ok-path.ensures.least in
@@ -43,19 +48,27 @@ both c =
     let opens : c.in_ok-opens-in-Some.opens ≡ filter (λ p. slice_index_or c.args.states.now p false) c.in-Some.path =
     c.in_ok-opens-in-Some.ensures ∙ ap (filter (λ p. slice_index_or c.args.states.now p false)) c.slice.ensures in
     planned c.args.level.now c.args.states.now c.args.node c.as_slice.result.now c.as_slice-2.result.now
-    (made (goal.at.After-len c).After-as_slice-2) (bars (goal.at.After-len c).After-as_slice-2) c.requires.node c.in-Some.path c.in_ok-opens-in-Some.opens (subst P c.index_of.ensures least) c.requires.flags opens
+    (made (goal.at.After-drop-indices-inside-in-Some c).After-as_slice-2) (bars (goal.at.After-drop-indices-inside-in-Some c).After-as_slice-2) c.requires.node c.in-Some.path c.in_ok-opens-in-Some.opens (subst P c.index_of.ensures least) c.requires.flags opens
 
-pub returns-then-len-eq0-clause-plan : goal.returns-then-len-eq0-clause-plan
-returns-then-len-eq0-clause-plan c = let b = both (goal.at.returns-then-len-eq0-clause-plan c).After-len in sym (b.0 ∙ plan_zero c.in_ok-opens-in-Some.opens (sym c.len.ensures ∙ c.if-len-eq0.true))
+closes : (c : After-drop-indices-inside-in-Some) → plan_with c.in_ok-opens-in-Some.opens ≡ Close c.in_ok-opens-in-Some.opens
+closes c =
+    plan_closes (positioned c.args.level.now c.args.states.now) c.args.node c.in_ok-opens-in-Some.opens
+    (sym (answer (goal.at.After-drop-indices-inside-in-Some c).In_ok-is_connected) ∙ c.if-branch.false) (both c).0
+
+pub returns-then-branch-clause-plan : goal.returns-then-branch-clause-plan
+returns-then-branch-clause-plan c =
+    sym (plan_connected (positioned c.args.level.now c.args.states.now) c.args.node (sym (answer (goal.at.returns-then-branch-clause-plan c).In_ok-is_connected) ∙ c.if-branch.true))
 
 pub returns-in-Some-clause-plan : goal.returns-in-Some-clause-plan
-returns-in-Some-clause-plan c = let b = both (goal.at.returns-in-Some-clause-plan c).After-len in sym (b.0 ∙ plan_more c.in_ok-opens-in-Some.opens (λ e. c.if-len-eq0.false (c.len.ensures ∙ e)))
+returns-in-Some-clause-plan c =
+    let at = (goal.at.returns-in-Some-clause-plan c).After-drop-indices-inside-in-Some in
+    sym ((both at).0 ∙ closes at)
 
 pub returns-in-Some-clause-connects : goal.returns-in-Some-clause-connects
 returns-in-Some-clause-connects c =
-    let b = both (goal.at.returns-in-Some-clause-connects c).After-len in
+    let at = (goal.at.returns-in-Some-clause-connects c).After-drop-indices-inside-in-Some in
     let P : ConnectPlan → Type 0 = λ z. Connects (positioned c.args.level.now c.args.states.now) c.args.node z in
-    subst P (plan_more c.in_ok-opens-in-Some.opens (λ e. c.if-len-eq0.false (c.len.ensures ∙ e))) b.1
+    subst P (closes at) (both at).1
 
 pub returns-clause-plan : goal.returns-clause-plan
 returns-clause-plan c =

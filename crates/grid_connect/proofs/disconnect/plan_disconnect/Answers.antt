@@ -1,9 +1,5 @@
-use Rattle.std.proofs.Common.{◌≡◌, refl, sym, ap, ◌∙◌, subst, length, Some, None, true, false, Bor}
-use Rattle.std.specs.Prelude.{Option, not, is_some}
+use Rattle.std.proofs.Common.{◌≡◌, sym, ap, ◌∙◌, subst, length}
 use Rattle.std.specs.Option.{option_copied}
-use Rattle.std.proofs.lemmas.Bool.{true≢false, false≢true}
-use Rattle.grid_graph.proofs.Reach.{In}
-use Rattle.grid_level.specs.declared.Placed.{Placed}
 use Rattle.grid_level.specs.VoltageLevel.{VoltageLevel}
 use Rattle.grid_level.specs.Passing.{nodes, positioned, is_connected}
 use Rattle.grid_groups.proofs.Indices.{among_In}
@@ -14,83 +10,61 @@ use Rattle.grid_connect.specs.declared.DisconnectPlan.{DisconnectPlan}
 use Rattle.grid_connect.specs.declared.DisconnectPlan.TheVariants.{Opens, NoBreaker}
 use Rattle.grid_connect.proofs.Planned.{node_positioned}
 use Rattle.grid_connect.proofs.Marks.{core_long}
-use Rattle.grid_connect.proofs.Leaving.{leaving_same, bar_same, connected_some, connected_none, disconnect_yes, disconnect_no, breaks, opens, core_marks, bus_marks}
+use Rattle.grid_connect.proofs.Leaving.{leaving_same, bar_same, disconnect_yes, disconnect_no, breaks, opens, core_marks}
 use Rattle.grid_connect.proofs.Parting.{disconnect_plan-Disconnects}
 use Rattle.grid_connect.proofs.disconnect.plan_disconnect.Goals as goal
-use Rattle.grid_connect.proofs.disconnect.plan_disconnect.Goals.{After-is_none, After-first_busbar-2, In_ok-leaving-in-None}
+use Rattle.grid_connect.proofs.disconnect.plan_disconnect.Goals.{After-first_busbar, In_ok-is_connected, In_ok-leaving-in-None}
 
-lent_none : (o : Option (Bor Placed)) → is_some o ≡ false → option_copied o ≡ None
-lent_none None e = refl
-lent_none (Some lent) e = absurd (true≢false e)
+pub joined_to-requires-clause-flags : goal.joined_to-requires-clause-flags
+joined_to-requires-clause-flags c = ap (λ z. length z) (c.as_slice.ensures.value ∙ c.in_ok-closed.ensures) ∙ core_long c.args.level.now.switches c.args.states.now c.requires.flags
 
-lent_some : (o : Option (Bor Placed)) → is_some o ≡ true → (x : Placed) × (option_copied o ≡ Some x)
-lent_some None e = absurd (false≢true e)
-lent_some (Some lent) e = (lent.now, refl)
+-- whether the node is connected, of the level in its place
+answer : (c : In_ok-is_connected) → c.in_ok-is_connected.field-0 ≡ is_connected (positioned c.args.level.now c.args.states.now) c.args.node
+answer c = c.in_ok-is_connected.ensures ∙ ap (λ l. is_connected (positioned l c.args.states.now) c.args.node) c.in_ok-indices.ensures
 
-pub joined_to-requires-2-clause-flags : goal.joined_to-requires-2-clause-flags
-joined_to-requires-2-clause-flags c = ap (λ z. length z) (c.as_slice-3.ensures.value ∙ c.in_ok-closed-2.ensures) ∙ core_long c.args.level.now.switches c.args.states.now c.requires.flags
+core_cells : (c : After-first_busbar) → c.as_slice-2.result.now ≡ core_marks c.args.level.now c.args.states.now c.args.node
+core_cells c = c.as_slice-2.ensures.value ∙ c.in_ok-core.ensures.marks ∙ ap (λ z. marks_where c.args.level.now z c.args.node) (c.as_slice.ensures.value ∙ c.in_ok-closed.ensures)
 
-bus_bar : (c : After-is_none) → option_copied c.first_busbar.result ≡ marked_busbar (nodes c.args.level.now) (bus_marks c.args.level.now c.args.states.now c.args.node) c.args.level.now.placed
-bus_bar c =
+core_bar : (c : After-first_busbar) → option_copied c.first_busbar.result ≡ core_busbar (positioned c.args.level.now c.args.states.now) (core_of (positioned c.args.level.now c.args.states.now) c.args.node)
+core_bar c =
     let level = c.args.level.now in
     c.first_busbar.ensures
     ∙ ap (λ (l : VoltageLevel). marked_busbar (nodes l) c.as_slice-2.result.now l.placed) c.in_ok-indices.ensures
-    ∙ ap (λ z. marked_busbar (nodes level) z level.placed)
-    (c.as_slice-2.ensures.value ∙ c.in_ok-joined.ensures.marks ∙ ap (λ z. marks_where level z c.args.node) (c.as_slice.ensures.value ∙ c.in_ok-closed.ensures))
-
-here : (c : After-is_none) → In c.args.node (nodes c.args.level.now)
-here c = among_In c.args.node (nodes c.args.level.now) c.requires.node
-
-connected : (c : After-is_none) → c.is_none.result ≡ false → is_connected (positioned c.args.level.now c.args.states.now) c.args.node ≡ true
-connected c e =
-    let r = lent_some c.first_busbar.result (c.is_none.ensures ∙ ap not e) in
-    connected_some c.args.level.now c.args.states.now c.args.node c.keeps.ensures c.requires.flags (here c) r.0 (sym (bus_bar c) ∙ r.1)
-
-core_cells : (c : After-first_busbar-2) → c.as_slice-4.result.now ≡ core_marks c.args.level.now c.args.states.now c.args.node
-core_cells c = c.as_slice-4.ensures.value ∙ c.in_ok-core.ensures.marks ∙ ap (λ z. marks_where c.args.level.now z c.args.node) (c.as_slice-3.ensures.value ∙ c.in_ok-closed-2.ensures)
-
-core_bar : (c : After-first_busbar-2) → option_copied c.first_busbar-2.result ≡ core_busbar (positioned c.args.level.now c.args.states.now) (core_of (positioned c.args.level.now c.args.states.now) c.args.node)
-core_bar c =
-    let level = c.args.level.now in
-    c.first_busbar-2.ensures
-    ∙ ap (λ (l : VoltageLevel). marked_busbar (nodes l) c.as_slice-4.result.now l.placed) c.in_ok-indices.ensures
     ∙ ap (λ z. marked_busbar (nodes level) z level.placed) (core_cells c)
-    ∙ bar_same level c.args.states.now c.args.node c.keeps.ensures c.requires.flags (here (goal.at.After-first_busbar-2 c).After-is_none)
+    ∙ bar_same level c.args.states.now c.args.node c.keeps.ensures c.requires.flags (among_In c.args.node (nodes level) c.requires.node)
 
 -- the plan, once the node is known to be connected
-planned : (c : After-first_busbar-2) → c.is_none.result ≡ false → (plan : DisconnectPlan)
+planned : (c : After-first_busbar) → (plan : DisconnectPlan)
     → (let now = positioned c.args.level.now c.args.states.now in opens_or (leaving now (core_of now c.args.node)) (core_busbar now (core_of now c.args.node)) ≡ plan)
     → plan ≡ disconnect_plan_of (positioned c.args.level.now c.args.states.now) c.args.node
-planned c e plan h = sym (disconnect_yes (positioned c.args.level.now c.args.states.now) c.args.node (connected (goal.at.After-first_busbar-2 c).After-is_none e) ∙ h)
+planned c plan h =
+    sym (disconnect_yes (positioned c.args.level.now c.args.states.now) c.args.node (sym (answer (goal.at.After-first_busbar c).In_ok-is_connected) ∙ c.if-not-branch.false) ∙ h)
 
-pub returns-then-is_none-clause-plan : goal.returns-then-is_none-clause-plan
-returns-then-is_none-clause-plan c =
-    let b = bus_bar (goal.at.returns-then-is_none-clause-plan c).After-is_none in
-    let none = lent_none c.first_busbar.result (c.is_none.ensures ∙ ap not c.if-is_none.true) in
-    sym (disconnect_no (positioned c.args.level.now c.args.states.now) c.args.node
-    (connected_none c.args.level.now c.args.states.now c.args.node c.keeps.ensures c.requires.flags (here (goal.at.returns-then-is_none-clause-plan c).After-is_none) (sym b ∙ none)))
+pub returns-then-not-branch-clause-plan : goal.returns-then-not-branch-clause-plan
+returns-then-not-branch-clause-plan c =
+    sym (disconnect_no (positioned c.args.level.now c.args.states.now) c.args.node (sym (answer (goal.at.returns-then-not-branch-clause-plan c).In_ok-is_connected) ∙ c.if-not-branch.true))
 
 pub returns-in-Some-clause-plan : goal.returns-in-Some-clause-plan
 returns-in-Some-clause-plan c =
     let now = positioned c.args.level.now c.args.states.now in
-    let at = (goal.at.returns-in-Some-clause-plan c).After-first_busbar-2 in
+    let at = (goal.at.returns-in-Some-clause-plan c).After-first_busbar in
     ap NoBreaker c.in_ok-copy-in-Some.ensures
-    ∙ planned at c.if-is_none.false (NoBreaker c.in-Some.placed.now.terminal)
+    ∙ planned at (NoBreaker c.in-Some.placed.now.terminal)
     (breaks (leaving now (core_of now c.args.node)) (core_busbar now (core_of now c.args.node)) c.in-Some.placed.now (sym (core_bar at) ∙ ap option_copied c.in-Some.is))
 
 opened : (c : In_ok-leaving-in-None) → Opens c.in_ok-leaving-in-None.field-0 ≡ disconnect_plan_of (positioned c.args.level.now c.args.states.now) c.args.node
 opened c =
     let level = c.args.level.now in
     let now = positioned level c.args.states.now in
-    let at = (goal.at.In_ok-leaving-in-None c).After-first_busbar-2 in
+    let at = (goal.at.In_ok-leaving-in-None c).After-first_busbar in
     let places : c.in_ok-leaving-in-None.field-0 ≡ leaving now (core_of now c.args.node) =
     c.in_ok-leaving-in-None.ensures
     ∙ ap (λ (l : VoltageLevel). leaving_marked (nodes l) c.as_slice-in-None.result.now 0 l.switches c.args.states.now) c.in_ok-indices.ensures
     ∙ ap (λ z. leaving_marked (nodes level) z 0 level.switches c.args.states.now)
-    (c.as_slice-in-None.ensures.value ∙ c.in_ok-core.ensures.marks ∙ ap (λ z. marks_where level z c.args.node) (c.as_slice-3.ensures.value ∙ c.in_ok-closed-2.ensures))
+    (c.as_slice-in-None.ensures.value ∙ c.in_ok-core.ensures.marks ∙ ap (λ z. marks_where level z c.args.node) (c.as_slice.ensures.value ∙ c.in_ok-closed.ensures))
     ∙ leaving_same level c.args.states.now c.args.node c.keeps.ensures c.requires.flags (among_In c.args.node (nodes level) c.requires.node) in
     ap Opens places
-    ∙ planned at c.if-is_none.false (Opens (leaving now (core_of now c.args.node)))
+    ∙ planned at (Opens (leaving now (core_of now c.args.node)))
     (opens (leaving now (core_of now c.args.node)) (core_busbar now (core_of now c.args.node)) (sym (core_bar at) ∙ ap option_copied c.in-None.is))
 
 pub returns-clause-plan : goal.returns-clause-plan

@@ -3,7 +3,7 @@ use Rattle.grid_level.specs.VoltageLevel.{VoltageLevel}
 use Rattle.grid_level.specs.Passing.{nodes}
 use Rattle.grid_connect.specs.Indexed.{marked_busbar}
 use Rattle.grid_connect.proofs.Leaving.{bar_start, bar_found, bar_on}
-use Rattle.grid_connect.proofs.disconnect.first_busbar.Goals as goal
+use Rattle.grid_connect.proofs.joined.first_busbar.Goals as goal
 
 pub loop-placed-init : goal.loop-placed-init
 loop-placed-init c = bar_start (nodes c.args.indices.now) c.args.marks.now c.placed-placed-items.result.now

@@ -1,7 +1,7 @@
 use Rattle.std.proofs.Common.{arith}
 use Rattle.grid_level.specs.Passing.{nodes}
 use Rattle.grid_groups.proofs.Indices.{among_In, index_below}
-use Rattle.grid_connect.proofs.disconnect.has_mark.Goals as goal
+use Rattle.grid_connect.proofs.joined.has_mark.Goals as goal
 
 pub bounds-marks-of_node : goal.bounds-marks-of_node
 bounds-marks-of_node c =

@@ -7,8 +7,8 @@ use Rattle.grid_paths.proofs.Rows.{IfOk_then}
 use Rattle.grid_paths.proofs.Searching.{found_here}
 use Rattle.grid_connect.specs.Indexed.{marks_where}
 use Rattle.grid_connect.proofs.Marks.{labels_full, marks_long}
-use Rattle.grid_connect.proofs.disconnect.joined_to.Goals as goal
-use Rattle.grid_connect.proofs.disconnect.joined_to.Goals.{After-equal_to, In_ok-labels}
+use Rattle.grid_connect.proofs.joined.joined_to.Goals as goal
+use Rattle.grid_connect.proofs.joined.joined_to.Goals.{After-equal_to, In_ok-labels}
 
 within : (c : In_ok-labels) → index_in (nodes c.args.level.now) c.args.node < length c.in_ok-labels.labels.items
 within c =
