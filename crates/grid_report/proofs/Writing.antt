@@ -31,6 +31,18 @@ handed_over (Some x) (Some y) (Some z) old waits text p q = append-nil z ∙ q �
 joined : (x y old waits text rest bytes : List ℕ) → bytes ≡ text ++ rest → y ++ waits ≡ (x ++ old) ++ text → (x ++ old) ++ bytes ≡ y ++ (waits ++ rest)
 joined x y old waits text rest bytes e p = ap (λ l. (x ++ old) ++ l) e ∙ sym (append_assoc (x ++ old) text rest) ∙ ap (λ l. l ++ rest) (sym p) ∙ append_assoc y waits rest
 
+-- what was written and what waits is a front
+pub begun_whole : (w v : Option (List ℕ)) (text rest bytes : List ℕ) → bytes ≡ text ++ rest → Appends w v text → IsBegun w bytes v
+begun_whole None v text rest bytes e p = tt
+begun_whole (Some x) None text rest bytes e p = absurd p
+begun_whole (Some x) (Some y) text rest bytes e p = (rest, ap (λ l. x ++ l) e ∙ sym (append_assoc x text rest) ∙ ap (λ l. l ++ rest) (sym p))
+
+-- where nothing waits, that is what was written
+pub begun_bare : (w v : Option (List ℕ)) (bytes waits : List ℕ) → waits ≡ [] → IsBegun w bytes v → IsBegun w bytes (append_known v waits)
+begun_bare None v bytes waits e p = tt
+begun_bare (Some x) None bytes waits e p = absurd p
+begun_bare (Some x) (Some y) bytes waits e p = (p.0, p.1 ∙ ap (λ l. l ++ p.0) (sym (append-nil y)) ∙ ap (λ l. (y ++ l) ++ p.0) (sym e))
+
 -- what was written is a front, where nothing of what waits was handed over
 pub begun : (w0 w : Option (List ℕ)) (old waits text rest bytes : List ℕ) → bytes ≡ text ++ rest → Appends (append_known w0 old) (append_known w waits) text → IsBegun (append_known w0 old) bytes w
 begun None w old waits text rest bytes e p = tt

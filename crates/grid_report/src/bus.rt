@@ -62,7 +62,8 @@ pub(crate) fn put_bus(
     nodes: &[u16],
     terminals: &[Terminal],
 ) -> Result<(), Memory>
-    ensures ok { OnOk result (out.new ≡ out.old ++ bus_text level.now least nodes.now terminals.now) }
+    ensures ok { OnOk result (out.new
+        ≡ out.old ++ bus_text level.now least nodes.now terminals.now) }
     ensures err { OnErr result (out.new ≡ []) }
 {
     out.put("  bus ")?;

@@ -16,7 +16,8 @@ fn put_internal(
     node1: &i64,
     node2: &i64,
 ) -> Result<(), Memory>
-    ensures ok { OnOk result (out.new ≡ out.old ++ (word.now ++ level.now ++ behind node1.now ++ behind node2.now)) }
+    ensures ok { OnOk result (out.new
+        ≡ out.old ++ (word.now ++ level.now ++ behind node1.now ++ behind node2.now)) }
     ensures err { OnErr result (out.new ≡ []) }
 {
     put_named(out, word, level)?;
@@ -52,7 +53,8 @@ fn put_edit(out: &mut Text, edit: &Edit) -> Result<(), Memory>
 
 #[tactic(auto, unfolding(crate::specs::Commands::retained_text))]
 fn put_retained(out: &mut Text, id: &Id, retained: bool) -> Result<(), Memory>
-    ensures ok { OnOk result (out.new ≡ out.old ++ (codes "retain " ++ id.now ++ retained_text retained)) }
+    ensures ok { OnOk result (out.new
+        ≡ out.old ++ (codes "retain " ++ id.now ++ retained_text retained)) }
     ensures err { OnErr result (out.new ≡ []) }
 {
     put_named(out, "retain ", id)?;
@@ -74,7 +76,9 @@ fn put_numbered(out: &mut Text, word: &str, id: &Id, number: &i64) -> Result<(),
 
 #[tactic(auto, unfolding(crate::specs::Commands::overwrite_text))]
 fn put_clone(out: &mut Text, from: &Id, to: &Id, overwrite: bool) -> Result<(), Memory>
-    ensures ok { OnOk result (out.new ≡ out.old ++ (codes "clone " ++ from.now ++ codes " " ++ to.now ++ overwrite_text overwrite)) }
+    ensures ok { OnOk result (out.new
+        ≡ out.old
+        ++ (codes "clone " ++ from.now ++ codes " " ++ to.now ++ overwrite_text overwrite)) }
     ensures err { OnErr result (out.new ≡ []) }
 {
     put_named(out, "clone ", from)?;

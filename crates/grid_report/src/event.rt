@@ -8,7 +8,9 @@ use grid_ids::{Id, Memory};
 
 #[tactic(auto, unfolding(crate::specs::Events::moved_text))]
 fn put_update(out: &mut Text, variant: &Id, switch: &Id, opened: bool) -> Result<(), Memory>
-    ensures ok { OnOk result (out.new ≡ out.old ++ (codes "updated " ++ variant.now ++ codes " " ++ switch.now ++ moved_text opened)) }
+    ensures ok { OnOk result (out.new
+        ≡ out.old
+        ++ (codes "updated " ++ variant.now ++ codes " " ++ switch.now ++ moved_text opened)) }
     ensures err { OnErr result (out.new ≡ []) }
 {
     put_named(out, "updated ", variant)?;
@@ -22,7 +24,8 @@ fn put_update(out: &mut Text, variant: &Id, switch: &Id, opened: bool) -> Result
 
 /// Puts a word and two variants.
 fn put_made(out: &mut Text, word: &str, from: &Id, to: &Id) -> Result<(), Memory>
-    ensures ok { OnOk result (out.new ≡ out.old ++ (word.now ++ from.now ++ codes " to " ++ to.now)) }
+    ensures ok { OnOk result (out.new
+        ≡ out.old ++ (word.now ++ from.now ++ codes " to " ++ to.now)) }
     ensures err { OnErr result (out.new ≡ []) }
 {
     put_named(out, word, from)?;

@@ -5,12 +5,9 @@ ghost use Rattle.grid_source.specs.Causes.{Rose};
 ghost use Rattle.grid_source.specs.Whole.{IsBegun};
 
 use grid_ids::Memory;
-use grid_source::{Sink, write_all};
+use grid_source::{PIECE, Sink, write_all};
 use std::alloc::Global;
 use std::marker::Model;
-
-/// How many bytes a piece has, the last one apart.
-pub const PIECE: usize = 4096;
 
 /// Bytes that wait for a whole piece.
 #[derive(Drop)]
@@ -56,14 +53,20 @@ impl Pieces {
         }
     }
 
-    /// Puts bytes behind those that wait, and hands each whole piece to the sink.
+    /// Puts bytes behind those that wait, and hands each whole piece to the sink. None waits where the sink stopped; after
+    /// want of memory what was written and what waits is a front of what was to be.
     pub fn put<K: Sink>(&mut self, sink: &mut K, bytes: &[u8]) -> Result<(), ReportFault>
         ensures ok { OnOk result (Appends (append_known (K.written sink.old) self.old)
             (append_known (K.written sink.new) self.new) bytes.now) }
         ensures err { OnErr result (IsBegun (append_known (K.written sink.old) self.old) bytes.now
             (K.written sink.new)) }
         ensures later { K.faults sink.old ≤ K.faults sink.new }
-        ensures cause { result ≡ Err ReportFault.Stopped → Rose (K.faults sink.old) (K.faults sink.new) }
+        ensures spent { result ≡ Err ReportFault.Stopped → self.new ≡ [] }
+        ensures waits { result ≡ Err ReportFault.Memory
+            → IsBegun (append_known (K.written sink.old) self.old) bytes.now
+            (append_known (K.written sink.new) self.new) }
+        ensures cause { result ≡ Err ReportFault.Stopped
+            → Rose (K.faults sink.old) (K.faults sink.new) }
         ensures stays { result ≢ Err ReportFault.Stopped → K.faults sink.new ≡ K.faults sink.old }
     {
         put_into(&mut self.buffer, sink, bytes)
@@ -73,7 +76,8 @@ impl Pieces {
     pub fn finish<K: Sink>(&mut self, sink: &mut K) -> Result<(), ReportFault>
         ensures cleared { self.new ≡ [] }
         ensures ok { OnOk result (Appends (K.written sink.old) (K.written sink.new) self.old) }
-        ensures err { OnErr result ((done : ℕ) × Appends (K.written sink.old) (K.written sink.new) (take done self.old)) }
+        ensures err { OnErr result ((done : ℕ)
+            × Appends (K.written sink.old) (K.written sink.new) (take done self.old)) }
         ensures later { K.faults sink.old ≤ K.faults sink.new }
         ensures cause { OnErr result (Rose (K.faults sink.old) (K.faults sink.new)) }
         ensures stays { result ≢ Err ReportFault.Stopped → K.faults sink.new ≡ K.faults sink.old }
@@ -91,7 +95,12 @@ fn put_into<K: Sink>(buffer: &mut Vec<u8>, sink: &mut K, bytes: &[u8]) -> Result
     ensures err { OnErr result (IsBegun (append_known (K.written sink.old) buffer.old.items)
         bytes.now (K.written sink.new)) }
     ensures later { K.faults sink.old ≤ K.faults sink.new }
-    ensures cause { result ≡ Err ReportFault.Stopped → Rose (K.faults sink.old) (K.faults sink.new) }
+    ensures spent { result ≡ Err ReportFault.Stopped → buffer.new.items ≡ [] }
+    ensures waits { result ≡ Err ReportFault.Memory
+        → IsBegun (append_known (K.written sink.old) buffer.old.items) bytes.now
+        (append_known (K.written sink.new) buffer.new.items) }
+    ensures cause { result ≡ Err ReportFault.Stopped
+        → Rose (K.faults sink.old) (K.faults sink.new) }
     ensures stays { result ≢ Err ReportFault.Stopped → K.faults sink.new ≡ K.faults sink.old }
 {
     let mut rest = bytes;
@@ -114,7 +123,8 @@ fn put_into<K: Sink>(buffer: &mut Vec<u8>, sink: &mut K, bytes: &[u8]) -> Result
 fn hand_over<K: Sink>(buffer: &mut Vec<u8>, sink: &mut K) -> Result<(), ReportFault>
     ensures cleared { buffer.new.items ≡ [] }
     ensures ok { OnOk result (Appends (K.written sink.old) (K.written sink.new) buffer.old.items) }
-    ensures err { OnErr result ((done : ℕ) × Appends (K.written sink.old) (K.written sink.new) (take done buffer.old.items)) }
+    ensures err { OnErr result ((done : ℕ)
+        × Appends (K.written sink.old) (K.written sink.new) (take done buffer.old.items)) }
     ensures later { K.faults sink.old ≤ K.faults sink.new }
     ensures cause { OnErr result (Rose (K.faults sink.old) (K.faults sink.new)) }
     ensures stays { result ≢ Err ReportFault.Stopped → K.faults sink.new ≡ K.faults sink.old }

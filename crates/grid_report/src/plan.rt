@@ -61,7 +61,8 @@ impl Shown for Block<'_> {
 
 /// Puts the worker of each step, behind a space.
 fn put_workers(out: &mut Text, journal: &[Entry]) -> Result<(), Memory>
-    ensures ok { OnOk result (out.new ≡ out.old ++ flat_map (λ e. codes " " ++ decimal e.worker) journal.now) }
+    ensures ok { OnOk result (out.new
+        ≡ out.old ++ flat_map (λ e. codes " " ++ decimal e.worker) journal.now) }
     ensures err { OnErr result (out.new ≡ []) }
 {
     for entry in journal {
@@ -135,7 +136,9 @@ fn push_steps<'a>(
     journal: &'a [Entry],
     worker: u32,
 ) -> Result<(), Memory>
-    ensures { OnOk result (flat_map block_text blocks.new.items ≡ flat_map block_text blocks.old.items ++ numbered step_text 1 (steps_by worker journal.now)) }
+    ensures { OnOk result (flat_map block_text blocks.new.items
+        ≡ flat_map block_text blocks.old.items
+        ++ numbered step_text 1 (steps_by worker journal.now)) }
 {
     let mut number = 0;
     for entry in journal {
@@ -153,7 +156,8 @@ fn push_worker<'a>(
     journal: &'a [Entry],
     worker: u32,
 ) -> Result<(), Memory>
-    ensures { OnOk result (flat_map block_text blocks.new.items ≡ flat_map block_text blocks.old.items ++ worker_text journal.now worker) }
+    ensures { OnOk result (flat_map block_text blocks.new.items
+        ≡ flat_map block_text blocks.old.items ++ worker_text journal.now worker) }
 {
     blocks.push(Block::Worker(worker))?;
     push_steps(blocks, journal, worker)
@@ -164,7 +168,9 @@ fn push_workers<'a>(
     journal: &'a [Entry],
     workers: u32,
 ) -> Result<(), Memory>
-    ensures { OnOk result (flat_map block_text blocks.new.items ≡ flat_map block_text blocks.old.items ++ flat_map (worker_text journal.now) (range_with_len 0 workers)) }
+    ensures { OnOk result (flat_map block_text blocks.new.items
+        ≡ flat_map block_text blocks.old.items
+        ++ flat_map (worker_text journal.now) (range_with_len 0 workers)) }
 {
     for worker in 0..workers {
         push_worker(blocks, journal, worker)?;
@@ -173,7 +179,8 @@ fn push_workers<'a>(
 }
 
 fn push_levels<'a>(blocks: &mut Vec<Block<'a>>, views: &'a [BusView]) -> Result<(), Memory>
-    ensures { OnOk result (flat_map block_text blocks.new.items ≡ flat_map block_text blocks.old.items ++ flat_map level_text views.now) }
+    ensures { OnOk result (flat_map block_text blocks.new.items
+        ≡ flat_map block_text blocks.old.items ++ flat_map level_text views.now) }
 {
     for view in views {
         blocks.push(Block::Level(view))?;
@@ -183,14 +190,16 @@ fn push_levels<'a>(blocks: &mut Vec<Block<'a>>, views: &'a [BusView]) -> Result<
 
 #[tactic(auto, unfolding(crate::specs::Outcomes::variant_text))]
 fn push_variant<'a>(blocks: &mut Vec<Block<'a>>, variant: &'a VariantView) -> Result<(), Memory>
-    ensures { OnOk result (flat_map block_text blocks.new.items ≡ flat_map block_text blocks.old.items ++ variant_text variant.now) }
+    ensures { OnOk result (flat_map block_text blocks.new.items
+        ≡ flat_map block_text blocks.old.items ++ variant_text variant.now) }
 {
     blocks.push(Block::Variant(&variant.name))?;
     push_levels(blocks, variant.views.slice())
 }
 
 fn push_variants<'a>(blocks: &mut Vec<Block<'a>>, variants: &'a [VariantView]) -> Result<(), Memory>
-    ensures { OnOk result (flat_map block_text blocks.new.items ≡ flat_map block_text blocks.old.items ++ flat_map variant_text variants.now) }
+    ensures { OnOk result (flat_map block_text blocks.new.items
+        ≡ flat_map block_text blocks.old.items ++ flat_map variant_text variants.now) }
 {
     for variant in variants {
         push_variant(blocks, variant)?;
@@ -203,7 +212,9 @@ fn push_events<'a>(
     wanted: &Filter,
     events: &'a [Event],
 ) -> Result<(), Memory>
-    ensures { OnOk result (flat_map block_text blocks.new.items ≡ flat_map block_text blocks.old.items ++ flat_map event_line (filter (matches wanted.now) events.now)) }
+    ensures { OnOk result (flat_map block_text blocks.new.items
+        ≡ flat_map block_text blocks.old.items
+        ++ flat_map event_line (filter (matches wanted.now) events.now)) }
 {
     for event in events {
         if wanted.matches(event) {
@@ -218,7 +229,9 @@ fn push_heard<'a>(
     wanted: &Filter,
     journal: &'a [Entry],
 ) -> Result<(), Memory>
-    ensures { OnOk result (flat_map block_text blocks.new.items ≡ flat_map block_text blocks.old.items ++ flat_map event_line (heard_in wanted.now journal.now)) }
+    ensures { OnOk result (flat_map block_text blocks.new.items
+        ≡ flat_map block_text blocks.old.items
+        ++ flat_map event_line (heard_in wanted.now journal.now)) }
 {
     for entry in journal {
         push_events(blocks, wanted, entry.events.slice())?;
@@ -233,7 +246,8 @@ fn push_listener<'a>(
     number: u64,
     wanted: &Filter,
 ) -> Result<(), Memory>
-    ensures { OnOk result (flat_map block_text blocks.new.items ≡ flat_map block_text blocks.old.items ++ listener_text journal.now number wanted.now) }
+    ensures { OnOk result (flat_map block_text blocks.new.items
+        ≡ flat_map block_text blocks.old.items ++ listener_text journal.now number wanted.now) }
 {
     blocks.push(Block::Listener(number))?;
     push_heard(blocks, wanted, journal)
@@ -244,7 +258,9 @@ fn push_listeners<'a>(
     journal: &'a [Entry],
     filters: &[Filter],
 ) -> Result<(), Memory>
-    ensures { OnOk result (flat_map block_text blocks.new.items ≡ flat_map block_text blocks.old.items ++ numbered (listener_text journal.now) 0 filters.now) }
+    ensures { OnOk result (flat_map block_text blocks.new.items
+        ≡ flat_map block_text blocks.old.items
+        ++ numbered (listener_text journal.now) 0 filters.now) }
 {
     for (number, wanted) in filters.iter().enumerate() {
         push_listener(blocks, journal, number as u64, wanted)?;

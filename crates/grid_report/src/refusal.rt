@@ -11,7 +11,8 @@ use grid_structure::EditFault;
 
 /// Puts a text, and two numbers behind it.
 fn put_bound(out: &mut Text, text: &str, found: &i64, bound: &i64) -> Result<(), Memory>
-    ensures ok { OnOk result (out.new ≡ out.old ++ (text.now ++ behind found.now ++ behind bound.now)) }
+    ensures ok { OnOk result (out.new
+        ≡ out.old ++ (text.now ++ behind found.now ++ behind bound.now)) }
     ensures err { OnErr result (out.new ≡ []) }
 {
     out.put(text)?;

@@ -15,7 +15,8 @@ use grid_ids::{Id, Memory};
 
 /// Each id behind a comma and a space.
 fn put_others(out: &mut Text, ids: &[Id]) -> Result<(), Memory>
-    ensures ok { OnOk result (out.new ≡ out.old ++ flat_map (λ other. codes ", " ++ other) ids.now) }
+    ensures ok { OnOk result (out.new
+        ≡ out.old ++ flat_map (λ other. codes ", " ++ other) ids.now) }
     ensures err { OnErr result (out.new ≡ []) }
 {
     for id in ids {
@@ -76,7 +77,10 @@ fn put_refused(out: &mut Text, refusal: &Refusal) -> Result<(), Memory>
 }
 
 fn put_totals(out: &mut Text, load: &i128, generation: &i128) -> Result<(), Memory>
-    ensures ok { OnOk result (out.new ≡ out.old ++ (codes "load " ++ signed load.now ++ codes " generation " ++ signed generation.now)) }
+    ensures ok { OnOk result (out.new
+        ≡ out.old
+        ++ (codes "load " ++ signed load.now ++ codes " generation "
+        ++ signed generation.now)) }
     ensures err { OnErr result (out.new ≡ []) }
 {
     out.put("load ")?;
@@ -152,7 +156,9 @@ fn put_position(out: &mut Text, opened: bool) -> Result<(), Memory>
 
 /// Puts the names of two buses of a level, and ends the line.
 fn put_ends(out: &mut Text, level: &Id, bus1: u16, bus2: u16) -> Result<(), Memory>
-    ensures ok { OnOk result (out.new ≡ out.old ++ (bus_name level.now bus1 ++ codes " " ++ bus_name level.now bus2 ++ codes "\n")) }
+    ensures ok { OnOk result (out.new
+        ≡ out.old
+        ++ (bus_name level.now bus1 ++ codes " " ++ bus_name level.now bus2 ++ codes "\n")) }
     ensures err { OnErr result (out.new ≡ []) }
 {
     put_bus_name(out, level, bus1)?;

@@ -27,7 +27,8 @@ pub fn write_blocks<T: Shown, K: Sink>(
     ensures err { OnErr result
         (IsBegun (K.written sink.old) (flat_map T.shown blocks.now) (K.written sink.new)) }
     ensures later { K.faults sink.old ≤ K.faults sink.new }
-    ensures cause { result ≡ Err ReportFault.Stopped → Rose (K.faults sink.old) (K.faults sink.new) }
+    ensures cause { result ≡ Err ReportFault.Stopped
+        → Rose (K.faults sink.old) (K.faults sink.new) }
     ensures stays { result ≢ Err ReportFault.Stopped → K.faults sink.new ≡ K.faults sink.old }
 {
     let mut pieces = Pieces::empty(alloc);
@@ -48,10 +49,13 @@ pub fn write_report<K: Sink>(
     outcome: &Outcome,
     sink: &mut K,
 ) -> Result<(), ReportFault>
-    ensures ok { OnOk result (Appends (K.written sink.old) (K.written sink.new) (report_of outcome.now)) }
-    ensures err { OnErr result (IsBegun (K.written sink.old) (report_of outcome.now) (K.written sink.new)) }
+    ensures ok { OnOk result (Appends (K.written sink.old) (K.written sink.new)
+        (report_of outcome.now)) }
+    ensures err { OnErr result (IsBegun (K.written sink.old) (report_of outcome.now)
+        (K.written sink.new)) }
     ensures later { K.faults sink.old ≤ K.faults sink.new }
-    ensures cause { result ≡ Err ReportFault.Stopped → Rose (K.faults sink.old) (K.faults sink.new) }
+    ensures cause { result ≡ Err ReportFault.Stopped
+        → Rose (K.faults sink.old) (K.faults sink.new) }
     ensures stays { result ≢ Err ReportFault.Stopped → K.faults sink.new ≡ K.faults sink.old }
 {
     let blocks = match plan(alloc, outcome) {

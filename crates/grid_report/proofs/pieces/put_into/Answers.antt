@@ -1,5 +1,5 @@
 use Rattle.std.proofs.Common.{◌≡◌, ◌∙◌, ◌++◌, arith}
-use Rattle.grid_report.proofs.Writing.{waits_more, handed_over, begun, begun_in, further, on_err}
+use Rattle.grid_report.proofs.Writing.{waits_more, handed_over, begun, begun_in, begun_whole, begun_bare, further, on_err}
 use Rattle.grid_report.proofs.pieces.put_into.Goals as goal
 
 pub returns-in-Err-clause-err : goal.returns-in-Err-clause-err
@@ -34,3 +34,14 @@ loop-rest-preserved g c =
       so_far = (i.0 ++ front, e, waits_more _ _ _ _ _ _ _ i.2 c.in-Ok.ensures.items);
       same = c.loop-rest.invariant.same;
     }
+
+pub returns-in-Err-clause-waits : goal.returns-in-Err-clause-waits
+returns-in-Err-clause-waits g c = λ _. let i = c.loop-rest.invariant.so_far in rw c.in-Err.ensures.items (begun_whole _ _ _ _ _ i.1 i.2)
+
+pub returns-in_err-hand_over-clause-waits : goal.returns-in_err-hand_over-clause-waits
+returns-in_err-hand_over-clause-waits g c =
+    let i = c.loop-rest.invariant.so_far in
+    let front = c.split_at.result.0.now in
+    let e : c.args.bytes.now ≡ (i.0 ++ front) ++ c.split_at.result.1.now = rw (c.split_at.ensures.front, c.split_at.ensures.back) (further c.args.bytes.now i.0 c.loop-rest.rest.now c.min.result i.1) in
+    let h = c.in_err-hand_over.ensures.err in
+    λ _. begun_bare _ _ _ _ c.in_err-hand_over.ensures.cleared (begun_in _ _ _ _ _ _ _ _ h.0 e (waits_more _ _ _ _ _ _ _ i.2 c.in-Ok.ensures.items) h.1)
