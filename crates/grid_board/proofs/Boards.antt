@@ -1,5 +1,5 @@
 -- What a board keeps beside its world, after each step.
-use Rattle.std.proofs.Common.{◌≡◌, ◌≢◌, refl, sym, ap, ◌∙◌, subst, ℕ, ◌+◌, [], ◌∷◌}
+use Rattle.std.proofs.Common.{◌≡◌, ◌≢◌, sym, ap, ◌∙◌, subst, ℕ, ◌+◌, [], ◌∷◌}
 use Rattle.std.specs.Prelude.{Result, Ok, Err, OnOk, OnErr}
 use Rattle.grid_structure.specs.declared.Edit.{Edit}
 use Rattle.grid_structure.specs.Network.{Network}

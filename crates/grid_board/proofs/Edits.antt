@@ -1,7 +1,6 @@
 -- While no edit is asked for, the structure stays, and with it the levels of a base.
-use Rattle.std.proofs.Common.{◌≡◌, ◌≢◌, refl, sym, ap, ◌∙◌, subst, ℕ, suc, ◌+◌, ◌≤◌, ◌<◌, ◌^◌, arith, Bool, true, false, cond, List, [], ◌∷◌, ◌++◌, length, get_or, Option, Some, None}
-use Rattle.std.specs.Prelude.{slice_get, filter_map, option_map, option_and_then, count_by, sum_by, Result, Ok, Err, OnOk, OnErr}
-use Rattle.std.specs.List.{enumerate_from}
+use Rattle.std.proofs.Common.{◌≡◌, ◌≢◌, refl, sym, ap, ◌∙◌, ℕ, ◌+◌, ◌≤◌, ◌<◌, arith, Bool, true, false, cond, List, [], ◌∷◌, ◌++◌, length, get_or, Option, Some, None}
+use Rattle.std.specs.Prelude.{slice_get, filter_map, option_map, option_and_then}
 use Rattle.std.proofs.lemmas.Bool.{false≢true}
 use Rattle.std.proofs.lemmas.List.Sums.{count_by-le-length, sum_by-cons}
 use Rattle.std.proofs.lemmas.Option.{slice_get_within, slice_get-get_or}
@@ -22,7 +21,7 @@ use Rattle.grid_core.specs.Solo.{State, level_at}
 use Rattle.grid_core.specs.Worlds.{worker_live, worker_state}
 use Rattle.grid_core.proofs.Lineages.{structure_of_lineage}
 use Rattle.grid_board.specs.Edits.{is_edit, edits_asked, WasPresent, IsTaken, IsTakenFor, IsLevelAt, AreLevels, WasWhole}
-use Rattle.grid_board.specs.Questions.{part_with, part_of, parts_of, alone, whole, base_of, task_of, on_base, question_of, question, branch_of, present}
+use Rattle.grid_board.specs.Questions.{part_with, part_of, parts_of, alone, whole, base_of, task_of, on_base, question_of, question, branch_of}
 use Rattle.grid_board.proofs.Answering.{part_there}
 use Rattle.grid_board.proofs.Compared.{part_count}
 use Rattle.grid_board.proofs.Copying.{no_edit_stays}

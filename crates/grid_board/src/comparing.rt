@@ -53,7 +53,8 @@ fn is_part(
     known: bool,
 ) -> bool
     requires { IsTrue known → level.now ≡ part.now.level }
-    ensures { IsTrue result ↔ (questions.part_with powers.now.listed level.now opened.now retained.now ≡ part.now) }
+    ensures { IsTrue result
+        ↔ (questions.part_with powers.now.listed level.now opened.now retained.now ≡ part.now) }
 {
     same_items(opened, part.states.slice())
         && same_items(retained, part.retained.slice())
@@ -74,7 +75,9 @@ fn is_alone(
     requires fits { StateFits (state_seen structure.now opened.now retained.now powers.now.listed) }
     requires level { place < length (levels structure.now) }
     requires known { IsTrue known → IsLevelAt structure.now place base.now.levels }
-    ensures { IsTrue result ↔ (questions.alone (state_seen structure.now opened.now retained.now powers.now.listed) place ≡ Some base.now) }
+    ensures { IsTrue result
+        ↔ (questions.alone (state_seen structure.now opened.now retained.now powers.now.listed)
+        place ≡ Some base.now) }
 {
     let parts = base.levels();
     if parts.len() != 1 {
@@ -104,7 +107,9 @@ fn same_parts(
 ) -> bool
     requires fits { StateFits (state_seen structure.now opened.now retained.now powers.now.listed) }
     requires known { IsTrue known → AreLevels structure.now parts.now }
-    ensures { IsTrue result ↔ (questions.parts_of (state_seen structure.now opened.now retained.now powers.now.listed) ≡ parts.now) }
+    ensures { IsTrue result
+        ↔ (questions.parts_of (state_seen structure.now opened.now retained.now powers.now.listed)
+        ≡ parts.now) }
 {
     if structure.level_count() as usize != parts.len() {
         return false;
@@ -126,7 +131,9 @@ fn same_parts(
 
 // Whether a branch stands between these sites.
 fn is_branch(structure: &Structure, shape: &Branch, branch: &BenchBranch) -> bool
-    ensures { IsTrue result ↔ (questions.branch_between (map (questions.spot_of structure.now) (branch_ends shape.now)) ≡ Some branch.now) }
+    ensures { IsTrue result
+        ↔ (questions.branch_between (map (questions.spot_of structure.now) (branch_ends shape.now))
+        ≡ Some branch.now) }
 {
     match branch_of(structure, shape) {
         Some(found) => found.same(branch),
@@ -136,7 +143,8 @@ fn is_branch(structure: &Structure, shape: &Branch, branch: &BenchBranch) -> boo
 
 // Whether the list has the branches by the sites of their ends.
 fn same_branches(structure: &Structure, list: &[BenchBranch]) -> bool
-    ensures { IsTrue result ↔ (filter_map (questions.branch_of structure.now) (branches structure.now) ≡ list.now) }
+    ensures { IsTrue result
+        ↔ (filter_map (questions.branch_of structure.now) (branches structure.now) ≡ list.now) }
 {
     structure.keeps();
     if structure.branch_count() as usize != list.len() {
@@ -152,8 +160,10 @@ fn same_branches(structure: &Structure, list: &[BenchBranch]) -> bool
 
 // Whether the list has the branches by the sites of their ends, which may be known.
 fn are_branches(structure: &Structure, list: &[BenchBranch], known: bool) -> bool
-    requires { IsTrue known → filter_map (questions.branch_of structure.now) (branches structure.now) ≡ list.now }
-    ensures { IsTrue result ↔ (filter_map (questions.branch_of structure.now) (branches structure.now) ≡ list.now) }
+    requires { IsTrue known
+        → filter_map (questions.branch_of structure.now) (branches structure.now) ≡ list.now }
+    ensures { IsTrue result
+        ↔ (filter_map (questions.branch_of structure.now) (branches structure.now) ≡ list.now) }
 {
     known || same_branches(structure, list)
 }
@@ -170,7 +180,9 @@ fn is_whole(
 ) -> bool
     requires fits { StateFits (state_seen structure.now opened.now retained.now powers.now.listed) }
     requires known { IsTrue known → WasWhole structure.now base.now }
-    ensures { IsTrue result ↔ (questions.whole (state_seen structure.now opened.now retained.now powers.now.listed) ≡ base.now) }
+    ensures { IsTrue result
+        ↔ (questions.whole (state_seen structure.now opened.now retained.now powers.now.listed)
+        ≡ base.now) }
 {
     same_parts(structure, opened, retained, powers, base.levels(), known)
         && are_branches(structure, base.branches(), known)
@@ -191,7 +203,9 @@ pub(crate) fn is_base_of(
     requires fits { StateFits (state_seen structure.now opened.now retained.now powers.now.listed) }
     requires level { level_of task < length (levels structure.now) }
     requires known { IsTrue known → IsTaken structure.now task base.now }
-    ensures { IsTrue result ↔ (questions.base_of (state_seen structure.now opened.now retained.now powers.now.listed) task ≡ Some base.now) }
+    ensures { IsTrue result
+        ↔ (questions.base_of (state_seen structure.now opened.now retained.now powers.now.listed)
+        task ≡ Some base.now) }
 {
     match task {
         Task::Components { .. } => is_whole(structure, opened, retained, powers, base, known),

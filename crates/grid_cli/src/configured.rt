@@ -34,7 +34,9 @@ fn run_in_order(
     requires plain { All (All IsConfiguredRequest) scripts.now }
     requires few { length scripts.now ≤ max_workers }
     requires order { IsOrder scripts.now (histories.chosen_order scripts.now order) }
-    ensures { IfOk result (λ outcome. outcome ≡ report_after (history_of network scripts.now (histories.chosen_order scripts.now order))) }
+    ensures { IfOk result (λ outcome. outcome
+        ≡ report_after (history_of network scripts.now (histories.chosen_order scripts.now
+        order))) }
 {
     let order = chosen_order(alloc, order, scripts)?;
     run_configured(alloc, network, scripts, order.slice())
@@ -44,7 +46,8 @@ fn run_in_order(
 #[tactic(auto, using(grid_report::proofs::Begun::at_start, crate::proofs::Written::handed, crate::proofs::Written::calm))]
 fn write_report_of<K: Sink>(alloc: Global, job: ConfiguredJob, sink: &mut K) -> Status
     requires { IsRunnable job }
-    ensures written { Writes (configured_job_text job) (K.written sink.old) (K.written sink.new) result }
+    ensures written { Writes (configured_job_text job) (K.written sink.old) (K.written sink.new)
+        result }
     ensures fault { result ≡ Status.WriteFault → Rose (K.faults sink.old) (K.faults sink.new) }
     ensures stays { result ≢ Status.WriteFault → K.faults sink.new ≡ K.faults sink.old }
 {
@@ -64,8 +67,10 @@ fn write_report_of<K: Sink>(alloc: Global, job: ConfiguredJob, sink: &mut K) -> 
 fn read_configured_from<S: Source>(alloc: Global, source: &mut S) -> Result<ConfiguredJob, Status>
     ensures job { IfOk result (ReadsConfigured (S.left source.old) (S.left source.new)) }
     ensures runnable { IfOk result IsRunnable }
-    ensures none { IfErr result (ReadsNone configured_fault (S.left source.old) (S.left source.new)) }
-    ensures fault { result ≡ Err Status.ReadFault → Rose (S.faults source.old) (S.faults source.new) }
+    ensures none { IfErr result (ReadsNone configured_fault (S.left source.old)
+        (S.left source.new)) }
+    ensures fault { result ≡ Err Status.ReadFault
+        → Rose (S.faults source.old) (S.faults source.new) }
     ensures stays { result ≢ Err Status.ReadFault → S.faults source.new ≡ S.faults source.old }
 {
     let bytes = match read_source(alloc, source) {
@@ -85,10 +90,13 @@ pub(crate) fn read_and_configure<S: Source, K: Sink>(
     source: &mut S,
     sink: &mut K,
 ) -> Status
-    ensures outcome { OutcomeOf Form.Configured (S.left source.old) (S.left source.new) (K.written sink.old) (K.written sink.new) result }
-    ensures read_fault { result ≡ Status.ReadFault → Rose (S.faults source.old) (S.faults source.new) }
+    ensures outcome { OutcomeOf Form.Configured (S.left source.old) (S.left source.new)
+        (K.written sink.old) (K.written sink.new) result }
+    ensures read_fault { result ≡ Status.ReadFault
+        → Rose (S.faults source.old) (S.faults source.new) }
     ensures reads_stay { result ≢ Status.ReadFault → S.faults source.new ≡ S.faults source.old }
-    ensures write_fault { result ≡ Status.WriteFault → Rose (K.faults sink.old) (K.faults sink.new) }
+    ensures write_fault { result ≡ Status.WriteFault
+        → Rose (K.faults sink.old) (K.faults sink.new) }
     ensures writes_stay { result ≢ Status.WriteFault → K.faults sink.new ≡ K.faults sink.old }
 {
     match read_configured_from(alloc, source) {

@@ -76,10 +76,13 @@ fn counts_of(job: &Job) -> Counts
 #[tactic(auto, unfolding(crate::specs::Counts::check_text))]
 pub fn write_counts<K: Sink>(alloc: Global, job: &Job, sink: &mut K) -> Result<(), ReportFault>
     requires { command_total job.now.scripts ≤ 20000 }
-    ensures ok { OnOk result (Appends (K.written sink.old) (K.written sink.new) (check_text job.now)) }
-    ensures err { OnErr result (IsBegun (K.written sink.old) (check_text job.now) (K.written sink.new)) }
+    ensures ok { OnOk result (Appends (K.written sink.old) (K.written sink.new)
+        (check_text job.now)) }
+    ensures err { OnErr result (IsBegun (K.written sink.old) (check_text job.now)
+        (K.written sink.new)) }
     ensures later { K.faults sink.old ≤ K.faults sink.new }
-    ensures cause { result ≡ Err ReportFault.Stopped → Rose (K.faults sink.old) (K.faults sink.new) }
+    ensures cause { result ≡ Err ReportFault.Stopped
+        → Rose (K.faults sink.old) (K.faults sink.new) }
     ensures stays { result ≢ Err ReportFault.Stopped → K.faults sink.new ≡ K.faults sink.old }
 {
     write_blocks(alloc, &[counts_of(job)], sink)

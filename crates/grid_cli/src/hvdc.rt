@@ -69,7 +69,8 @@ fn parts_of<'a>(
     world: &'a World,
     lines: &'a [HvdcLine],
 ) -> Result<Vec<Part<'a>>, Memory>
-    ensures { IfOk result (λ parts. flat_map part_text parts.items ≡ numbers_text world.now lines.now) }
+    ensures { IfOk result (λ parts. flat_map part_text parts.items
+        ≡ numbers_text world.now lines.now) }
 {
     let mut parts = Vec::new(alloc);
     for place in 0..world.variant_count() {
@@ -86,9 +87,12 @@ fn write_numbers<K: Sink>(
     lines: &[HvdcLine],
     sink: &mut K,
 ) -> Result<(), ReportFault>
-    ensures ok { OnOk result (Appends (K.written sink.old) (K.written sink.new) (numbers_text world.now lines.now)) }
-    ensures err { OnErr result (IsBegun (K.written sink.old) (numbers_text world.now lines.now) (K.written sink.new)) }
-    ensures cause { result ≡ Err ReportFault.Stopped → Rose (K.faults sink.old) (K.faults sink.new) }
+    ensures ok { OnOk result (Appends (K.written sink.old) (K.written sink.new)
+        (numbers_text world.now lines.now)) }
+    ensures err { OnErr result (IsBegun (K.written sink.old) (numbers_text world.now lines.now)
+        (K.written sink.new)) }
+    ensures cause { result ≡ Err ReportFault.Stopped
+        → Rose (K.faults sink.old) (K.faults sink.new) }
     ensures stays { result ≢ Err ReportFault.Stopped → K.faults sink.new ≡ K.faults sink.old }
 {
     let parts = match parts_of(alloc, world, lines) {
@@ -125,7 +129,8 @@ fn read_hvdc_from<S: Source>(alloc: Global, source: &mut S) -> Result<HvdcJob, S
     ensures job { IfOk result (ReadsHvdc (S.left source.old) (S.left source.new)) }
     ensures scheduled { IfOk result (λ hvdc. IsScheduled hvdc.job) }
     ensures none { IfErr result (ReadsNone hvdc_fault (S.left source.old) (S.left source.new)) }
-    ensures fault { result ≡ Err Status.ReadFault → Rose (S.faults source.old) (S.faults source.new) }
+    ensures fault { result ≡ Err Status.ReadFault
+        → Rose (S.faults source.old) (S.faults source.new) }
     ensures stays { result ≢ Err Status.ReadFault → S.faults source.new ≡ S.faults source.old }
 {
     let bytes = match read_source(alloc, source) {
@@ -145,10 +150,13 @@ pub(crate) fn read_and_number<S: Source, K: Sink>(
     source: &mut S,
     sink: &mut K,
 ) -> Status
-    ensures outcome { OutcomeOf Form.Hvdc (S.left source.old) (S.left source.new) (K.written sink.old) (K.written sink.new) result }
-    ensures read_fault { result ≡ Status.ReadFault → Rose (S.faults source.old) (S.faults source.new) }
+    ensures outcome { OutcomeOf Form.Hvdc (S.left source.old) (S.left source.new)
+        (K.written sink.old) (K.written sink.new) result }
+    ensures read_fault { result ≡ Status.ReadFault
+        → Rose (S.faults source.old) (S.faults source.new) }
     ensures reads_stay { result ≢ Status.ReadFault → S.faults source.new ≡ S.faults source.old }
-    ensures write_fault { result ≡ Status.WriteFault → Rose (K.faults sink.old) (K.faults sink.new) }
+    ensures write_fault { result ≡ Status.WriteFault
+        → Rose (K.faults sink.old) (K.faults sink.new) }
     ensures writes_stay { result ≢ Status.WriteFault → K.faults sink.new ≡ K.faults sink.old }
 {
     match read_hvdc_from(alloc, source) {

@@ -80,11 +80,14 @@ pub fn grid_once<S: Source, K: Sink>(
     // Where the source tells its bytes, they decide the status, but for faults and want of memory.
     ensures exact { Exact (form_alone (map string_bytes words.now)) (S.left source.old) result }
 
-    ensures read_fault { result ≡ Status.ReadFault → Rose (S.faults source.old) (S.faults source.new) }
+    ensures read_fault { result ≡ Status.ReadFault
+        → Rose (S.faults source.old) (S.faults source.new) }
     ensures reads_stay { result ≢ Status.ReadFault → S.faults source.new ≡ S.faults source.old }
-    ensures write_fault { result ≡ Status.WriteFault → Rose (K.faults sink.old) (K.faults sink.new) }
+    ensures write_fault { result ≡ Status.WriteFault
+        → Rose (K.faults sink.old) (K.faults sink.new) }
     ensures writes_stay { result ≢ Status.WriteFault → K.faults sink.new ≡ K.faults sink.old }
-    ensures untouched { ReadsNothing (form_alone (map string_bytes words.now)) → S.faults source.new ≡ S.faults source.old }
+    ensures untouched { ReadsNothing (form_alone (map string_bytes words.now))
+        → S.faults source.new ≡ S.faults source.old }
 {
     run(alloc, words, source, sink)
 }
@@ -94,11 +97,14 @@ fn run<S: Source, K: Sink>(alloc: Global, words: &[String], source: &mut S, sink
     ensures usage { (result ≡ Status.Usage) ↔ (form_alone (map string_bytes words.now) ≡ None) }
     ensures outcome { Outcome (form_alone (map string_bytes words.now)) (S.left source.old)
         (S.left source.new) (K.written sink.old) (K.written sink.new) result }
-    ensures read_fault { result ≡ Status.ReadFault → Rose (S.faults source.old) (S.faults source.new) }
+    ensures read_fault { result ≡ Status.ReadFault
+        → Rose (S.faults source.old) (S.faults source.new) }
     ensures reads_stay { result ≢ Status.ReadFault → S.faults source.new ≡ S.faults source.old }
-    ensures write_fault { result ≡ Status.WriteFault → Rose (K.faults sink.old) (K.faults sink.new) }
+    ensures write_fault { result ≡ Status.WriteFault
+        → Rose (K.faults sink.old) (K.faults sink.new) }
     ensures writes_stay { result ≢ Status.WriteFault → K.faults sink.new ≡ K.faults sink.old }
-    ensures untouched { ReadsNothing (form_alone (map string_bytes words.now)) → S.faults source.new ≡ S.faults source.old }
+    ensures untouched { ReadsNothing (form_alone (map string_bytes words.now))
+        → S.faults source.new ≡ S.faults source.old }
 {
     let Some(form) = read_words(words) else {
         return Status::Usage;
@@ -131,10 +137,13 @@ fn read_and_answer<S: Source, K: Sink>(
     source: &mut S,
     sink: &mut K,
 ) -> Status
-    ensures outcome { OutcomeOf (form_for wanted) (S.left source.old) (S.left source.new) (K.written sink.old) (K.written sink.new) result }
-    ensures read_fault { result ≡ Status.ReadFault → Rose (S.faults source.old) (S.faults source.new) }
+    ensures outcome { OutcomeOf (form_for wanted) (S.left source.old) (S.left source.new)
+        (K.written sink.old) (K.written sink.new) result }
+    ensures read_fault { result ≡ Status.ReadFault
+        → Rose (S.faults source.old) (S.faults source.new) }
     ensures reads_stay { result ≢ Status.ReadFault → S.faults source.new ≡ S.faults source.old }
-    ensures write_fault { result ≡ Status.WriteFault → Rose (K.faults sink.old) (K.faults sink.new) }
+    ensures write_fault { result ≡ Status.WriteFault
+        → Rose (K.faults sink.old) (K.faults sink.new) }
     ensures writes_stay { result ≢ Status.WriteFault → K.faults sink.new ≡ K.faults sink.old }
 {
     match read_from(alloc, source) {
@@ -145,9 +154,11 @@ fn read_and_answer<S: Source, K: Sink>(
 
 /// The source's bytes, read to their end, or why they were not.
 pub(crate) fn read_source<S: Source>(alloc: Global, source: &mut S) -> Result<Vec<u8>, Status>
-    ensures whole { IfOk result (λ bytes. ReadsWhole (S.left source.old) (S.left source.new) bytes.items) }
+    ensures whole { IfOk result (λ bytes. ReadsWhole (S.left source.old) (S.left source.new)
+        bytes.items) }
     ensures part { IfErr result (ReadsPart (S.left source.old) (S.left source.new)) }
-    ensures fault { result ≡ Err Status.ReadFault → Rose (S.faults source.old) (S.faults source.new) }
+    ensures fault { result ≡ Err Status.ReadFault
+        → Rose (S.faults source.old) (S.faults source.new) }
     ensures stays { result ≢ Err Status.ReadFault → S.faults source.new ≡ S.faults source.old }
 {
     match read_all(alloc, source) {
@@ -176,7 +187,8 @@ pub(crate) fn read_from<S: Source>(alloc: Global, source: &mut S) -> Result<Job,
     ensures few { IfOk result (λ job. command_total job.scripts ≤ 20000) }
     ensures scheduled { IfOk result IsScheduled }
     ensures none { IfErr result (ReadsNone job_fault (S.left source.old) (S.left source.new)) }
-    ensures fault { result ≡ Err Status.ReadFault → Rose (S.faults source.old) (S.faults source.new) }
+    ensures fault { result ≡ Err Status.ReadFault
+        → Rose (S.faults source.old) (S.faults source.new) }
     ensures stays { result ≢ Err Status.ReadFault → S.faults source.new ≡ S.faults source.old }
 {
     let bytes = match read_source(alloc, source) {
@@ -208,7 +220,8 @@ fn write_answer<K: Sink>(alloc: Global, wanted: Answer, job: Job, sink: &mut K) 
 // Writes the text of a network.
 #[tactic(auto, using(grid_report::proofs::Begun::at_start))]
 fn print<K: Sink>(alloc: Global, network: &Structure, sink: &mut K) -> Status
-    ensures written { Writes (network_text network.now) (K.written sink.old) (K.written sink.new) result }
+    ensures written { Writes (network_text network.now) (K.written sink.old) (K.written sink.new)
+        result }
     ensures fault { result ≡ Status.WriteFault → Rose (K.faults sink.old) (K.faults sink.new) }
     ensures stays { result ≢ Status.WriteFault → K.faults sink.new ≡ K.faults sink.old }
 {
@@ -236,7 +249,8 @@ fn make<K: Sink>(alloc: Global, seed: u32, size: u32, sink: &mut K) -> Status
     requires seed { seed ≤ MOST_SEED }
     requires some { 1 ≤ size }
     requires few { size ≤ MOST_SIZE }
-    ensures written { Writes (made_text seed size) (K.written sink.old) (K.written sink.new) result }
+    ensures written { Writes (made_text seed size) (K.written sink.old) (K.written sink.new)
+        result }
     ensures fault { result ≡ Status.WriteFault → Rose (K.faults sink.old) (K.faults sink.new) }
     ensures stays { result ≢ Status.WriteFault → K.faults sink.new ≡ K.faults sink.old }
 {

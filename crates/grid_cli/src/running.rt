@@ -61,7 +61,8 @@ fn run(
 /// The view of each level in a live variant, by place.
 fn level_views(alloc: Global, world: &World, name: &Id) -> Result<BusViews, Memory>
     requires { IsTrue (is_live world.now.steps name.now) }
-    ensures views { IfOk result (λ views. views ≡ (variant_view world.now.origin world.now.steps name.now).views) }
+    ensures views { IfOk result (λ views. views
+        ≡ (variant_view world.now.origin world.now.steps name.now).views) }
     ensures few { IfOk result (λ views. length views < 2 ^ 32) }
 {
     let mut views = Seq::empty(alloc);
@@ -75,7 +76,8 @@ fn level_views(alloc: Global, world: &World, name: &Id) -> Result<BusViews, Memo
 /// The views of the live variant at a place, by byte order of names.
 fn variant_view(alloc: Global, world: &World, place: u32) -> Result<VariantView, Memory>
     requires { place < length (live world.now.steps) }
-    ensures view { IfOk result (λ view. option_map (variant_view world.now.origin world.now.steps) (slice_get (live world.now.steps) place) ≡ Some view) }
+    ensures view { IfOk result (λ view. option_map (variant_view world.now.origin world.now.steps)
+        (slice_get (live world.now.steps) place) ≡ Some view) }
     ensures few { IfOk result (λ view. length view.views < 2 ^ 32) }
 {
     let name = world.variant_name(place);
@@ -145,7 +147,8 @@ pub(crate) fn replayed(
 ) -> Result<World, Memory>
     requires few { length scripts.now ≤ max_workers }
     requires order { IsOrder scripts.now (histories.chosen_order scripts.now order) }
-    ensures { IfOk result (λ world. world ≡ history_of network scripts.now (histories.chosen_order scripts.now order)) }
+    ensures { IfOk result (λ world. world
+        ≡ history_of network scripts.now (histories.chosen_order scripts.now order)) }
 {
     let order = chosen_order(alloc, order, scripts)?;
     run(alloc, network, scripts, order.slice())
@@ -155,7 +158,8 @@ pub(crate) fn replayed(
 #[tactic(auto, unfolding(crate::specs::Orders::order_of))]
 pub fn run_job(alloc: Global, job: Job) -> Result<Outcome, Memory>
     requires { IsScheduled job }
-    ensures outcome { IfOk result (λ outcome. outcome ≡ outcome_of (history_of job.network job.scripts (order_of job)) job.filters) }
+    ensures outcome { IfOk result (λ outcome. outcome
+        ≡ outcome_of (history_of job.network job.scripts (order_of job)) job.filters) }
     ensures few { IfOk result (λ outcome. length outcome.views < 2 ^ 32) }
     ensures each { IfOk result (λ outcome. All (λ v. length v.views < 2 ^ 32) outcome.views) }
 {

@@ -55,7 +55,8 @@ fn parts_of<'a>(
     contingencies: &'a [Contingency],
     findings: &'a [Finding],
 ) -> Result<Vec<Part<'a>>, Memory>
-    ensures { IfOk result (λ parts. flat_map part_text parts.items ≡ lines_of contingencies.now findings.now ++ codes "end\n") }
+    ensures { IfOk result (λ parts. flat_map part_text parts.items
+        ≡ lines_of contingencies.now findings.now ++ codes "end\n") }
 {
     let mut parts = Vec::new(alloc);
     for (contingency, finding) in contingencies.iter().zip(findings) {
@@ -72,9 +73,12 @@ fn write_findings<K: Sink>(
     findings: &[Finding],
     sink: &mut K,
 ) -> Result<(), ReportFault>
-    ensures ok { OnOk result (Appends (K.written sink.old) (K.written sink.new) (lines_of contingencies.now findings.now ++ codes "end\n")) }
-    ensures err { OnErr result (IsBegun (K.written sink.old) (lines_of contingencies.now findings.now ++ codes "end\n") (K.written sink.new)) }
-    ensures cause { result ≡ Err ReportFault.Stopped → Rose (K.faults sink.old) (K.faults sink.new) }
+    ensures ok { OnOk result (Appends (K.written sink.old) (K.written sink.new)
+        (lines_of contingencies.now findings.now ++ codes "end\n")) }
+    ensures err { OnErr result (IsBegun (K.written sink.old)
+        (lines_of contingencies.now findings.now ++ codes "end\n") (K.written sink.new)) }
+    ensures cause { result ≡ Err ReportFault.Stopped
+        → Rose (K.faults sink.old) (K.faults sink.new) }
     ensures stays { result ≢ Err ReportFault.Stopped → K.faults sink.new ≡ K.faults sink.old }
 {
     let parts = match parts_of(alloc, contingencies, findings) {
@@ -130,7 +134,8 @@ fn write_screen<R: Threads + Sync, K: Sink>(
     sink: &mut K,
 ) -> Status
     requires { IsScheduled screened.job }
-    ensures written { Writes (screen_text screened) (K.written sink.old) (K.written sink.new) result }
+    ensures written { Writes (screen_text screened) (K.written sink.old) (K.written sink.new)
+        result }
     ensures fault { result ≡ Status.WriteFault → Rose (K.faults sink.old) (K.faults sink.new) }
     ensures stays { result ≢ Status.WriteFault → K.faults sink.new ≡ K.faults sink.old }
 {
@@ -152,7 +157,8 @@ fn read_screen_from<S: Source>(alloc: Global, source: &mut S) -> Result<ScreenJo
     ensures job { IfOk result (ReadsScreen (S.left source.old) (S.left source.new)) }
     ensures scheduled { IfOk result (λ screened. IsScheduled screened.job) }
     ensures none { IfErr result (ReadsNone screen_fault (S.left source.old) (S.left source.new)) }
-    ensures fault { result ≡ Err Status.ReadFault → Rose (S.faults source.old) (S.faults source.new) }
+    ensures fault { result ≡ Err Status.ReadFault
+        → Rose (S.faults source.old) (S.faults source.new) }
     ensures stays { result ≢ Err Status.ReadFault → S.faults source.new ≡ S.faults source.old }
 {
     let bytes = match read_source(alloc, source) {
@@ -173,10 +179,13 @@ pub(crate) fn read_and_screen<R: Threads + Sync, S: Source, K: Sink>(
     source: &mut S,
     sink: &mut K,
 ) -> Status
-    ensures outcome { OutcomeOf Form.Screen (S.left source.old) (S.left source.new) (K.written sink.old) (K.written sink.new) result }
-    ensures read_fault { result ≡ Status.ReadFault → Rose (S.faults source.old) (S.faults source.new) }
+    ensures outcome { OutcomeOf Form.Screen (S.left source.old) (S.left source.new)
+        (K.written sink.old) (K.written sink.new) result }
+    ensures read_fault { result ≡ Status.ReadFault
+        → Rose (S.faults source.old) (S.faults source.new) }
     ensures reads_stay { result ≢ Status.ReadFault → S.faults source.new ≡ S.faults source.old }
-    ensures write_fault { result ≡ Status.WriteFault → Rose (K.faults sink.old) (K.faults sink.new) }
+    ensures write_fault { result ≡ Status.WriteFault
+        → Rose (K.faults sink.old) (K.faults sink.new) }
     ensures writes_stay { result ≢ Status.WriteFault → K.faults sink.new ≡ K.faults sink.old }
 {
     match read_screen_from(alloc, source) {

@@ -142,10 +142,13 @@ pub fn write_trial<K: Sink>(
     requires seed { seed ≤ MOST_SEED }
     requires some { 1 ≤ size }
     requires few { size ≤ MOST_SIZE }
-    ensures ok { OnOk result (Appends (K.written sink.old) (K.written sink.new) (trial_text seed size)) }
-    ensures err { OnErr result (IsBegun (K.written sink.old) (trial_text seed size) (K.written sink.new)) }
+    ensures ok { OnOk result (Appends (K.written sink.old) (K.written sink.new)
+        (trial_text seed size)) }
+    ensures err { OnErr result (IsBegun (K.written sink.old) (trial_text seed size)
+        (K.written sink.new)) }
     ensures later { K.faults sink.old ≤ K.faults sink.new }
-    ensures cause { result ≡ Err ReportFault.Stopped → Rose (K.faults sink.old) (K.faults sink.new) }
+    ensures cause { result ≡ Err ReportFault.Stopped
+        → Rose (K.faults sink.old) (K.faults sink.new) }
     ensures stays { result ≢ Err ReportFault.Stopped → K.faults sink.new ≡ K.faults sink.old }
 {
     let trial = run_trial(alloc, seed, size)?;

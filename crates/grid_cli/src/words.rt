@@ -89,7 +89,8 @@ fn is_written(number: u32, text: &str) -> bool
 
 /// Whether a number is from `least` to `most` and a text is its decimal digits.
 fn is_number(number: u32, text: &str, least: u32, most: u32) -> bool
-    ensures { (IsTrue result) ↔ (least ≤ number) × (number ≤ most) × (bytes_eq (decimal number) text.now ≡ true) }
+    ensures { (IsTrue result)
+        ↔ (least ≤ number) × (number ≤ most) × (bytes_eq (decimal number) text.now ≡ true) }
 {
     least <= number && number <= most && is_written(number, text)
 }

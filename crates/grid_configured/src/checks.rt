@@ -38,8 +38,13 @@ fn check_line(
     standing: &mut Standing,
     line: &ConfiguredLine,
 ) -> Result<(), ReadError>
-    ensures check { (levels : List LevelAt) (earlier : List LineAt) → Stands (ids_of levels ++ line_ids earlier) levels (line_ends earlier) standing.old → Gives result (line_check levels earlier line.now) }
-    ensures stands { OnOk result ((levels : List LevelAt) (earlier : List LineAt) → Stands (ids_of levels ++ line_ids earlier) levels (line_ends earlier) standing.old → Stands (ids_of levels ++ line_ids (earlier ++ line.now ∷ [])) levels (line_ends (earlier ++ line.now ∷ [])) standing.new) }
+    ensures check { (levels : List LevelAt) (earlier : List LineAt)
+        → Stands (ids_of levels ++ line_ids earlier) levels (line_ends earlier) standing.old
+        → Gives result (line_check levels earlier line.now) }
+    ensures stands { OnOk result ((levels : List LevelAt) (earlier : List LineAt)
+        → Stands (ids_of levels ++ line_ids earlier) levels (line_ends earlier) standing.old
+        → Stands (ids_of levels ++ line_ids (earlier ++ line.now ∷ [])) levels
+        (line_ends (earlier ++ line.now ∷ [])) standing.new) }
 {
     check_id(alloc, &mut standing.ids, &line.id)?;
     standing.check_end(alloc, &line.end1)?;
@@ -74,7 +79,8 @@ fn check_levels_under(
     requires none { Stands [] [] [] standing.old }
     requires few { standing.old.switches ≤ 200000 }
     ensures check { Gives result (list_check level_check (codes "levels") network.now.levels) }
-    ensures stands { OnOk result (Stands (ids_of network.now.levels) network.now.levels [] standing.new) }
+    ensures stands { OnOk result (Stands (ids_of network.now.levels) network.now.levels []
+        standing.new) }
 {
     match check_levels(alloc, standing, network.levels.slice()) {
         Ok(()) => Ok(()),
@@ -89,7 +95,8 @@ fn check_lines_under(
     network: &ConfiguredNetwork,
 ) -> Result<(), ReadError>
     requires { Stands (ids_of network.now.levels) network.now.levels [] standing.old }
-    ensures { Gives result (list_check (line_check network.now.levels) (codes "lines") network.now.lines) }
+    ensures { Gives result (list_check (line_check network.now.levels) (codes "lines")
+        network.now.lines) }
 {
     match check_lines(alloc, standing, network) {
         Ok(()) => Ok(()),

@@ -42,9 +42,11 @@ fn check_switches(
     switches: &[BusSwitch],
 ) -> Result<(), ReadError>
     requires { total ≤ 200000 }
-    ensures check { Gives result (each_check (switch_check ids.old buses.now total) [] 0 switches.now) }
+    ensures check { Gives result (each_check (switch_check ids.old buses.now total) [] 0
+        switches.now) }
     ensures known { OnOk result (Knows ids.new (ids.old ++ switch_ids switches.now)) }
-    ensures few { OnOk result ((length switches.now ≤ 4096) × ((total + length switches.now) ≤ 200000)) }
+    ensures few { OnOk result ((length switches.now ≤ 4096)
+        × ((total + length switches.now) ≤ 200000)) }
 {
     for (i, switch) in switches.iter().enumerate() {
         match check_switch(alloc, ids, buses, i, total + i, switch) {
@@ -60,7 +62,12 @@ fn counts_after(counts: Counts, terminals: usize) -> Counts
     requires nodes { (counts.nodes + terminals) ≤ 1024 }
     requires edges { (counts.edges + terminals) ≤ 4096 }
     requires switches { (counts.switches + terminals) ≤ 200000 }
-    ensures { result ≡ record { nodes = counts.nodes + terminals; edges = counts.edges + terminals; switches = counts.switches + terminals } }
+    ensures { result
+        ≡ record {
+          nodes = counts.nodes + terminals;
+          edges = counts.edges + terminals;
+          switches = counts.switches + terminals;
+        } }
 {
     Counts {
         nodes: counts.nodes + terminals,
@@ -80,9 +87,12 @@ fn check_items(
     requires nodes { counts.nodes ≤ 1024 }
     requires edges { counts.edges ≤ 4096 }
     requires switches { counts.switches ≤ 200000 }
-    ensures check { Gives result (each_check (item_check ids.old buses.now counts.nodes counts.edges counts.switches) [] 0 items.now) }
+    ensures check { Gives result (each_check
+        (item_check ids.old buses.now counts.nodes counts.edges counts.switches) [] 0 items.now) }
     ensures known { OnOk result (Knows ids.new (ids.old ++ item_ids items.now)) }
-    ensures few { OnOk result (((counts.nodes + length items.now) ≤ 1024) × ((counts.edges + length items.now) ≤ 4096) × ((counts.switches + length items.now) ≤ 200000)) }
+    ensures few { OnOk result (((counts.nodes + length items.now) ≤ 1024)
+        × ((counts.edges + length items.now) ≤ 4096)
+        × ((counts.switches + length items.now) ≤ 200000)) }
 {
     for (i, item) in items.iter().enumerate() {
         match check_item(alloc, ids, buses, counts_after(counts, i), item) {
@@ -121,9 +131,11 @@ fn check_switches_under(
     level: &ConfiguredLevel,
 ) -> Result<(), ReadError>
     requires { total ≤ 200000 }
-    ensures check { Gives result (list_check (switch_check ids.old buses.now total) (codes "switches") level.now.switches) }
+    ensures check { Gives result (list_check (switch_check ids.old buses.now total)
+        (codes "switches") level.now.switches) }
     ensures known { OnOk result (Knows ids.new (ids.old ++ switch_ids level.now.switches)) }
-    ensures few { OnOk result ((length level.now.switches ≤ 4096) × ((total + length level.now.switches) ≤ 200000)) }
+    ensures few { OnOk result ((length level.now.switches ≤ 4096)
+        × ((total + length level.now.switches) ≤ 200000)) }
 {
     match check_switches(alloc, ids, buses, total, level.switches.slice()) {
         Ok(()) => Ok(()),
@@ -142,9 +154,13 @@ fn check_items_under(
     requires nodes { counts.nodes ≤ 1024 }
     requires edges { counts.edges ≤ 4096 }
     requires switches { counts.switches ≤ 200000 }
-    ensures check { Gives result (list_check (item_check ids.old buses.now counts.nodes counts.edges counts.switches) (codes "injections") level.now.items) }
+    ensures check { Gives result (list_check
+        (item_check ids.old buses.now counts.nodes counts.edges counts.switches)
+        (codes "injections") level.now.items) }
     ensures known { OnOk result (Knows ids.new (ids.old ++ item_ids level.now.items)) }
-    ensures few { OnOk result (((counts.nodes + length level.now.items) ≤ 1024) × ((counts.edges + length level.now.items) ≤ 4096) × ((counts.switches + length level.now.items) ≤ 200000)) }
+    ensures few { OnOk result (((counts.nodes + length level.now.items) ≤ 1024)
+        × ((counts.edges + length level.now.items) ≤ 4096)
+        × ((counts.switches + length level.now.items) ≤ 200000)) }
 {
     match check_items(alloc, ids, buses, counts, level.items.slice()) {
         Ok(()) => Ok(()),
@@ -167,7 +183,8 @@ pub(crate) fn check_contents(
     ensures check { Gives result (parts_check ids.old total level.now) }
     ensures known { OnOk result (Knows ids.new (ids.old ++ part_ids level.now)) }
     ensures own { OnOk result (Knows own.new level.now.buses) }
-    ensures few { OnOk result ((level_nodes level.now ≤ 1024) × (level_edges level.now ≤ 4096) × ((total + level_edges level.now) ≤ 200000)) }
+    ensures few { OnOk result ((level_nodes level.now ≤ 1024) × (level_edges level.now ≤ 4096)
+        × ((total + level_edges level.now) ≤ 200000)) }
 {
     check_buses_under(alloc, ids, own, level)?;
     check_switches_under(alloc, ids, own, total, level)?;

@@ -54,7 +54,8 @@ fn put_step(
     entry: &Entry,
     reply: &ConfiguredReply,
 ) -> Result<(), Memory>
-    ensures ok { OnOk result (out.new ≡ out.old ++ step_text number (told_entry entry.now reply.now)) }
+    ensures ok { OnOk result (out.new
+        ≡ out.old ++ step_text number (told_entry entry.now reply.now)) }
     ensures err { OnErr result (out.new ≡ []) }
 {
     out.put_unsigned(number)?;
@@ -75,7 +76,9 @@ fn push_steps<'a>(
     replies: &'a [ConfiguredReply],
     worker: u32,
 ) -> Result<(), Memory>
-    ensures { OnOk result (flat_map block_text blocks.new.items ≡ flat_map block_text blocks.old.items ++ numbered step_text 1 (steps_by worker (told_of journal.now replies.now))) }
+    ensures { OnOk result (flat_map block_text blocks.new.items
+        ≡ flat_map block_text blocks.old.items
+        ++ numbered step_text 1 (steps_by worker (told_of journal.now replies.now))) }
 {
     let mut number = 0;
     for (entry, reply) in journal.iter().zip(replies) {
@@ -94,7 +97,9 @@ fn push_worker<'a>(
     replies: &'a [ConfiguredReply],
     worker: u32,
 ) -> Result<(), Memory>
-    ensures { OnOk result (flat_map block_text blocks.new.items ≡ flat_map block_text blocks.old.items ++ worker_text (told_of journal.now replies.now) worker) }
+    ensures { OnOk result (flat_map block_text blocks.new.items
+        ≡ flat_map block_text blocks.old.items
+        ++ worker_text (told_of journal.now replies.now) worker) }
 {
     blocks.push(Block::Worker(worker))?;
     push_steps(blocks, journal, replies, worker)
@@ -106,7 +111,10 @@ fn push_workers<'a>(
     replies: &'a [ConfiguredReply],
     workers: u32,
 ) -> Result<(), Memory>
-    ensures { OnOk result (flat_map block_text blocks.new.items ≡ flat_map block_text blocks.old.items ++ flat_map (worker_text (told_of journal.now replies.now)) (range_with_len 0 workers)) }
+    ensures { OnOk result (flat_map block_text blocks.new.items
+        ≡ flat_map block_text blocks.old.items
+        ++ flat_map (worker_text (told_of journal.now replies.now))
+        (range_with_len 0 workers)) }
 {
     for worker in 0..workers {
         push_worker(blocks, journal, replies, worker)?;
@@ -115,7 +123,8 @@ fn push_workers<'a>(
 }
 
 fn push_levels<'a>(blocks: &mut Vec<Block<'a>>, views: &'a [ConfiguredView]) -> Result<(), Memory>
-    ensures { OnOk result (flat_map block_text blocks.new.items ≡ flat_map block_text blocks.old.items ++ flat_map level_text views.now) }
+    ensures { OnOk result (flat_map block_text blocks.new.items
+        ≡ flat_map block_text blocks.old.items ++ flat_map level_text views.now) }
 {
     for view in views {
         blocks.push(Block::Level(view))?;
@@ -128,7 +137,8 @@ fn push_variant<'a>(
     blocks: &mut Vec<Block<'a>>,
     variant: &'a ConfiguredVariant,
 ) -> Result<(), Memory>
-    ensures { OnOk result (flat_map block_text blocks.new.items ≡ flat_map block_text blocks.old.items ++ variant_text variant.now) }
+    ensures { OnOk result (flat_map block_text blocks.new.items
+        ≡ flat_map block_text blocks.old.items ++ variant_text variant.now) }
 {
     blocks.push(Block::Variant(&variant.name))?;
     push_levels(blocks, variant.views.slice())
@@ -138,7 +148,8 @@ fn push_variants<'a>(
     blocks: &mut Vec<Block<'a>>,
     variants: &'a [ConfiguredVariant],
 ) -> Result<(), Memory>
-    ensures { OnOk result (flat_map block_text blocks.new.items ≡ flat_map block_text blocks.old.items ++ flat_map variant_text variants.now) }
+    ensures { OnOk result (flat_map block_text blocks.new.items
+        ≡ flat_map block_text blocks.old.items ++ flat_map variant_text variants.now) }
 {
     for variant in variants {
         push_variant(blocks, variant)?;

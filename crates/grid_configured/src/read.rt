@@ -40,7 +40,8 @@ impl Reader for FirstFormat {
 // The scripts of all workers; their number is looked at before them.
 #[tactic(auto, using(grid_json::proofs::Items::items_len_is))]
 fn read_few(alloc: Global, value: &Value) -> Result<Scripts, ReadError>
-    ensures scripts { Gives result (few_at max_workers Reason.TooManyWorkers (array_at command_at) (view value.now)) }
+    ensures scripts { Gives result (few_at max_workers Reason.TooManyWorkers (array_at command_at)
+        (view value.now)) }
     ensures few { IfOk result (λ scripts. length scripts ≤ max_workers) }
 {
     let Some(items) = value.as_array() else {

@@ -59,7 +59,8 @@ pub(crate) fn check_id(alloc: Global, ids: &mut SeenIds, id: &Id) -> Result<(), 
 #[tactic(auto, unfolding(crate::specs::Checks::terminal_reasons))]
 pub(crate) fn check_terminal(alloc: Global, counts: Counts) -> Result<(), ReadError>
     ensures check { Gives result (terminal_reasons counts.nodes counts.edges counts.switches) }
-    ensures room { OnOk result ((counts.nodes < 1024) × (counts.edges < 4096) × (counts.switches < 200000)) }
+    ensures room { OnOk result ((counts.nodes < 1024) × (counts.edges < 4096)
+        × (counts.switches < 200000)) }
 {
     if counts.nodes >= MOST_NODES {
         return Err(refused(alloc, EditFault::TooManyNodes));
@@ -101,7 +102,8 @@ pub(crate) fn check_level_itself(
     levels: usize,
     level: &ConfiguredLevel,
 ) -> Result<(), ReadError>
-    ensures check { Gives result (level_reasons (has_id ids.old level.now.id) levels (level_fault level.now.nominal_v None None)) }
+    ensures check { Gives result (level_reasons (has_id ids.old level.now.id) levels
+        (level_fault level.now.nominal_v None None)) }
     ensures known { OnOk result (Knows ids.new (ids.old ++ level.now.id ∷ [])) }
     ensures new { OnOk result (has_id ids.old level.now.id ≡ false) }
 {
@@ -141,7 +143,9 @@ fn has_both(buses: &SeenIds, switch: &BusSwitch) -> bool
 // The two buses of a switch, in a level with these buses.
 #[tactic(auto, unfolding(crate::specs::Checks::buses_reasons))]
 fn check_buses_of(alloc: Global, buses: &SeenIds, switch: &BusSwitch) -> Result<(), ReadError>
-    ensures { Gives result (buses_reasons (has_id buses.now switch.now.bus1 && has_id buses.now switch.now.bus2) (same_id switch.now.bus1 switch.now.bus2)) }
+    ensures { Gives result (buses_reasons
+        (has_id buses.now switch.now.bus1 && has_id buses.now switch.now.bus2) (same_id
+        switch.now.bus1 switch.now.bus2)) }
 {
     if !has_both(buses, switch) {
         return Err(ReadError::here(alloc, Reason::NoBus));
@@ -162,7 +166,9 @@ pub(crate) fn check_switch(
     switches: usize,
     switch: &BusSwitch,
 ) -> Result<(), ReadError>
-    ensures check { Gives result (switch_reasons (has_id ids.old switch.now.id) (has_id buses.now switch.now.bus1 && has_id buses.now switch.now.bus2) (same_id switch.now.bus1 switch.now.bus2) edges switches) }
+    ensures check { Gives result (switch_reasons (has_id ids.old switch.now.id)
+        (has_id buses.now switch.now.bus1 && has_id buses.now switch.now.bus2)
+        (same_id switch.now.bus1 switch.now.bus2) edges switches) }
     ensures known { OnOk result (Knows ids.new (ids.old ++ switch.now.id ∷ [])) }
     ensures room { OnOk result ((edges < 4096) × (switches < 200000)) }
 {
@@ -186,9 +192,12 @@ pub(crate) fn check_item(
     counts: Counts,
     item: &Item,
 ) -> Result<(), ReadError>
-    ensures check { Gives result (item_reasons (has_id ids.old item.now.id) (has_id buses.now item.now.bus) (injection_fault item.now.item) counts.nodes counts.edges counts.switches) }
+    ensures check { Gives result (item_reasons (has_id ids.old item.now.id)
+        (has_id buses.now item.now.bus) (injection_fault item.now.item) counts.nodes counts.edges
+        counts.switches) }
     ensures known { OnOk result (Knows ids.new (ids.old ++ item.now.id ∷ [])) }
-    ensures room { OnOk result ((counts.nodes < 1024) × (counts.edges < 4096) × (counts.switches < 200000)) }
+    ensures room { OnOk result ((counts.nodes < 1024) × (counts.edges < 4096)
+        × (counts.switches < 200000)) }
 {
     check_id(alloc, ids, &item.id)?;
     if !buses.has(&item.bus) {

@@ -26,7 +26,8 @@ fn run(
     requires plain { All (All IsConfiguredRequest) scripts.now }
     requires order { IsOrder scripts.now order.now }
     ensures world { OnOk result (world.new ≡ history_of world.old.network scripts.now order.now) }
-    ensures replies { IfOk result (λ replies. replies ≡ replies_of world.old.network (steps_of scripts.now order.now)) }
+    ensures replies { IfOk result (λ replies. replies
+        ≡ replies_of world.old.network (steps_of scripts.now order.now)) }
 {
     let mut replies = Seq::empty(alloc);
     let mut cursors: Vec<usize> = vec![in alloc; 0; scripts.len()]?;
@@ -44,7 +45,8 @@ fn run(
 fn level_views(alloc: Global, world: &ConfiguredWorld, name: &Id) -> Result<ConfiguredViews, Memory>
     requires live { IsTrue (is_live world.now.steps name.now) }
     requires few { length world.now.network.levels ≤ max_levels }
-    ensures { IfOk result (λ views. views ≡ (variant_view world.now.network world.now.steps name.now).views) }
+    ensures { IfOk result (λ views. views
+        ≡ (variant_view world.now.network world.now.steps name.now).views) }
 {
     let mut views = Seq::empty(alloc);
     for level in 0..world.network().levels.len() as u32 {
@@ -62,7 +64,8 @@ fn view_variant(
 ) -> Result<ConfiguredVariant, Memory>
     requires place { place < length (live world.now.steps) }
     requires few { length world.now.network.levels ≤ max_levels }
-    ensures { IfOk result (λ view. option_map (variant_view world.now.network world.now.steps) (slice_get (live world.now.steps) place) ≡ Some view) }
+    ensures { IfOk result (λ view. option_map (variant_view world.now.network world.now.steps)
+        (slice_get (live world.now.steps) place) ≡ Some view) }
 {
     let name = world.variant_name(place);
     let views = level_views(alloc, world, name)?;
@@ -119,7 +122,8 @@ pub fn run_configured(
     requires plain { All (All IsConfiguredRequest) scripts.now }
     requires few { length scripts.now ≤ max_workers }
     requires order { IsOrder scripts.now order.now }
-    ensures { IfOk result (λ outcome. outcome ≡ report_after (history_of network scripts.now order.now)) }
+    ensures { IfOk result (λ outcome. outcome
+        ≡ report_after (history_of network scripts.now order.now)) }
 {
     let workers = scripts.len() as u32;
     let mut world = ConfiguredWorld::start(alloc, network, workers)?;

@@ -12,7 +12,7 @@ use grid_report::{ReportFault, write_blocks};
 use grid_source::Sink;
 use std::alloc::Global;
 
-/// Writes the report of what came of a job with configured buses, in pieces of `PIECE` bytes of `grid_report`, the last one
+/// Writes the report of what came of a job with configured buses, in pieces of `PIECE` bytes of `grid_source`, the last one
 /// shorter: the order of the steps, each worker's steps with their replies, and each live variant with the views of its levels. It
 /// stops only where the sink's count of faults rose, which is as before after every other answer; after that, or want of memory, a
 /// front of the text was written.
@@ -21,10 +21,13 @@ pub fn write_configured<K: Sink>(
     outcome: &ConfiguredOutcome,
     sink: &mut K,
 ) -> Result<(), ReportFault>
-    ensures ok { OnOk result (Appends (K.written sink.old) (K.written sink.new) (report_of outcome.now)) }
-    ensures err { OnErr result (IsBegun (K.written sink.old) (report_of outcome.now) (K.written sink.new)) }
+    ensures ok { OnOk result (Appends (K.written sink.old) (K.written sink.new)
+        (report_of outcome.now)) }
+    ensures err { OnErr result (IsBegun (K.written sink.old) (report_of outcome.now)
+        (K.written sink.new)) }
     ensures later { K.faults sink.old ≤ K.faults sink.new }
-    ensures cause { result ≡ Err ReportFault.Stopped → Rose (K.faults sink.old) (K.faults sink.new) }
+    ensures cause { result ≡ Err ReportFault.Stopped
+        → Rose (K.faults sink.old) (K.faults sink.new) }
     ensures stays { result ≢ Err ReportFault.Stopped → K.faults sink.new ≡ K.faults sink.old }
 {
     let blocks = match plan(alloc, outcome) {

@@ -59,7 +59,8 @@ fn count_of(ends: &BTreeMap<Id, u32>, level: &Id) -> u32
 
 // So many ends are in the level of an id.
 fn put_count(ends: &mut BTreeMap<Id, u32>, level: &Id, count: u32) -> Result<(), Memory>
-    ensures { OnOk result ((q : List ℕ) → count_at ends.new q ≡ (if bytes_eq level.now q then count else count_at ends.old q)) }
+    ensures { OnOk result ((q : List ℕ) → count_at ends.new q
+        ≡ (if bytes_eq level.now q then count else count_at ends.old q)) }
 {
     let name = level.copy()?;
     match ends.insert(name, count) {
@@ -70,7 +71,8 @@ fn put_count(ends: &mut BTreeMap<Id, u32>, level: &Id, count: u32) -> Result<(),
 
 // Keeps what a level has under its id.
 fn put_tally(levels: &mut BTreeMap<Id, Tally>, level: &Id, tally: Tally) -> Result<(), Memory>
-    ensures { OnOk result ((q : List ℕ) → tally_at levels.new q ≡ (if bytes_eq level.now q then Some tally else tally_at levels.old q)) }
+    ensures { OnOk result ((q : List ℕ) → tally_at levels.new q
+        ≡ (if bytes_eq level.now q then Some tally else tally_at levels.old q)) }
 {
     let name = level.copy()?;
     match levels.insert(name, tally) {
@@ -97,7 +99,8 @@ fn spot_in(tally: &Tally, bus: &Id, ends: u32, switches: usize) -> Spot
 // The reasons against one more end.
 #[tactic(auto, unfolding(crate::specs::Checks::end_reasons))]
 fn check_spot(alloc: Global, spot: Spot) -> Result<(), ReadError>
-    ensures check { Gives result (end_reasons spot.there spot.counts.nodes spot.counts.edges spot.counts.switches) }
+    ensures check { Gives result (end_reasons spot.there spot.counts.nodes spot.counts.edges
+        spot.counts.switches) }
     ensures nodes { OnOk result (spot.counts.nodes < 1024) }
     ensures switches { OnOk result (spot.counts.switches < 200000) }
 {
@@ -127,8 +130,11 @@ impl Standing {
         requires nodes { level_nodes level.now ≤ 1024 }
         requires edges { level_edges level.now ≤ 4096 }
         requires switches { (self.old.switches + level_edges level.now) ≤ 200000 }
-        ensures levels { OnOk result ((q : List ℕ) → tally_at self.new.levels q ≡ (if bytes_eq level.now.id q then Some (tally_of buses level.now) else tally_at self.old.levels q)) }
-        ensures switches { OnOk result (self.new.switches ≡ self.old.switches + level_edges level.now) }
+        ensures levels { OnOk result ((q : List ℕ) → tally_at self.new.levels q
+            ≡ (if bytes_eq level.now.id q then Some (tally_of buses level.now) else tally_at
+            self.old.levels q)) }
+        ensures switches { OnOk result (self.new.switches
+            ≡ self.old.switches + level_edges level.now) }
         ensures ids { self.new.ids ≡ self.old.ids }
         ensures ends { self.new.ends ≡ self.old.ends }
     {
@@ -151,8 +157,12 @@ impl Standing {
         level: &ConfiguredLevel,
     ) -> Result<(), ReadError>
         requires { self.old.switches ≤ 200000 }
-        ensures check { (earlier : List LevelAt) → Stands (ids_of earlier) earlier [] self.old → length earlier ≡ place → Gives result (level_check earlier level.now) }
-        ensures stands { OnOk result ((earlier : List LevelAt) → Stands (ids_of earlier) earlier [] self.old → Stands (ids_of (earlier ++ level.now ∷ [])) (earlier ++ level.now ∷ []) [] self.new) }
+        ensures check { (earlier : List LevelAt) → Stands (ids_of earlier) earlier [] self.old
+            → length earlier ≡ place
+            → Gives result (level_check earlier level.now) }
+        ensures stands { OnOk result ((earlier : List LevelAt) → Stands (ids_of earlier) earlier []
+            self.old
+            → Stands (ids_of (earlier ++ level.now ∷ [])) (earlier ++ level.now ∷ []) [] self.new) }
         ensures few { OnOk result (self.new.switches ≤ 200000) }
     {
         check_level_itself(alloc, &mut self.ids, place, level)?;
@@ -167,7 +177,10 @@ impl Standing {
     // What an end finds of its level; None exactly where no level has its id.
     #[tactic(auto, unfolding(crate::specs::Standing::tally_at))]
     fn find(&self, end: &BusEnd) -> Option<Spot>
-        ensures spot { result ≡ option_map (spot_of end.now.bus (count_at self.now.ends end.now.level) self.now.switches) (tally_at self.now.levels end.now.level) }
+        ensures spot { result
+            ≡ option_map
+            (spot_of end.now.bus (count_at self.now.ends end.now.level) self.now.switches)
+            (tally_at self.now.levels end.now.level) }
         ensures within { IfSome result (λ spot. spot.ends ≤ spot.counts.nodes) }
         ensures switches { IfSome result (λ spot. spot.counts.switches ≡ self.now.switches) }
         ensures ends { IfSome result (λ spot. spot.ends ≡ count_at self.now.ends end.now.level) }
@@ -187,7 +200,8 @@ impl Standing {
     fn keep_end(&mut self, end: &BusEnd, ends: u32) -> Result<(), Memory>
         requires ends { ends < 1024 }
         requires switches { self.old.switches < 200000 }
-        ensures ends { OnOk result ((q : List ℕ) → count_at self.new.ends q ≡ (if bytes_eq end.now.level q then ends + 1 else count_at self.old.ends q)) }
+        ensures ends { OnOk result ((q : List ℕ) → count_at self.new.ends q
+            ≡ (if bytes_eq end.now.level q then ends + 1 else count_at self.old.ends q)) }
         ensures switches { OnOk result (self.new.switches ≡ self.old.switches + 1) }
         ensures ids { self.new.ids ≡ self.old.ids }
         ensures levels { self.new.levels ≡ self.old.levels }
@@ -199,8 +213,13 @@ impl Standing {
 
     /// An end of a line, which stands from then on.
     pub fn check_end(&mut self, alloc: Global, end: &BusEnd) -> Result<(), ReadError>
-        ensures check { (ids : List (List ℕ)) (levels : List LevelAt) (ends : List EndAt) → Stands ids levels ends self.old → Gives result (end_check levels ends end.now) }
-        ensures stands { OnOk result ((ids : List (List ℕ)) (levels : List LevelAt) (ends : List EndAt) → Stands ids levels ends self.old → Stands ids levels (ends ++ end.now ∷ []) self.new) }
+        ensures check { (ids : List (List ℕ)) (levels : List LevelAt) (ends : List EndAt)
+            → Stands ids levels ends self.old
+            → Gives result (end_check levels ends end.now) }
+        ensures stands { OnOk result ((ids : List (List ℕ)) (levels : List LevelAt) (ends : List
+            EndAt)
+            → Stands ids levels ends self.old
+            → Stands ids levels (ends ++ end.now ∷ []) self.new) }
     {
         let Some(spot) = self.find(end) else {
             return Err(refused(alloc, EditFault::NoLevel));

@@ -67,7 +67,8 @@ fn bus_node(structure: &Structure, bus: &Id) -> u16
 // How many nodes a level has, which is there: the next one's number.
 fn next_node(structure: &Structure, level: &Id) -> u32
     requires { IsSome (sites.level_named structure.now level.now) }
-    ensures { IfSome (sites.level_named structure.now level.now) (λ level. result ≡ length (nodes level)) }
+    ensures { IfSome (sites.level_named structure.now level.now) (λ level. result
+        ≡ length (nodes level)) }
 {
     match structure.find_level(level) {
         Some(place) => structure.level(place).node_count(),
@@ -246,8 +247,10 @@ fn add_breaker(
     bus: i64,
     node: i64,
 ) -> Result<(), ApplyFault>
-    ensures done { OnOk result (editing.apply structure.old (Edit.AddSwitch id.now end.now.level SwitchKind.Breaker bus node (not end.now.connected) false false) ≡ Ok structure.new) }
-    ensures refused { IfErr result (IsTold (editing.apply structure.old (Edit.AddSwitch id.now end.now.level SwitchKind.Breaker bus node (not end.now.connected) false false))) }
+    ensures done { OnOk result (editing.apply structure.old (Edit.AddSwitch id.now end.now.level
+        SwitchKind.Breaker bus node (not end.now.connected) false false) ≡ Ok structure.new) }
+    ensures refused { IfErr result (IsTold (editing.apply structure.old (Edit.AddSwitch id.now
+        end.now.level SwitchKind.Breaker bus node (not end.now.connected) false false))) }
 {
     structure.add_switch(
         id,

@@ -120,7 +120,8 @@ impl ConfiguredWorld {
     // Whether a worker's working variant is live.
     fn is_live(&self, worker: u32) -> bool
         requires { worker < self.now.workers }
-        ensures { result ≡ histories.is_live self.now.steps (histories.working self.now.steps worker) }
+        ensures { result
+            ≡ histories.is_live self.now.steps (histories.working self.now.steps worker) }
     {
         match self.world.slot(worker) {
             Some(_) => true,
@@ -144,7 +145,9 @@ impl ConfiguredWorld {
     // The reply to a worker that asks for the view of a level.
     fn reply_view(&self, worker: u32, level: &Id) -> Result<ConfiguredReply, Memory>
         requires { worker < self.now.workers }
-        ensures { IfOk result (λ r. r ≡ configured.reply_to self.now.network self.now.steps worker (Request.BusView level.now)) }
+        ensures { IfOk result (λ r. r
+            ≡ configured.reply_to self.now.network self.now.steps worker
+            (Request.BusView level.now)) }
     {
         let structure = self.world.structure();
         if !self.is_live(worker) {
@@ -166,7 +169,8 @@ impl ConfiguredWorld {
         requires worker { worker < self.old.workers }
         requires view { request.now ≡ Request.BusView level.now }
         requires plain { IsConfiguredRequest request.now }
-        ensures reply { IfOk result (λ r. r ≡ configured.reply self.old.network self.old.steps (command worker request.now)) }
+        ensures reply { IfOk result (λ r. r
+            ≡ configured.reply self.old.network self.old.steps (command worker request.now)) }
         ensures ok { OnOk result (self.new ≡ longer self.old (command worker request.now)) }
         ensures err { OnErr result (self.new ≡ self.old) }
     {
@@ -180,7 +184,8 @@ impl ConfiguredWorld {
         requires worker { worker < self.old.workers }
         requires asked { IsTerminalAsked id.now request.now }
         requires plain { IsConfiguredRequest request.now }
-        ensures reply { IfOk result (λ r. r ≡ configured.reply self.old.network self.old.steps (command worker request.now)) }
+        ensures reply { IfOk result (λ r. r
+            ≡ configured.reply self.old.network self.old.steps (command worker request.now)) }
         ensures ok { OnOk result (self.new ≡ longer self.old (command worker request.now)) }
         ensures err { OnErr result (self.new ≡ self.old) }
     {
@@ -195,7 +200,8 @@ impl ConfiguredWorld {
         requires worker { worker < self.old.workers }
         requires asked { IsPassed request.now }
         requires plain { IsConfiguredRequest request.now }
-        ensures reply { IfOk result (λ r. r ≡ configured.reply self.old.network self.old.steps (command worker request.now)) }
+        ensures reply { IfOk result (λ r. r
+            ≡ configured.reply self.old.network self.old.steps (command worker request.now)) }
         ensures ok { OnOk result (self.new ≡ longer self.old (command worker request.now)) }
         ensures err { OnErr result (self.new ≡ self.old) }
     {
@@ -209,7 +215,8 @@ impl ConfiguredWorld {
     pub fn step(&mut self, worker: u32, request: &Request) -> Result<ConfiguredReply, Memory>
         requires worker { worker < self.old.workers }
         requires plain { IsConfiguredRequest request.now }
-        ensures reply { IfOk result (λ r. r ≡ configured.reply self.old.network self.old.steps (command worker request.now)) }
+        ensures reply { IfOk result (λ r. r
+            ≡ configured.reply self.old.network self.old.steps (command worker request.now)) }
         ensures ok { OnOk result (self.new ≡ longer self.old (command worker request.now)) }
         ensures err { OnErr result (self.new ≡ self.old) }
     {
@@ -258,7 +265,8 @@ impl ConfiguredWorld {
     pub fn view(&self, name: &Id, level: u32) -> Result<ConfiguredView, Memory>
         requires live { IsTrue (histories.is_live self.now.steps name.now) }
         requires level { level < length self.now.network.levels }
-        ensures { IfOk result (λ view. configured.view self.now.network self.now.steps name.now level ≡ Some view) }
+        ensures { IfOk result (λ view. configured.view self.now.network self.now.steps name.now
+            level ≡ Some view) }
     {
         self.seen(self.world.opened_in(name), level)
     }

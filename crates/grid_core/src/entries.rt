@@ -38,7 +38,8 @@ pub(crate) fn begin(
 pub(crate) fn enter(journal: &mut Vec<Entry>, worker: u32, begun: Begun, made: Made) -> Reply
     requires { vec_len journal.old < vec_capacity journal.old }
     ensures reply { result ≡ made.reply }
-    ensures entry { journal.new.items ≡ journal.old.items ++ entry_made worker begun.variant begun.asked made ∷ [] }
+    ensures entry { journal.new.items
+        ≡ journal.old.items ++ entry_made worker begun.variant begun.asked made ∷ [] }
 {
     let Begun { variant, asked } = begun;
     let Made {

@@ -56,7 +56,9 @@ pub(crate) fn plan_verdict(
     opens: bool,
 ) -> Result<Verdict, Memory>
     requires { RowsFit structure.now opened.now }
-    ensures { IfOk result (λ verdict. (retained : List (List Bool)) (powers : Listed) → IsFound (state_seen structure.now opened.now retained powers) (operating id.now side opens) verdict) }
+    ensures { IfOk result (λ verdict. (retained : List (List Bool)) (powers : Listed)
+        → IsFound (state_seen structure.now opened.now retained powers)
+        (operating id.now side opens) verdict) }
 {
     let at = match find_site(structure, id, side) {
         Ok(at) => at,

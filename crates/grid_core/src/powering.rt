@@ -41,7 +41,8 @@ impl Machine {
     ) -> Result<Made, Memory>
         requires held { IsMachine self.old }
         requires works { WorksOn self.old worker variant.now }
-        ensures made { IfOk result (Steps self.old self.new worker (Request.SetPower id.now watts)) }
+        ensures made { IfOk result (Steps self.old self.new worker
+            (Request.SetPower id.now watts)) }
         ensures same { OnErr result (IsSame self.old self.new) }
         ensures count { length self.new.working.items ≡ length self.old.working.items }
     {

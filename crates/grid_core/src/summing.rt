@@ -15,7 +15,9 @@ use grid_watts::{gain, lose, powered};
 pub(crate) fn gain_each(powers: &mut Vec<Powers>, id: &Id, stand: &Stand)
     requires { All HasRoom powers.old.items }
     ensures moved { powers.new.items ≡ map (moves.gained id.now stand.now) powers.old.items }
-    ensures narrow { All (λ (p : PowerList). IsTrue (is_narrow (watts.watts_for p.listed id.now stand.now))) powers.old.items }
+    ensures narrow { All
+        (λ (p : PowerList). IsTrue (is_narrow (watts.watts_for p.listed id.now stand.now)))
+        powers.old.items }
 {
     for place in 0..powers.len() {
         gain(&mut powers[place], id, stand);

@@ -43,7 +43,8 @@ impl<L: Listener> Subscription<L> {
     // Tells the listener the event, where the filter matches.
     #[tactic(auto, unfolding(crate::specs::Hearing::after_event, crate::specs::Hearing::hearing))]
     fn hear(&mut self, event: &Event) -> Result<(), Memory>
-        ensures ok { OnOk result (hearing L.heard self.new ≡ after_event event.now (hearing L.heard self.old)) }
+        ensures ok { OnOk result (hearing L.heard self.new
+            ≡ after_event event.now (hearing L.heard self.old)) }
         ensures err { OnErr result (hearing L.heard self.new ≡ hearing L.heard self.old) }
     {
         if self.filter.matches(event) {
@@ -81,7 +82,8 @@ impl<L: Listener> Subscriptions<L> {
 
     /// Puts a listener last. It comes back only for want of memory.
     pub fn subscribe(&mut self, filter: Filter, listener: L) -> Result<(), L>
-        ensures ok { OnOk result (self.new ≡ self.old ++ record { filter = filter; listener = listener } ∷ []) }
+        ensures ok { OnOk result (self.new
+            ≡ self.old ++ record { filter = filter; listener = listener } ∷ []) }
         ensures err { OnErr result (self.new ≡ self.old) }
         ensures back { IfErr result (λ same. same ≡ listener) }
     {
@@ -101,8 +103,10 @@ impl<L: Listener> Subscriptions<L> {
     /// Tells the event to every listener whose filter matches, as its last one; the others are as before. After want
     /// of memory the matching listeners before some place have heard it, and those from that place on are as before.
     pub fn hear(&mut self, event: &Event) -> Result<(), Memory>
-        ensures ok { OnOk result (hearings L.heard self.new ≡ map (after_event event.now) (hearings L.heard self.old)) }
-        ensures err { OnErr result (IsToldBefore event.now (hearings L.heard self.old) (hearings L.heard self.new)) }
+        ensures ok { OnOk result (hearings L.heard self.new
+            ≡ map (after_event event.now) (hearings L.heard self.old)) }
+        ensures err { OnErr result (IsToldBefore event.now (hearings L.heard self.old)
+            (hearings L.heard self.new)) }
     {
         for place in 0..self.items.len() {
             match self.items[place].hear(event) {
@@ -116,8 +120,10 @@ impl<L: Listener> Subscriptions<L> {
     /// Tells the events one after the other, each to every listener whose filter matches. After want of memory those
     /// before some event have been told, that event stands as `hear` leaves it, and no later one has been told.
     pub fn hear_all(&mut self, events: &[Event]) -> Result<(), Memory>
-        ensures ok { OnOk result (hearings L.heard self.new ≡ map (after_events events.now) (hearings L.heard self.old)) }
-        ensures err { OnErr result (IsToldInPart events.now (hearings L.heard self.old) (hearings L.heard self.new)) }
+        ensures ok { OnOk result (hearings L.heard self.new
+            ≡ map (after_events events.now) (hearings L.heard self.old)) }
+        ensures err { OnErr result (IsToldInPart events.now (hearings L.heard self.old)
+            (hearings L.heard self.new)) }
     {
         for event in events {
             match self.hear(event) {

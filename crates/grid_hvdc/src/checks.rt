@@ -72,9 +72,11 @@ impl Named {
         structure: &Structure,
         line: &HvdcLine,
     ) -> Result<(), ReadError>
-        ensures check { Gives result (line_check structure.now self.old.ids self.old.stations line.now) }
+        ensures check { Gives result (line_check structure.now self.old.ids self.old.stations
+            line.now) }
         ensures ids { OnOk result (Knows self.new.ids (self.old.ids ++ line.now.id ∷ [])) }
-        ensures stations { OnOk result (Knows self.new.stations ((self.old.stations ++ line.now.station1 ∷ []) ++ line.now.station2 ∷ [])) }
+        ensures stations { OnOk result (Knows self.new.stations ((self.old.stations
+            ++ line.now.station1 ∷ []) ++ line.now.station2 ∷ [])) }
     {
         check_id(&mut self.ids, alloc, structure, &line.id)?;
         check_station(&mut self.stations, alloc, structure, 1, &line.station1)?;

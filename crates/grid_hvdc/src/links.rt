@@ -55,7 +55,8 @@ pub(crate) fn link_pairs(
     lines: &[HvdcLine],
 ) -> Result<Pairs, Memory>
     requires { length rows.now ≡ length (levels structure.now) }
-    ensures { IfOk result (λ links. links ≡ flat_map (links_of_line structure.now rows.now) lines.now) }
+    ensures { IfOk result (λ links. links
+        ≡ flat_map (links_of_line structure.now rows.now) lines.now) }
 {
     let mut links = Pairs::empty(alloc);
     for line in lines {

@@ -53,7 +53,8 @@ fn put_lines(
     numbers: &[HvdcNumber],
 ) -> Result<(), Memory>
     requires { LevelsThere structure.now names.now }
-    ensures ok { OnOk result (out.new ≡ out.old ++ flat_map (named_line structure.now) (zip names.now numbers.now)) }
+    ensures ok { OnOk result (out.new
+        ≡ out.old ++ flat_map (named_line structure.now) (zip names.now numbers.now)) }
     ensures err { OnErr result (out.new ≡ []) }
 {
     for (name, number) in names.iter().zip(numbers) {
@@ -78,7 +79,8 @@ fn number_buses(
 ) -> Result<NumberedBuses, Memory>
     requires { RowsFit structure.now opened.now }
     ensures names { IfOk result (λ buses. buses.names ≡ bus_names structure.now opened.now) }
-    ensures numbers { IfOk result (λ buses. (retained : List (List Bool)) → NumbersOf structure.now (islands.network_buses structure.now opened.now retained) lines.now buses.numbers) }
+    ensures numbers { IfOk result (λ buses. (retained : List (List Bool)) → NumbersOf structure.now
+        (islands.network_buses structure.now opened.now retained) lines.now buses.numbers) }
 {
     let all = list_buses(alloc, structure, opened)?;
     let branches = bus_pairs(alloc, structure, all.numbered.rows.slice())?;
@@ -114,7 +116,8 @@ pub fn put_variant(
     lines: &[HvdcLine],
 ) -> Result<(), Memory>
     requires { RowsFit structure.now opened.now }
-    ensures ok { OnOk result ((retained : List (List Bool)) → out.new ≡ out.old ++ variant_text name.now structure.now opened.now retained lines.now) }
+    ensures ok { OnOk result ((retained : List (List Bool)) → out.new
+        ≡ out.old ++ variant_text name.now structure.now opened.now retained lines.now) }
     ensures err { OnErr result (out.new ≡ []) }
 {
     let buses = match number_buses(alloc, structure, opened, lines) {

@@ -245,7 +245,8 @@ fn remove_internal_of(alloc: Global, format: Format, value: &Value) -> Result<Ed
 
 /// The members of an added injection of a kind.
 fn names_of_injection(kind: InjectionKind) -> &'static [&'static str]
-    ensures { texts result.now ≡ codes "do" ∷ codes "kind" ∷ codes "id" ∷ codes "level" ∷ codes "node" ∷ item_names kind }
+    ensures { texts result.now
+        ≡ codes "do" ∷ codes "kind" ∷ codes "id" ∷ codes "level" ∷ codes "node" ∷ item_names kind }
 {
     match kind {
         InjectionKind::Load => &["do", "kind", "id", "level", "node", "p0", "q0"],

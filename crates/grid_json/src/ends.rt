@@ -79,7 +79,8 @@ fn three_of<T: FromJson>(
     second: &Value,
     third: &Value,
 ) -> Result<Three<T>, ReadError>
-    ensures { Gives result (all_three (T.reads format) (view first.now) (view second.now) (view third.now)) }
+    ensures { Gives result (all_three (T.reads format) (view first.now) (view second.now)
+        (view third.now)) }
 {
     let first = item(alloc, format, first, 0)?;
     let second = item(alloc, format, second, 1)?;

@@ -194,7 +194,8 @@ pub fn optional_order(
 
 // The listeners, or none.
 fn listeners_of(alloc: Global, format: Format, value: &Value) -> Result<Filters, ReadError>
-    ensures { Gives result (member_or [] (listeners_at format) (codes "listeners") (view value.now)) }
+    ensures { Gives result (member_or [] (listeners_at format) (codes "listeners")
+        (view value.now)) }
 {
     let none = Listeners {
         filters: Seq::empty(alloc),
@@ -206,7 +207,8 @@ fn listeners_of(alloc: Global, format: Format, value: &Value) -> Result<Filters,
 // The scripts, or none.
 #[tactic(auto, unfolding(crate::specs::Job::command_total))]
 fn scripts_of(alloc: Global, format: Format, value: &Value) -> Result<Scripts, ReadError>
-    ensures scripts { Gives result (member_or [] (workers_at format) (codes "workers") (view value.now)) }
+    ensures scripts { Gives result (member_or [] (workers_at format) (codes "workers")
+        (view value.now)) }
     ensures few { IfOk result (λ scripts. length scripts ≤ 32) }
     ensures total { IfOk result (λ scripts. command_total scripts ≤ max_commands) }
 {

@@ -134,7 +134,9 @@ fn add_level(
     substation: &Id,
     structure: &mut Structure,
 ) -> Result<(), ReadError>
-    ensures { Leads structure.new result (edited (Edit.AddLevel level.now.id substation.now level.now.nominal_v level.now.low_v level.now.high_v) structure.old) }
+    ensures { Leads structure.new result (edited
+        (Edit.AddLevel level.now.id substation.now level.now.nominal_v level.now.low_v
+        level.now.high_v) structure.old) }
 {
     let answer = structure.add_level(
         &level.id,

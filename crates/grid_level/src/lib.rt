@@ -128,9 +128,12 @@ impl Model for Level {
 
     ghost Value = { VoltageLevel };
 
-    ghost view = { λ a. lists_of a.id a.nominal_v a.low_v a.high_v a.switches.items a.internals.items a.placed.items };
+    ghost view = { λ a. lists_of a.id a.nominal_v a.low_v a.high_v a.switches.items
+        a.internals.items a.placed.items };
 
-    ghost invariant = { λ a. IsKept (lists_of a.id a.nominal_v a.low_v a.high_v a.switches.items a.internals.items a.placed.items) a.uses };
+    ghost invariant = { λ a. IsKept
+        (lists_of a.id a.nominal_v a.low_v a.high_v a.switches.items a.internals.items
+        a.placed.items) a.uses };
 }
 
 // The node of this number.
@@ -206,10 +209,13 @@ impl Level {
         retained: bool,
         fictitious: bool,
     ) -> Result<u32, LevelFault>
-        ensures done { OnOk result (edits.level_with_switch self.old id kind node1 node2 opened retained fictitious ≡ Ok self.new) }
+        ensures done { OnOk result (edits.level_with_switch self.old id kind node1 node2 opened
+            retained fictitious ≡ Ok self.new) }
         ensures place { IfOk result (λ place. place ≡ length self.old.switches) }
         ensures same { OnErr result (self.new ≡ self.old) }
-        ensures refused { IfErr result (λ fault. fault ≡ refusal_of (edits.level_with_switch self.old id kind node1 node2 opened retained fictitious)) }
+        ensures refused { IfErr result (λ fault. fault
+            ≡ refusal_of (edits.level_with_switch self.old id kind node1 node2 opened retained
+            fictitious)) }
     {
         let (a, b) = match self.edge_fits(node1, node2) {
             Ok(pair) => pair,
@@ -254,7 +260,8 @@ impl Level {
     pub fn add_internal(&mut self, node1: i64, node2: i64) -> Result<(), LevelFault>
         ensures done { OnOk result (edits.level_with_internal self.old node1 node2 ≡ Ok self.new) }
         ensures same { OnErr result (self.new ≡ self.old) }
-        ensures refused { IfErr result (λ fault. fault ≡ refusal_of (edits.level_with_internal self.old node1 node2)) }
+        ensures refused { IfErr result (λ fault. fault
+            ≡ refusal_of (edits.level_with_internal self.old node1 node2)) }
     {
         let (a, b) = match self.edge_fits(node1, node2) {
             Ok(pair) => pair,
@@ -277,9 +284,11 @@ impl Level {
     /// Takes the first internal connection that joins the two nodes, in either order, out. Refuses with NoEdge
     /// alone, and takes no memory.
     pub fn remove_internal(&mut self, node1: i64, node2: i64) -> Result<(), LevelFault>
-        ensures done { OnOk result (edits.level_without_internal self.old node1 node2 ≡ Ok self.new) }
+        ensures done { OnOk result (edits.level_without_internal self.old node1 node2
+            ≡ Ok self.new) }
         ensures same { OnErr result (self.new ≡ self.old) }
-        ensures refused { IfErr result (λ fault. fault ≡ refusal_of (edits.level_without_internal self.old node1 node2)) }
+        ensures refused { IfErr result (λ fault. fault
+            ≡ refusal_of (edits.level_without_internal self.old node1 node2)) }
         ensures sure { IfErr result (λ fault. fault ≡ LevelFault.NoEdge) }
     {
         let place = match place_of_joining(self.internals.as_slice(), node1, node2) {
@@ -301,8 +310,10 @@ impl Level {
     // The node of a new terminal, with its place among those that are placed.
     fn terminal_fits(&self, node: i64) -> Result<(u16, usize), LevelFault>
         ensures fits { IfOk result (λ pair. edits.terminal_fits self.now node ≡ Ok pair.0) }
-        ensures place { IfOk result (λ pair. pair.1 ≡ place_among (λ p. p.node) pair.0 self.now.placed) }
-        ensures refused { IfErr result (λ fault. fault ≢ LevelFault.Memory → fault ≡ refusal_of (edits.terminal_fits self.now node)) }
+        ensures place { IfOk result (λ pair. pair.1
+            ≡ place_among (λ p. p.node) pair.0 self.now.placed) }
+        ensures refused { IfErr result (λ fault. fault ≢ LevelFault.Memory
+            → fault ≡ refusal_of (edits.terminal_fits self.now node)) }
     {
         let number = match node_of(node) {
             Ok(number) => number,
@@ -328,9 +339,11 @@ impl Level {
         terminal: Terminal,
         stand: Stand,
     ) -> Result<(), LevelFault>
-        ensures done { OnOk result (edits.level_with_terminal self.old node terminal stand ≡ Ok self.new) }
+        ensures done { OnOk result (edits.level_with_terminal self.old node terminal stand
+            ≡ Ok self.new) }
         ensures same { OnErr result (self.new ≡ self.old) }
-        ensures refused { IfErr result (λ fault. fault ≢ LevelFault.Memory → fault ≡ refusal_of (edits.level_with_terminal self.old node terminal stand)) }
+        ensures refused { IfErr result (λ fault. fault ≢ LevelFault.Memory
+            → fault ≡ refusal_of (edits.level_with_terminal self.old node terminal stand)) }
     {
         let (number, place) = match self.terminal_fits(node) {
             Ok(pair) => pair,

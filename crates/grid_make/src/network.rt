@@ -140,7 +140,8 @@ impl Feeder {
         opened: bool,
     ) -> Result<Edit, Memory>
         requires { IsTrue (is_piece 16 letter.now) }
-        ensures { IfOk result (λ edit. edit ≡ switch_edit self.level self.number letter.now kind node1 node2 opened) }
+        ensures { IfOk result (λ edit. edit
+            ≡ switch_edit self.level self.number letter.now kind node1 node2 opened) }
     {
         Ok(Edit::AddSwitch {
             id: feeder_switch(alloc, self.level, self.number, letter)?,
@@ -172,8 +173,10 @@ impl Feeder {
     #[tactic(auto, unfolding(crate::specs::MadeNetwork::feeder_edits, crate::specs::MadeNetwork::unrefused))]
     fn add(self, alloc: Global, structure: &mut Structure, draws: &mut Draws) -> Result<(), Memory>
         requires number { self.number < 4 }
-        requires accepted { IsOk (unrefused (feeder_edits self.level self.number draws.now) structure.now) }
-        ensures edits { OnOk result (unrefused (feeder_edits self.level self.number draws.old) structure.old ≡ Ok structure.new) }
+        requires accepted { IsOk (unrefused (feeder_edits self.level self.number draws.now)
+            structure.now) }
+        ensures edits { OnOk result (unrefused (feeder_edits self.level self.number draws.old)
+            structure.old ≡ Ok structure.new) }
         ensures draws { draws.new ≡ next draws.old }
     {
         let is_odd = draws.next() % 2 == 1;
@@ -199,7 +202,8 @@ fn add_feeders(
     level: u32,
 ) -> Result<(), Memory>
     requires { IsOk (unrefused (in_turn (feeder_edits level) next 0 4 draws.now) structure.now) }
-    ensures edits { OnOk result (unrefused (in_turn (feeder_edits level) next 0 4 draws.old) structure.old ≡ Ok structure.new) }
+    ensures edits { OnOk result (unrefused (in_turn (feeder_edits level) next 0 4 draws.old)
+        structure.old ≡ Ok structure.new) }
     ensures draws { OnOk result (draws.new ≡ later 4 draws.old) }
 {
     for number in 0..FEEDERS {
@@ -219,7 +223,8 @@ fn add_outlet(
     node2: u32,
 ) -> Result<(), Memory>
     requires { IsOk (unrefused (outlet_edits is_there level node1 node2) structure.now) }
-    ensures { OnOk result (unrefused (outlet_edits is_there level node1 node2) structure.old ≡ Ok structure.new) }
+    ensures { OnOk result (unrefused (outlet_edits is_there level node1 node2) structure.old
+        ≡ Ok structure.new) }
 {
     if is_there {
         change(structure, internal(alloc, level, node1, node2)?)
@@ -239,7 +244,8 @@ fn add_level(
 ) -> Result<(), Memory>
     requires level { level < size }
     requires accepted { IsOk (unrefused (level_edits size level draws.now) structure.now) }
-    ensures edits { OnOk result (unrefused (level_edits size level draws.old) structure.old ≡ Ok structure.new) }
+    ensures edits { OnOk result (unrefused (level_edits size level draws.old) structure.old
+        ≡ Ok structure.new) }
     ensures draws { OnOk result (draws.new ≡ later 5 draws.old) }
 {
     add_busbars(alloc, structure, level)?;
@@ -257,8 +263,10 @@ fn add_levels(
     draws: &mut Draws,
     size: u32,
 ) -> Result<(), Memory>
-    requires { IsOk (unrefused (in_turn (level_edits size) (later 5) 0 size draws.now) structure.now) }
-    ensures edits { OnOk result (unrefused (in_turn (level_edits size) (later 5) 0 size draws.old) structure.old ≡ Ok structure.new) }
+    requires { IsOk (unrefused (in_turn (level_edits size) (later 5) 0 size draws.now)
+        structure.now) }
+    ensures edits { OnOk result (unrefused (in_turn (level_edits size) (later 5) 0 size draws.old)
+        structure.old ≡ Ok structure.new) }
     ensures draws { OnOk result (draws.new ≡ later (5 * size) draws.old) }
 {
     for level in 0..size {
@@ -298,7 +306,8 @@ fn add_line(alloc: Global, structure: &mut Structure, level: u32) -> Result<(), 
 fn add_lines(alloc: Global, structure: &mut Structure, count: u32) -> Result<(), Memory>
     requires count { count < 1000 }
     requires accepted { IsOk (unrefused (in_turn line_edits same 0 count 0) structure.now) }
-    ensures { OnOk result (unrefused (in_turn line_edits same 0 count 0) structure.old ≡ Ok structure.new) }
+    ensures { OnOk result (unrefused (in_turn line_edits same 0 count 0) structure.old
+        ≡ Ok structure.new) }
 {
     for level in 0..count {
         add_line(alloc, structure, level)?;

@@ -51,7 +51,8 @@ fn push_commands(
 ) -> Result<(), Memory>
     requires some { 1 ≤ size }
     requires few { size ≤ 1000 }
-    ensures script { OnOk result (script.new ≡ script.old ++ in_turn (next_command size) next 0 (4 * size) draws.old) }
+    ensures script { OnOk result (script.new
+        ≡ script.old ++ in_turn (next_command size) next 0 (4 * size) draws.old) }
     ensures draws { OnOk result (draws.new ≡ later (4 * size) draws.old) }
 {
     for _ in 0..4 * size {
@@ -89,7 +90,8 @@ fn make_script(alloc: Global, draws: &mut Draws, size: u32, worker: u32) -> Resu
 pub fn make_scripts(alloc: Global, draws: &mut Draws, size: u32) -> Result<Scripts, Memory>
     requires some { 1 ≤ size }
     requires few { size ≤ 1000 }
-    ensures { IfOk result (λ scripts. scripts ≡ in_turn (worker_scripts size) (later (4 * size)) 0 4 draws.old) }
+    ensures { IfOk result (λ scripts. scripts
+        ≡ in_turn (worker_scripts size) (later (4 * size)) 0 4 draws.old) }
 {
     let mut scripts = Seq::empty(alloc);
     for worker in 0..WORKERS {

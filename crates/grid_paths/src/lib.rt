@@ -81,7 +81,8 @@ fn is_tight(step: Step, found: &[u64], here: u64) -> bool
 /// The better of the best so far and a step, if the step costs just what was found at its start.
 fn better_of(best: Option<Step>, step: Step, found: &[u64], here: u64) -> Option<Step>
     requires { step.to < length found.now }
-    ensures { (steps : List Step) → IsBest found.now here steps best → IsBest found.now here (steps ++ step ∷ []) result }
+    ensures { (steps : List Step) → IsBest found.now here steps best
+        → IsBest found.now here (steps ++ step ∷ []) result }
 {
     if !is_tight(step, found, here) {
         return best;
@@ -203,7 +204,8 @@ impl Search {
     /// The search at its start: each goal costs nothing, and all else is far.
     fn start(alloc: Global, goals: &[bool]) -> Result<Search, Memory>
         requires { length goals.now < 4294967296 }
-        ensures { IfOk result (λ search. IsStarted goals.now (length goals.now) search.found.items (heap_items search.front)) }
+        ensures { IfOk result (λ search. IsStarted goals.now (length goals.now) search.found.items
+            (heap_items search.front)) }
     {
         let mut search = Search {
             found: Vec::new(alloc),
@@ -217,7 +219,8 @@ impl Search {
 
     /// Begins at one more node.
     fn begin(&mut self, node: u32, goal: bool) -> Result<(), Memory>
-        ensures { OnOk result ((goals : List Bool) → is_goal goals node ≡ goal → IsStarted goals node self.old.found.items (heap_items self.old.front)
+        ensures { OnOk result ((goals : List Bool) → is_goal goals node ≡ goal
+            → IsStarted goals node self.old.found.items (heap_items self.old.front)
             → IsStarted goals (node + 1) self.new.found.items (heap_items self.new.front)) }
     {
         if !goal {
@@ -233,7 +236,8 @@ impl Search {
     fn lower(&mut self, node: u32, cost: u64) -> Result<(), Memory>
         requires { node < length self.old.found.items }
         ensures found { self.new.found.items ≡ slice_set self.old.found.items node cost }
-        ensures front { OnOk result (IsPermutation (entry cost node ∷ heap_items self.old.front) (heap_items self.new.front)) }
+        ensures front { OnOk result (IsPermutation (entry cost node ∷ heap_items self.old.front)
+            (heap_items self.new.front)) }
         ensures len { OnOk result (heap_len self.new.front ≡ heap_len self.old.front + 1) }
     {
         self.found[node as usize] = cost;
@@ -244,8 +248,9 @@ impl Search {
     /// A step from a node that costs this much.
     fn take(&mut self, step: Step, cost: u64) -> Result<(), Memory>
         requires { step.to < length self.old.found.items }
-        ensures { OnOk result (Takes step cost self.old.found.items (heap_items self.old.front) (heap_len self.old.front)
-            self.new.found.items (heap_items self.new.front) (heap_len self.new.front)) }
+        ensures { OnOk result (Takes step cost self.old.found.items (heap_items self.old.front)
+            (heap_len self.old.front) self.new.found.items (heap_items self.new.front)
+            (heap_len self.new.front)) }
     {
         let seen = self.found[step.to as usize];
         if seen.saturating_sub(cost) > step.weight {
@@ -258,8 +263,9 @@ impl Search {
     /// The steps of a row, from a node that costs this much.
     fn spread(&mut self, row: &[Step], cost: u64) -> Result<(), Memory>
         requires { (s : Step) → Contains row.now s → s.to < length self.old.found.items }
-        ensures { OnOk result (Spreads row.now cost self.old.found.items (heap_items self.old.front) (heap_len self.old.front)
-            self.new.found.items (heap_items self.new.front) (heap_len self.new.front)) }
+        ensures { OnOk result (Spreads row.now cost self.old.found.items (heap_items self.old.front)
+            (heap_len self.old.front) self.new.found.items (heap_items self.new.front)
+            (heap_len self.new.front)) }
     {
         for step in row {
             self.take(*step, cost)?;
@@ -272,8 +278,9 @@ impl Search {
         requires long { length rows.now ≡ length self.old.found.items }
         requires below { StepsBelow rows.now (length rows.now) }
         requires node { node < length rows.now }
-        ensures { OnOk result (Visits rows.now cost node self.old.found.items (heap_items self.old.front) (heap_len self.old.front)
-            self.new.found.items (heap_items self.new.front) (heap_len self.new.front)) }
+        ensures { OnOk result (Visits rows.now cost node self.old.found.items
+            (heap_items self.old.front) (heap_len self.old.front) self.new.found.items
+            (heap_items self.new.front) (heap_len self.new.front)) }
     {
         if self.found[node as usize] != cost {
             return Ok(());
@@ -287,7 +294,8 @@ fn least_costs(alloc: Global, rows: &[Vec<Step>], goals: &[bool]) -> Result<Vec<
     requires long { length rows.now ≡ length goals.now }
     requires below { StepsBelow rows.now (length goals.now) }
     requires few { length goals.now < 4294967296 }
-    ensures { IfOk result (λ found. (edges : List PathEdge) → AreRows edges rows.now → AreLeastCosts edges goals.now found.items) }
+    ensures { IfOk result (λ found. (edges : List PathEdge) → AreRows edges rows.now
+        → AreLeastCosts edges goals.now found.items) }
 {
     let mut search = Search::start(alloc, goals)?;
     while let Some(next) = search.front.pop() {
@@ -301,8 +309,11 @@ fn walk(alloc: Global, rows: &[Vec<Step>], found: &[u64], from: u32) -> Result<P
     requires long { length found.now ≡ length rows.now }
     requires below { StepsBelow rows.now (length rows.now) }
     requires from { from < length rows.now }
-    ensures { IfOk result (λ path. (edges : List PathEdge) (goals : List Bool) → AreRows edges rows.now → AreLeastCosts edges goals found.now
-        → cost_at found.now from < far → Walks edges goals found.now from path) }
+    ensures { IfOk result (λ path. (edges : List PathEdge) (goals : List Bool)
+        → AreRows edges rows.now
+        → AreLeastCosts edges goals found.now
+        → cost_at found.now from < far
+        → Walks edges goals found.now from path) }
 {
     let mut path = Places::empty(alloc);
     let mut node = from;
@@ -328,8 +339,10 @@ pub fn least_path(
     requires few { length edges.now < 4294967296 }
     requires from { from < nodes }
     requires goals { length goals.now ≡ nodes }
-    ensures least { IfOk result (λ answer. IfSome answer (λ path. IsLeastRoute edges.now goals.now from path)) }
-    ensures none { IfOk result (λ answer. IfNone answer ((path : List ℕ) → IsTrue (not (is_route edges.now goals.now from path)))) }
+    ensures least { IfOk result (λ answer. IfSome answer (λ path. IsLeastRoute edges.now goals.now
+        from path)) }
+    ensures none { IfOk result (λ answer. IfNone answer ((path : List ℕ) → IsTrue (not (is_route
+        edges.now goals.now from path)))) }
 {
     let rows = rows_of(alloc, nodes as usize, edges)?;
     let found = least_costs(alloc, rows.as_slice(), goals)?;

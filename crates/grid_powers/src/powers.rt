@@ -23,7 +23,11 @@ impl Model for Powers {
 
     ghost Value = { PowerList };
 
-    ghost view = { λ powers. record { listed = powers.values.entries; load = powers.load; generation = powers.generation } };
+    ghost view = { λ powers. record {
+      listed = powers.values.entries;
+      load = powers.load;
+      generation = powers.generation;
+    } };
 }
 
 impl Powers {
@@ -47,7 +51,8 @@ impl Powers {
 
     /// Gives the id these watts. After want of memory all is as before.
     pub fn put(&mut self, id: Id, watts: i64) -> Result<(), Memory>
-        ensures ok { OnOk result (self.new ≡ record self.old { listed = with_value id watts self.old.listed }) }
+        ensures ok { OnOk result (self.new
+            ≡ record self.old { listed = with_value id watts self.old.listed }) }
         ensures err { OnErr result (self.new ≡ self.old) }
     {
         match self.values.insert(id, watts) {
@@ -59,7 +64,8 @@ impl Powers {
     /// Takes the pair of an id out, and answers its watts; None exactly where the id is not listed. It takes no memory.
     pub fn forget(&mut self, id: &Id) -> Option<i64>
         ensures watts { result ≡ value_in self.old.listed id.now }
-        ensures rest { self.new ≡ record self.old { listed = without_value id.now self.old.listed } }
+        ensures rest { self.new
+            ≡ record self.old { listed = without_value id.now self.old.listed } }
     {
         self.values.remove(id)
     }

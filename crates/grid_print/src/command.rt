@@ -52,7 +52,8 @@ fn add_level(
     low_v: &Option<i64>,
     high_v: &Option<i64>,
 ) -> Result<Value, Memory>
-    ensures { IfOk result (λ v. view v ≡ add_level_value id.now substation.now nominal_v low_v.now high_v.now) }
+    ensures { IfOk result (λ v. view v
+        ≡ add_level_value id.now substation.now nominal_v low_v.now high_v.now) }
 {
     let verb = Value::try_from_str(alloc, "add_level")?;
     let mut members = Map::new(alloc);
@@ -111,7 +112,8 @@ fn add_transformer(
     ends: Value,
     rated_u: Value,
 ) -> Result<Value, Memory>
-    ensures { IfOk result (λ v. view v ≡ transformer_edit kind.now id.now substation.now (view ends) (view rated_u)) }
+    ensures { IfOk result (λ v. view v
+        ≡ transformer_edit kind.now id.now substation.now (view ends) (view rated_u)) }
 {
     let verb = Value::try_from_str(alloc, "add_branch")?;
     let kind = Value::try_from_str(alloc, kind)?;
@@ -201,7 +203,8 @@ fn put_switch(members: &mut Members, alloc: Global, edit: &Edit) -> Result<(), M
 
 #[tactic(auto, unfolding(crate::specs::Objects::members_from))]
 fn add_switch(alloc: Global, id: &Id, level: &Id, edit: &Edit) -> Result<Value, Memory>
-    ensures { IfOk result (λ v. view v ≡ add_switch_value id.now level.now (switch_fields edit.now)) }
+    ensures { IfOk result (λ v. view v
+        ≡ add_switch_value id.now level.now (switch_fields edit.now)) }
 {
     let verb = Value::try_from_str(alloc, "add_switch")?;
     let mut members = Map::new(alloc);

@@ -23,7 +23,8 @@ use std::alloc::Global;
 
 /// Puts a word last where its flag is set.
 fn push_word(words: &mut Vec<Value>, alloc: Global, wanted: bool, word: &str) -> Result<(), Memory>
-    ensures { OnOk result (map view words.new.items ≡ map view words.old.items ++ word_if wanted word.now) }
+    ensures { OnOk result (map view words.new.items
+        ≡ map view words.old.items ++ word_if wanted word.now) }
 {
     if wanted {
         words.push(Value::try_from_str(alloc, word)?)?;
@@ -82,7 +83,8 @@ fn value_of(
     scripts: &[Script],
     order: &Option<Order>,
 ) -> Result<Value, Memory>
-    ensures value { IfOk result (λ v. view v ≡ job_value network.now filters.now scripts.now order.now) }
+    ensures value { IfOk result (λ v. view v
+        ≡ job_value network.now filters.now scripts.now order.now) }
     ensures readable { OnOk result (IsReadable network.now) }
 {
     let mut members = Map::new(alloc);
@@ -113,7 +115,8 @@ fn line(alloc: Global, value: &Value) -> Result<Vec<u8>, Memory>
 #[tactic(auto, unfolding(crate::specs::Job::job_text), using(crate::proofs::Wholes::job_has_no_float, crate::proofs::Wholes::job_is_shallow))]
 pub fn print_job(alloc: Global, job: &Job) -> Result<Vec<u8>, Memory>
     ensures text { IfOk result (λ bytes. bytes.items ≡ job_text job.now) }
-    ensures read { IfOk result (λ bytes. reading bytes.items ≡ Some (job_value job.now.network job.now.filters job.now.scripts job.now.order)) }
+    ensures read { IfOk result (λ bytes. reading bytes.items
+        ≡ Some (job_value job.now.network job.now.filters job.now.scripts job.now.order)) }
 {
     let value = value_of(
         alloc,
@@ -130,7 +133,8 @@ pub fn print_job(alloc: Global, job: &Job) -> Result<Vec<u8>, Memory>
 #[tactic(auto, unfolding(crate::specs::Job::network_text), using(crate::proofs::Wholes::job_has_no_float, crate::proofs::Wholes::job_is_shallow, crate::proofs::Drafted::printed_is_back))]
 pub fn print_network(alloc: Global, network: &Structure) -> Result<Vec<u8>, Memory>
     ensures text { IfOk result (λ bytes. bytes.items ≡ network_text network.now) }
-    ensures read { IfOk result (λ bytes. reading bytes.items ≡ Some (job_value network.now [] [] None)) }
+    ensures read { IfOk result (λ bytes. reading bytes.items
+        ≡ Some (job_value network.now [] [] None)) }
     ensures back { IfOk result (λ bytes. job_of bytes.items ≡ Ok (job_alone network.now)) }
 {
     network.keeps();

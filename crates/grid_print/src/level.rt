@@ -56,7 +56,8 @@ fn put_two(
     value2: &i64,
 ) -> Result<(), Memory>
     ensures value { OnOk result (members_view members.new.entries
-        ≡ members_from (members_view members.old.entries) ((name1.now, whole value1.now) ∷ (name2.now, whole value2.now) ∷ [])) }
+        ≡ members_from (members_view members.old.entries) ((name1.now, whole value1.now)
+        ∷ (name2.now, whole value2.now) ∷ [])) }
     ensures readable { OnOk result (IsWhole value1.now × IsWhole value2.now) }
 {
     put(members, alloc, name1, value1)?;

@@ -23,7 +23,8 @@ fn transformer(
     ends: Value,
     rated_u: Value,
 ) -> Result<Value, Memory>
-    ensures value { IfOk result (λ v. view v ≡ transformer_value kind.now id.now (view ends) (view rated_u)) }
+    ensures value { IfOk result (λ v. view v
+        ≡ transformer_value kind.now id.now (view ends) (view rated_u)) }
     ensures readable { OnOk result (IsId id.now) }
 {
     let kind = Value::try_from_str(alloc, kind)?;
@@ -81,7 +82,8 @@ fn branch(alloc: Global, id: &Id, shape: &Branch) -> Result<Value, Memory>
 fn levels(alloc: Global, network: &Structure, from: u32, to: u32) -> Result<Value, Memory>
     requires order { from ≤ to }
     requires within { to ≤ length (sites.levels network.now) }
-    ensures value { IfOk result (λ v. view v ≡ array_of level_value (between from to (sites.levels network.now))) }
+    ensures value { IfOk result (λ v. view v
+        ≡ array_of level_value (between from to (sites.levels network.now))) }
     ensures readable { OnOk result (AllWithin IsReadableLevel (sites.levels network.now) from to) }
 {
     let mut values = Vec::new(alloc);
@@ -95,8 +97,10 @@ fn levels(alloc: Global, network: &Structure, from: u32, to: u32) -> Result<Valu
 fn branches(alloc: Global, network: &Structure, from: u32, to: u32) -> Result<Value, Memory>
     requires order { from ≤ to }
     requires within { to ≤ length (sites.branches network.now) }
-    ensures value { IfOk result (λ v. view v ≡ array_of named_branch_value (between from to (sites.branches network.now))) }
-    ensures readable { OnOk result (AllWithin IsReadableBranch (sites.branches network.now) from to) }
+    ensures value { IfOk result (λ v. view v
+        ≡ array_of named_branch_value (between from to (sites.branches network.now))) }
+    ensures readable { OnOk result (AllWithin IsReadableBranch (sites.branches network.now) from
+        to) }
 {
     let mut values = Vec::new(alloc);
     for place in from..to {
@@ -129,7 +133,8 @@ fn transformers_end(network: &Structure, substation: u32, from: u32) -> u32
 
 #[tactic(auto, unfolding(crate::specs::Objects::members_from))]
 fn substation(alloc: Global, id: &Id, levels: Value, transformers: Value) -> Result<Value, Memory>
-    ensures value { IfOk result (λ v. view v ≡ substation_of id.now (view levels) (view transformers)) }
+    ensures value { IfOk result (λ v. view v
+        ≡ substation_of id.now (view levels) (view transformers)) }
     ensures readable { OnOk result (IsId id.now) }
 {
     Ok(json!(in alloc; {"id": id.text(), "levels": levels, "transformers": transformers})?)
@@ -137,11 +142,14 @@ fn substation(alloc: Global, id: &Id, levels: Value, transformers: Value) -> Res
 
 /// The substations with their levels and transformers, and the place of the first line.
 fn substations(alloc: Global, network: &Structure) -> Result<(Value, u32), Memory>
-    ensures values { IfOk result (λ made. view made.0 ≡ array_of substation_value network.now.substations) }
-    ensures lines { IfOk result (λ made. made.1 ≡ transformers_before (length network.now.substations) network.now.substations) }
+    ensures values { IfOk result (λ made. view made.0
+        ≡ array_of substation_value network.now.substations) }
+    ensures lines { IfOk result (λ made. made.1
+        ≡ transformers_before (length network.now.substations) network.now.substations) }
     ensures ids { OnOk result (All (λ s. IsId s.id) network.now.substations) }
     ensures levels { OnOk result (All IsReadableLevel (sites.levels network.now)) }
-    ensures transformers { IfOk result (λ made. AllWithin IsReadableBranch (sites.branches network.now) 0 made.1) }
+    ensures transformers { IfOk result (λ made. AllWithin IsReadableBranch
+        (sites.branches network.now) 0 made.1) }
 {
     let mut values = Vec::new(alloc);
     let mut level = 0;

@@ -50,8 +50,10 @@ pub(crate) fn three<T: ToJson>(
     second: &T,
     third: &T,
 ) -> Result<Value, Memory>
-    ensures value { IfOk result (λ v. view v ≡ array_of T.written (first.now ∷ second.now ∷ third.now ∷ [])) }
-    ensures readable { OnOk result (T.readable first.now × T.readable second.now × T.readable third.now) }
+    ensures value { IfOk result (λ v. view v
+        ≡ array_of T.written (first.now ∷ second.now ∷ third.now ∷ [])) }
+    ensures readable { OnOk result (T.readable first.now × T.readable second.now
+        × T.readable third.now) }
 {
     let first = first.to_json(alloc)?;
     let second = second.to_json(alloc)?;

@@ -15,7 +15,8 @@ use std::alloc::Global;
 
 // How many different numbers there are, each counted where it first stands.
 fn count_numbers(alloc: Global, numbers: &[u32]) -> Result<u32, Memory>
-    requires below { (k : ℕ) → k < length numbers.now → slice_index numbers.now k < length numbers.now }
+    requires below { (k : ℕ) → k < length numbers.now
+        → slice_index numbers.now k < length numbers.now }
     requires few { length numbers.now < 2 ^ 32 }
     ensures { IfOk result (λ count. count ≡ first_count numbers.now (length numbers.now)) }
 {
@@ -47,7 +48,8 @@ fn add_bus(main: Main, sums: &BusSums) -> Result<Main, Memory>
     requires { main.count < 2 ^ 32 - 1 }
     ensures count { IfOk result (λ new. new.count ≡ main.count + 1) }
     ensures load { IfOk result (λ new. new.load ≡ main.load +ℤ sums.now.load) }
-    ensures generation { IfOk result (λ new. new.generation ≡ main.generation +ℤ sums.now.generation) }
+    ensures generation { IfOk result (λ new. new.generation
+        ≡ main.generation +ℤ sums.now.generation) }
 {
     match (
         main.load.checked_add(sums.load),
@@ -68,7 +70,8 @@ fn sum_main(numbers: &[u32], sums: &[BusSums]) -> Result<Main, Memory>
     requires few { length numbers.now < 2 ^ 32 }
     ensures count { IfOk result (λ main. main.count ≡ count_by is_zero numbers.now) }
     ensures load { IfOk result (λ main. main.load ≡ main_sum (λ s. s.load) numbers.now sums.now) }
-    ensures generation { IfOk result (λ main. main.generation ≡ main_sum (λ s. s.generation) numbers.now sums.now) }
+    ensures generation { IfOk result (λ main. main.generation
+        ≡ main_sum (λ s. s.generation) numbers.now sums.now) }
 {
     let mut main = Main {
         count: 0,

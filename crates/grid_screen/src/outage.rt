@@ -78,8 +78,10 @@ fn copy_standing(
     requires place { place < length (levels structure.now) }
     requires changes { length changes.now ≡ length (levels structure.now) }
     requires rows { length states.now ≡ length (levels structure.now) }
-    ensures level { IfOk result (λ s. slice_get (shown_levels changes.now (levels structure.now)) place ≡ Some s.level) }
-    ensures opened { IfOk result (λ s. s.opened ≡ row_at (shown_rows changes.now states.now) place) }
+    ensures level { IfOk result (λ s. slice_get (shown_levels changes.now (levels structure.now))
+        place ≡ Some s.level) }
+    ensures opened { IfOk result (λ s. s.opened
+        ≡ row_at (shown_rows changes.now states.now) place) }
 {
     match &changes[place as usize] {
         Some(changed) => Ok(Standing {
@@ -95,7 +97,8 @@ fn copy_standing(
 
 // The node of the first terminal of an equipment.
 fn node_of_equipment(placed: &[Placed], id: &Id) -> Option<u16>
-    ensures { result ≡ option_map (λ p. p.node) (find (λ p. same_id id.now p.terminal.equipment) placed.now) }
+    ensures { result
+        ≡ option_map (λ p. p.node) (find (λ p. same_id id.now p.terminal.equipment) placed.now) }
 {
     match placed.iter().find(|p| id == &p.terminal.equipment) {
         Some(found) => Some(found.node),
@@ -123,7 +126,8 @@ fn change(
 ) -> Result<(), Memory>
     requires place { place < length changes.old.items }
     requires flags { length standing.opened ≡ length standing.level.switches }
-    ensures { OnOk result (IsPut powers.now.listed place standing.level standing.opened changes.old.items changes.new.items) }
+    ensures { OnOk result (IsPut powers.now.listed place standing.level standing.opened
+        changes.old.items changes.new.items) }
 {
     let Standing { level, opened } = standing;
     let changed = look(alloc, level, opened, powers)?;
@@ -140,10 +144,13 @@ fn open_switch(
     changes: &mut Changes,
     at: SwitchAt,
 ) -> Result<(), Memory>
-    requires stands { StandsSo powers.now.listed (levels structure.now) states.now changes.old.items }
+    requires stands { StandsSo powers.now.listed (levels structure.now) states.now
+        changes.old.items }
     requires level { at.level < length (levels structure.now) }
     requires place { at.place < length (row_at (shown_rows changes.old.items states.now) at.level) }
-    ensures { OnOk result (Stands powers.now.listed (levels structure.now) states.now changes.new.items (shown_levels changes.old.items (levels structure.now)) (with_flag (shown_rows changes.old.items states.now) at.level at.place true)) }
+    ensures { OnOk result (Stands powers.now.listed (levels structure.now) states.now
+        changes.new.items (shown_levels changes.old.items (levels structure.now))
+        (with_flag (shown_rows changes.old.items states.now) at.level at.place true)) }
 {
     let mut standing = copy_standing(alloc, structure, states, changes, at.level)?;
     standing.opened.set(at.place as usize, true);
@@ -161,7 +168,10 @@ fn clear_side(
     side: u8,
 ) -> Result<(), Memory>
     requires { StandsSo powers.now.listed (levels structure.now) states.now changes.old.items }
-    ensures { OnOk result (Stands powers.now.listed (levels structure.now) states.now changes.new.items (cleared_side structure.now id.now side (shown_levels changes.old.items (levels structure.now))) (shown_rows changes.old.items states.now)) }
+    ensures { OnOk result (Stands powers.now.listed (levels structure.now) states.now
+        changes.new.items
+        (cleared_side structure.now id.now side (shown_levels changes.old.items (levels
+        structure.now))) (shown_rows changes.old.items states.now)) }
 {
     let site = match structure.site(id, side) {
         Some(site) => site,
@@ -183,7 +193,10 @@ fn take_out(
     id: &Id,
 ) -> Result<(), Memory>
     requires { StandsSo powers.now.listed (levels structure.now) states.now changes.old.items }
-    ensures { OnOk result (Stands powers.now.listed (levels structure.now) states.now changes.new.items (taken_out structure.now id.now (shown_levels changes.old.items (levels structure.now))) (shown_rows changes.old.items states.now)) }
+    ensures { OnOk result (Stands powers.now.listed (levels structure.now) states.now
+        changes.new.items
+        (taken_out structure.now id.now (shown_levels changes.old.items (levels structure.now)))
+        (shown_rows changes.old.items states.now)) }
 {
     clear_side(alloc, structure, states, powers, changes, id, 1)?;
     clear_side(alloc, structure, states, powers, changes, id, 2)?;
@@ -200,7 +213,11 @@ fn put_out(
     id: &Id,
 ) -> Result<(), Memory>
     requires { StandsSo powers.now.listed (levels structure.now) states.now changes.old.items }
-    ensures { OnOk result (Stands powers.now.listed (levels structure.now) states.now changes.new.items (levels_with_out structure.now (shown_levels changes.old.items (levels structure.now)) id.now) (rows_with_out structure.now (shown_rows changes.old.items states.now) id.now)) }
+    ensures { OnOk result (Stands powers.now.listed (levels structure.now) states.now
+        changes.new.items
+        (levels_with_out structure.now (shown_levels changes.old.items (levels structure.now))
+        id.now) (rows_with_out structure.now (shown_rows changes.old.items states.now)
+        id.now)) }
 {
     match structure.find_switch(id) {
         Some(at) => open_switch(alloc, structure, states, powers, changes, at),
@@ -231,7 +248,9 @@ pub(crate) fn find_changes(
 ) -> Result<Changes, Memory>
     requires rows { length states.now ≡ length (levels structure.now) }
     requires flags { FlagsFit structure.now states.now }
-    ensures { IfOk result (λ changes. Stands powers.now.listed (levels structure.now) states.now changes.items (levels_after structure.now ids.now (levels structure.now)) (rows_after structure.now ids.now states.now)) }
+    ensures { IfOk result (λ changes. Stands powers.now.listed (levels structure.now) states.now
+        changes.items (levels_after structure.now ids.now (levels structure.now))
+        (rows_after structure.now ids.now states.now)) }
 {
     let mut changes = unchanged(alloc, structure.level_count())?;
     for id in ids {

@@ -53,8 +53,11 @@ pub(crate) fn list_present(
     changes: &[Option<Box<Changed>>],
 ) -> Result<Present, Memory>
     requires { length changes.now ≡ length kept.now }
-    ensures firsts { IfOk result (λ present. present.firsts.items ≡ map (λ place. length (sums_before kept.now changes.now place)) (places (length kept.now))) }
-    ensures sums { IfOk result (λ present. present.sums.items ≡ sums_before kept.now changes.now (length kept.now)) }
+    ensures firsts { IfOk result (λ present. present.firsts.items
+        ≡ map (λ place. length (sums_before kept.now changes.now place))
+        (places (length kept.now))) }
+    ensures sums { IfOk result (λ present. present.sums.items
+        ≡ sums_before kept.now changes.now (length kept.now)) }
 {
     let mut firsts = Vec::new(alloc);
     let mut sums = Vec::new(alloc);
@@ -117,9 +120,12 @@ fn push_pair(
     changes: &[Option<Box<Changed>>],
     link: &Link,
 ) -> Result<(), Memory>
-    requires first { (link.now.first.level < length firsts.now) × (link.now.first.level < length changes.now) }
-    requires second { (link.now.second.level < length firsts.now) × (link.now.second.level < length changes.now) }
-    ensures { OnOk result (pairs.new.items ≡ pairs.old.items ++ link_pairs firsts.now changes.now link.now) }
+    requires first { (link.now.first.level < length firsts.now)
+        × (link.now.first.level < length changes.now) }
+    requires second { (link.now.second.level < length firsts.now)
+        × (link.now.second.level < length changes.now) }
+    ensures { OnOk result (pairs.new.items
+        ≡ pairs.old.items ++ link_pairs firsts.now changes.now link.now) }
 {
     let first = number_of(firsts, changes, &link.first)?;
     let second = number_of(firsts, changes, &link.second)?;
@@ -139,7 +145,8 @@ pub(crate) fn list_pairs(
 ) -> Result<Vec<(u32, u32)>, Memory>
     requires long { length firsts.now ≡ length changes.now }
     requires links { LinksFit (length changes.now) links.now }
-    ensures { IfOk result (λ pairs. pairs.items ≡ flat_map (link_pairs firsts.now changes.now) links.now) }
+    ensures { IfOk result (λ pairs. pairs.items
+        ≡ flat_map (link_pairs firsts.now changes.now) links.now) }
 {
     let mut pairs = Vec::new(alloc);
     for link in links {

@@ -87,7 +87,8 @@ fn sum_levels(
 ) -> Result<Seq<LevelSums>, Memory>
     requires rows { length states.now ≡ length (levels structure.now) }
     requires flags { FlagsFit structure.now states.now }
-    ensures { IfOk result (λ sums. sums ≡ level_sums powers.now.listed (levels structure.now) states.now) }
+    ensures { IfOk result (λ sums. sums
+        ≡ level_sums powers.now.listed (levels structure.now) states.now) }
 {
     let mut sums = Seq::empty(alloc);
     for place in 0..structure.level_count() {
@@ -145,7 +146,10 @@ fn push_link(
     end2: &End,
 ) -> Result<(), Memory>
     requires { length rows.now ≡ length (levels structure.now) }
-    ensures { OnOk result (links.new ≡ links.old ++ link_between (screened.spot_of structure.now rows.now end1.now) (screened.spot_of structure.now rows.now end2.now)) }
+    ensures { OnOk result (links.new
+        ≡ links.old
+        ++ link_between (screened.spot_of structure.now rows.now end1.now)
+        (screened.spot_of structure.now rows.now end2.now)) }
 {
     let first = spot_of(structure, rows, end1);
     let second = spot_of(structure, rows, end2);
@@ -163,7 +167,8 @@ fn push_branch(
     branch: &Branch,
 ) -> Result<(), Memory>
     requires { length rows.now ≡ length (levels structure.now) }
-    ensures { OnOk result (links.new ≡ links.old ++ branch_links structure.now rows.now branch.now) }
+    ensures { OnOk result (links.new
+        ≡ links.old ++ branch_links structure.now rows.now branch.now) }
 {
     match branch {
         Branch::Line { end1, end2 } => push_link(links, structure, rows, end1, end2)?,
@@ -204,8 +209,10 @@ pub(crate) fn make_screening(
 ) -> Result<Screening, Memory>
     requires rows { length states.now ≡ length (levels structure.now) }
     requires flags { FlagsFit structure.now states.now }
-    ensures sums { IfOk result (λ kept. kept.sums ≡ level_sums powers.now.listed (levels structure.now) states.now) }
-    ensures links { IfOk result (λ kept. kept.links ≡ network_links structure.now (level_places (levels structure.now) states.now)) }
+    ensures sums { IfOk result (λ kept. kept.sums
+        ≡ level_sums powers.now.listed (levels structure.now) states.now) }
+    ensures links { IfOk result (λ kept. kept.links
+        ≡ network_links structure.now (level_places (levels structure.now) states.now)) }
 {
     let sums = sum_levels(alloc, structure, states, powers)?;
     let rows = place_nodes(alloc, structure, states)?;

@@ -34,7 +34,8 @@ fn put_losses(out: &mut Text, load: &i128, generation: &i128) -> Result<(), Memo
 
 // Puts the effect of an outage.
 fn put_effect(out: &mut Text, after: &Figures, load: &i128, generation: &i128) -> Result<(), Memory>
-    ensures ok { OnOk result (out.new ≡ out.old ++ (counts_text after.now ++ losses_text load.now generation.now)) }
+    ensures ok { OnOk result (out.new
+        ≡ out.old ++ (counts_text after.now ++ losses_text load.now generation.now)) }
     ensures err { OnErr result (out.new ≡ []) }
 {
     put_counts(out, after)?;

@@ -1,4 +1,4 @@
-use Rattle.std.proofs.Common.{sym, ap, ◌∙◌, subst}
+use Rattle.std.proofs.Common.{sym, ◌∙◌, subst}
 use Rattle.grid_board.specs.Edits.{AreLevels}
 use Rattle.grid_board.proofs.Edits.{whole_levels, whole_branches}
 use Rattle.grid_board.proofs.comparing.is_whole.Goals as goal

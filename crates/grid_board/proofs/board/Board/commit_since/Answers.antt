@@ -1,4 +1,4 @@
-use Rattle.std.proofs.Common.{◌≡◌, sym, ap, ◌∙◌, rules}
+use Rattle.std.proofs.Common.{◌≡◌, ap, ◌∙◌, rules}
 use Rattle.grid_core.specs.History.{History}
 use Rattle.grid_board.specs.Edits.{edits_asked}
 use Rattle.grid_board.proofs.Edits.{still_taken}
