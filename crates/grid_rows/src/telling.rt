@@ -57,11 +57,27 @@ fn tell<L: Listener>(
     Ok(world.into_journal())
 }
 
+/// The job of the level with that script.
+fn job_that_opens(alloc: Global) -> Result<Job, Fail> {
+    let bytes = duo_with(alloc, OPENS, "]]}")?;
+    read(alloc, bytes.as_slice())
+}
+
+/// Whether the one listener has heard this event alone.
+fn heard_just(listeners: &Subscriptions<Recorder>, event: &Event) -> bool {
+    match listeners.slice() {
+        [subscription] => match subscription.listener.events.slice() {
+            [heard] => heard.same(event),
+            _ => false,
+        },
+        _ => false,
+    }
+}
+
 #[test]
 fn a_recorder_hears_the_one_event(rt: HostRuntime) -> Result<(), Fail> {
     let alloc = rt.alloc();
-    let bytes = duo_with(alloc, OPENS, "]]}")?;
-    let job = read(alloc, bytes.as_slice())?;
+    let job = job_that_opens(alloc)?;
     let Some(script) = job.scripts.get(0) else {
         return Ok(assert!(rt; false));
     };
@@ -82,14 +98,17 @@ fn a_recorder_hears_the_one_event(rt: HostRuntime) -> Result<(), Fail> {
         switch: Id::new(alloc, "BC")?,
         opened: false,
     };
-    let [subscription] = listeners.slice() else {
-        return Ok(assert!(rt; false));
-    };
-    let [event] = subscription.listener.events.slice() else {
-        return Ok(assert!(rt; false));
-    };
-    assert!(rt; event.same(&closed));
+    assert!(rt; heard_just(&listeners, &closed));
+    Ok(())
+}
 
+#[test]
+fn a_boxed_recorder_is_told(rt: HostRuntime) -> Result<(), Fail> {
+    let alloc = rt.alloc();
+    let job = job_that_opens(alloc)?;
+    let Some(script) = job.scripts.get(0) else {
+        return Ok(assert!(rt; false));
+    };
     let mut boxed: Subscriptions<Box<dyn Listener>> = Subscriptions::empty(alloc);
     let recorder: Box<dyn Listener> = Box::new(
         alloc,
