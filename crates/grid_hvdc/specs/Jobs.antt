@@ -4,7 +4,7 @@ use Rattle.serde_json.specs.Data.{Data}
 use Rattle.grid_json.specs.declared.fault.Fault.{Fault}
 use Rattle.grid_json.specs.declared.whole.JobFault.{JobFault}
 use Rattle.grid_json.specs.declared.whole.JobFault.TheVariants.{BadJson}
-use Rattle.grid_json.specs.Bytes.{reading}
+use Rattle.grid_value.specs.Bytes.{reading}
 use Rattle.grid_json.specs.Reading.{◌>>=◌, id_at, array_at, member_at, only_at, under}
 use Rattle.grid_json.specs.Whole.{whole_job_at, or_bad_job}
 use Rattle.grid_hvdc.specs.declared.HvdcJob.{HvdcJob}

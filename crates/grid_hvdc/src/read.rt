@@ -1,6 +1,6 @@
 // Jobs with HVDC lines from JSON.
 ghost use Rattle.std.specs.Prelude.{◌≤◌, [], IfOk, codes};
-ghost use Rattle.serde_json.specs.View.{view};
+ghost use Rattle.grid_value.specs.View.{view};
 ghost use Rattle.grid_json.specs.Job.{command_total, max_commands};
 ghost use Rattle.grid_json.specs.Reading.{Gives, under};
 ghost use Rattle.grid_json.specs.Whole.{JobGives};
@@ -9,11 +9,9 @@ ghost use Rattle.grid_hvdc.specs.Jobs.{hvdc_at, hvdc_job_of};
 
 use crate::checks::check_lines;
 use crate::{HvdcJob, HvdcLine, HvdcLines};
-use grid_json::{
-    ByteFault, Format, FromJson, JobFault, ReadError, job_member, member, only, value_of,
-};
+use grid_json::{Format, FromJson, JobFault, ReadError, job_member, member, only};
 use grid_structure::Structure;
-use serde_json::Value;
+use grid_value::{ByteFault, Scratch, Value};
 use std::alloc::Global;
 
 impl FromJson for HvdcLine {
@@ -68,7 +66,8 @@ pub fn read_hvdc(alloc: Global, bytes: &[u8]) -> Result<HvdcJob, JobFault>
     ensures job { JobGives result (hvdc_job_of bytes.now) }
     ensures total { IfOk result (λ hvdc. command_total hvdc.job.scripts ≤ max_commands) }
 {
-    let value = match value_of(alloc, bytes) {
+    let mut scratch = Scratch::new(alloc);
+    let value = match Value::from_slice(alloc, bytes, &mut scratch) {
         Ok(value) => value,
         Err(ByteFault::NotJson) => return Err(JobFault::BadJson),
         Err(ByteFault::Memory) => return Err(JobFault::Memory),

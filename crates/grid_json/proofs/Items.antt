@@ -3,8 +3,8 @@ use Rattle.std.proofs.Common.{◌≡◌, ℕ, suc, ◌+◌, ◌≤◌, ◌<◌, 
 use Rattle.std.specs.Prelude.{decimal}
 use Rattle.std.proofs.lemmas.List.{append-nil, drop_all}
 use Rattle.serde_json.specs.Data.{Data}
-use Rattle.serde_json.specs.View.{view, items_view}
-use Rattle.serde_json.specs.declared.value.Value.{Value}
+use Rattle.grid_value.specs.View.{view, items_view}
+use Rattle.grid_value.specs.declared.value.Value.{Value}
 use Rattle.grid_json.specs.declared.fault.Fault.{Fault}
 use Rattle.grid_json.specs.declared.fault.ReadError.{ReadError}
 use Rattle.grid_json.specs.declared.fault.ReadError.TheVariants as errors
@@ -14,7 +14,7 @@ use Rattle.grid_json.specs.Reading.{◌>>=◌, Fails, IsUnder, placed, items_at,
 abbrev pub with_front : {A : Type 0} → List A → Result (List A) Fault → Result (List A) Fault
 with_front front read = read >>= λ xs. Ok (front ++ xs)
 
-regroup : {A : Type 0} (front : List A) (x : A) (read : Result (List A) Fault) → with_front front (read >>= λ xs. Ok (x ∷ xs)) ≡ with_front (front ++ x ∷ []) read
+pub regroup : {A : Type 0} (front : List A) (x : A) (read : Result (List A) Fault) → with_front front (read >>= λ xs. Ok (x ∷ xs)) ≡ with_front (front ++ x ∷ []) read
 regroup front x (Ok xs) = ap Ok (simp append_assoc)
 regroup front x (Err f) = refl
 

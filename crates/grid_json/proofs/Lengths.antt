@@ -1,8 +1,8 @@
 -- Arrays of two and of three items, by their length and their items.
 use Rattle.std.proofs.Common.{◌≡◌, ◌≢◌, List, [], ◌∷◌, length, get_or, Result, Err, refl, arith}
 use Rattle.serde_json.specs.Data.{Data}
-use Rattle.serde_json.specs.View.{view, items_view}
-use Rattle.serde_json.specs.declared.value.Value.{Value}
+use Rattle.grid_value.specs.View.{view, items_view}
+use Rattle.grid_value.specs.declared.value.Value.{Value}
 use Rattle.grid_json.specs.declared.fault.Fault.{Fault}
 use Rattle.grid_json.specs.declared.fault.Reason.TheVariants.{WrongKind}
 use Rattle.grid_json.specs.Reading.{here}

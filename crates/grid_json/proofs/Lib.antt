@@ -1,9 +1,10 @@
 pub mod Objects
 pub mod Items
-pub mod Texts
 pub mod Lengths
 pub mod Counts
 pub mod Loading
 pub mod Edited
 pub mod Results
 pub mod IdSets
+pub mod Streams
+pub mod Filling

@@ -1,8 +1,9 @@
 pub mod Seen
 pub mod Reading
-pub mod Bytes
 pub mod Kinds
 pub mod Network
+pub mod Streams
+pub mod Slots
 pub mod Command
 pub mod Job
 pub mod Loading

@@ -7,7 +7,7 @@ use Rattle.grid_json.specs.declared.whole.Job.{Job}
 use Rattle.grid_json.specs.declared.whole.JobFault.{JobFault}
 use Rattle.grid_json.specs.declared.whole.JobFault.TheVariants.{BadJson, BadJob, Memory}
 use Rattle.grid_json.specs.Reading.{◌>>=◌}
-use Rattle.grid_json.specs.Bytes.{reading}
+use Rattle.grid_value.specs.Bytes.{reading}
 use Rattle.grid_json.specs.Job.{draft_at}
 use Rattle.grid_json.specs.Loading.{network_load}
 

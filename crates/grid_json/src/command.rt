@@ -1,6 +1,6 @@
 // The commands of a script.
 ghost use Rattle.std.specs.Prelude.{◌≡◌, ◌∷◌, codes};
-ghost use Rattle.serde_json.specs.View.{view};
+ghost use Rattle.grid_value.specs.View.{view};
 ghost use Rattle.grid_json.specs.Reading.{Gives, texts, word_at};
 ghost use Rattle.grid_json.specs.Command.{known_verb, command_names, plain_names, branch_names, add_level_at, add_busbar_at, add_switch_at, add_internal_at, remove_internal_at, add_injection_at, shape_at, add_branch_at, clone_at, retain_at, set_power_at, edit_at, request_at, verb_words, line_of, two_windings_of, three_windings_of, named_at, sided_at};
 ghost use Rattle.grid_json.specs.Network.{item_names};
@@ -14,7 +14,7 @@ use crate::{ReadError, Reason};
 use grid_core::Request;
 use grid_ids::Id;
 use grid_structure::{Branch, Edit, End};
-use serde_json::Value;
+use grid_value::Value;
 use std::alloc::Global;
 
 /// The edits that a command may ask for.

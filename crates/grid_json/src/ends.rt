@@ -1,6 +1,6 @@
 // Arrays of just two and of just three items.
 ghost use Rattle.std.specs.Prelude.{◌≡◌, decimal};
-ghost use Rattle.serde_json.specs.View.{view};
+ghost use Rattle.grid_value.specs.View.{view};
 ghost use Rattle.grid_json.specs.Reading.{Gives, under};
 ghost use Rattle.grid_json.specs.Network.{two_at, three_at, both, all_three};
 
@@ -8,7 +8,7 @@ use crate::format::Format;
 use crate::read::{FromJson, member, only};
 use crate::{ReadError, Reason};
 use grid_structure::End;
-use serde_json::Value;
+use grid_value::Value;
 use std::alloc::Global;
 
 /// Two values of one kind.

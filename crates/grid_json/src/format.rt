@@ -1,6 +1,6 @@
 // The formats of jobs.
 use crate::{FromJson, ReadError, Reason};
-use serde_json::Value;
+use grid_value::Value;
 use std::alloc::Global;
 
 /// The format of a job. Each has the words of the formats before it.

@@ -1,6 +1,6 @@
 // The whole job: the first pass over its value.
-ghost use Rattle.std.specs.Prelude.{◌≡◌, ◌≤◌, [], nat_lt, length, IfOk, codes, false};
-ghost use Rattle.serde_json.specs.View.{view};
+ghost use Rattle.std.specs.Prelude.{◌≡◌, ◌≤◌, [], nat_lt, length, unwrap_or, IfOk, codes, false};
+ghost use Rattle.grid_value.specs.View.{view};
 ghost use Rattle.grid_json.specs.Reading.{Gives, member_or, optional_at};
 ghost use Rattle.grid_json.specs.Job.{same_kind, has_kind, listeners_at, workers_at, command_total, max_commands, few_at, order_at, draft_at};
 
@@ -13,7 +13,7 @@ use crate::{ReadError, Reason};
 use grid_core::{Script, Scripts};
 use grid_events::{Filter, Filters};
 use grid_ids::Seq;
-use serde_json::Value;
+use grid_value::Value;
 use std::alloc::Global;
 use std::marker::Model;
 
@@ -99,7 +99,7 @@ impl FromJson for Filter {
 
 /// The listeners of a job.
 #[derive(Drop)]
-struct Listeners {
+pub struct Listeners {
     filters: Filters,
 }
 
@@ -145,7 +145,7 @@ pub fn are_too_many(scripts: &[Script]) -> bool
 
 /// The scripts of a job.
 #[derive(Drop)]
-struct Workers {
+pub struct Workers {
     scripts: Scripts,
 }
 
@@ -170,6 +170,29 @@ impl FromJson for Workers {
             return Err(ReadError::here(alloc, Reason::TooManyCommands));
         }
         Ok(Workers { scripts })
+    }
+}
+
+/// The listeners that were found, or none.
+pub fn filters_or_none(alloc: Global, listeners: Option<Listeners>) -> Filters
+    ensures { result ≡ unwrap_or listeners [] }
+{
+    match listeners {
+        Some(listeners) => listeners.filters,
+        None => Seq::empty(alloc),
+    }
+}
+
+/// The scripts that were found, or none.
+#[tactic(auto, unfolding(crate::specs::Job::command_total))]
+pub fn scripts_or_none(alloc: Global, workers: Option<Workers>) -> Scripts
+    ensures scripts { result ≡ unwrap_or workers [] }
+    ensures few { length result ≤ 32 }
+    ensures total { command_total result ≤ max_commands }
+{
+    match workers {
+        Some(workers) => workers.scripts,
+        None => Seq::empty(alloc),
     }
 }
 

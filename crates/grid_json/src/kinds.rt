@@ -1,5 +1,5 @@
 // Kinds by their words.
-ghost use Rattle.serde_json.specs.View.{view};
+ghost use Rattle.grid_value.specs.View.{view};
 ghost use Rattle.grid_json.specs.Reading.{Gives, word_at};
 ghost use Rattle.grid_json.specs.Kinds as kinds;
 ghost use Rattle.grid_json.specs.Kinds.{injection_words};
@@ -7,7 +7,7 @@ ghost use Rattle.grid_json.specs.Kinds.{injection_words};
 use crate::format::Format;
 use crate::{FromJson, ReadError, Reason};
 use grid_kinds::SwitchKind;
-use serde_json::Value;
+use grid_value::Value;
 use std::alloc::Global;
 
 /// The kinds of injections.

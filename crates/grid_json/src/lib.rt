@@ -13,7 +13,9 @@ mod order;
 mod place;
 mod read;
 mod seen;
-mod value;
+mod slots;
+mod stream;
+mod tokens;
 mod whole;
 
 pub use ends::Two;
@@ -25,5 +27,4 @@ pub use network::item_of;
 pub use place::Place;
 pub use read::{FromJson, member, member_otherwise, object, only, optional};
 pub use seen::SeenIds;
-pub use value::{ByteFault, value_of};
 pub use whole::{Job, JobFault, job_member, read_job};

@@ -12,49 +12,51 @@ use crate::network::{
     SubstationDraft, SwitchDraft, TransformerDraft, Windings,
 };
 use crate::{ReadError, Reason};
-use grid_ids::{Duplicate, Id, Memory};
+use grid_ids::{Duplicate, Id, Memory, Seq};
 use grid_structure::{ApplyFault, Branch, Edit, End, Structure};
 use std::alloc::Global;
 
-/// What loading makes edits of, within the thing that owns it.
-trait Load {
+/// What loading makes edits of, within the thing that owns it. It is given up then.
+trait Load: Sized + Drop {
     // The network with this part.
     ghost loads: { Self → List ℕ → Network → Result Network FaultAt };
 
-    fn load(&self, alloc: Global, owner: &Id, structure: &mut Structure) -> Result<(), ReadError>
-        ensures { Leads structure.new result (loads self.now owner.now structure.old) };
+    fn load(self, alloc: Global, owner: &Id, structure: &mut Structure) -> Result<(), ReadError>
+        ensures { Leads structure.new result (loads self owner.now structure.old) };
 }
 
 /// The parts that stand under a name.
 fn load_under<T: Load>(
     alloc: Global,
-    parts: &[T],
+    parts: Seq<T>,
     name: &str,
     owner: &Id,
     structure: &mut Structure,
 ) -> Result<(), ReadError>
     ensures { Leads structure.new result
-        (load_member T.loads name.now parts.now owner.now structure.old) }
+        (load_member T.loads name.now parts owner.now structure.old) }
 {
-    match load_slice(alloc, parts, owner, structure) {
+    match load_each(alloc, parts, owner, structure) {
         Ok(()) => Ok(()),
         Err(e) => Err(e.under(alloc, name)),
     }
 }
 
 /// Each part, under its position.
-fn load_slice<T: Load>(
+fn load_each<T: Load>(
     alloc: Global,
-    parts: &[T],
+    parts: Seq<T>,
     owner: &Id,
     structure: &mut Structure,
 ) -> Result<(), ReadError>
-    ensures { Leads structure.new result (load_items T.loads 0 parts.now owner.now structure.old) }
+    ensures { Leads structure.new result (load_items T.loads 0 parts owner.now structure.old) }
 {
-    for (i, part) in parts.iter().enumerate() {
+    let mut position = 0usize;
+    for part in parts.into_vec() {
         if let Err(e) = part.load(alloc, owner, structure) {
-            return Err(e.under_position(alloc, i));
+            return Err(e.under_position(alloc, position));
         }
+        position += 1;
     }
     Ok(())
 }
@@ -76,7 +78,7 @@ impl Load for BusbarDraft {
     ghost loads = { busbar_load };
 
     #[tactic(auto, unfolding(crate::specs::Loading::busbar_load))]
-    fn load(&self, alloc: Global, owner: &Id, structure: &mut Structure) -> Result<(), ReadError> {
+    fn load(self, alloc: Global, owner: &Id, structure: &mut Structure) -> Result<(), ReadError> {
         told(alloc, structure.add_busbar(&self.id, owner, self.node))
     }
 }
@@ -87,7 +89,7 @@ impl Load for SwitchDraft {
     ghost loads = { switch_load };
 
     #[tactic(auto, unfolding(crate::specs::Loading::switch_load))]
-    fn load(&self, alloc: Global, owner: &Id, structure: &mut Structure) -> Result<(), ReadError> {
+    fn load(self, alloc: Global, owner: &Id, structure: &mut Structure) -> Result<(), ReadError> {
         let answer = structure.add_switch(
             &self.id,
             owner,
@@ -108,7 +110,7 @@ impl Load for InternalDraft {
     ghost loads = { internal_load };
 
     #[tactic(auto, unfolding(crate::specs::Loading::internal_load))]
-    fn load(&self, alloc: Global, owner: &Id, structure: &mut Structure) -> Result<(), ReadError> {
+    fn load(self, alloc: Global, owner: &Id, structure: &mut Structure) -> Result<(), ReadError> {
         told(alloc, structure.add_internal(owner, self.node1, self.node2))
     }
 }
@@ -119,7 +121,7 @@ impl Load for InjectionDraft {
     ghost loads = { injection_load };
 
     #[tactic(auto, unfolding(crate::specs::Loading::injection_load))]
-    fn load(&self, alloc: Global, owner: &Id, structure: &mut Structure) -> Result<(), ReadError> {
+    fn load(self, alloc: Global, owner: &Id, structure: &mut Structure) -> Result<(), ReadError> {
         told(
             alloc,
             structure.add_injection(&self.id, owner, self.node, &self.item),
@@ -154,30 +156,12 @@ impl Load for LevelDraft {
     ghost loads = { level_load };
 
     #[tactic(auto, unfolding(crate::specs::Loading::level_load))]
-    fn load(&self, alloc: Global, owner: &Id, structure: &mut Structure) -> Result<(), ReadError> {
-        add_level(alloc, self, owner, structure)?;
-        load_under(alloc, self.busbars.slice(), "busbars", &self.id, structure)?;
-        load_under(
-            alloc,
-            self.switches.slice(),
-            "switches",
-            &self.id,
-            structure,
-        )?;
-        load_under(
-            alloc,
-            self.internals.slice(),
-            "internal",
-            &self.id,
-            structure,
-        )?;
-        load_under(
-            alloc,
-            self.injections.slice(),
-            "injections",
-            &self.id,
-            structure,
-        )
+    fn load(self, alloc: Global, owner: &Id, structure: &mut Structure) -> Result<(), ReadError> {
+        add_level(alloc, &self, owner, structure)?;
+        load_under(alloc, self.busbars, "busbars", &self.id, structure)?;
+        load_under(alloc, self.switches, "switches", &self.id, structure)?;
+        load_under(alloc, self.internals, "internal", &self.id, structure)?;
+        load_under(alloc, self.injections, "injections", &self.id, structure)
     }
 }
 
@@ -234,7 +218,7 @@ impl Load for TransformerDraft {
     ghost loads = { transformer_load };
 
     #[tactic(auto, unfolding(crate::specs::Loading::transformer_load))]
-    fn load(&self, alloc: Global, owner: &Id, structure: &mut Structure) -> Result<(), ReadError> {
+    fn load(self, alloc: Global, owner: &Id, structure: &mut Structure) -> Result<(), ReadError> {
         let shape = shape(owner, &self.windings)?;
         add_branch(alloc, &self.id, &shape, structure)
     }
@@ -246,7 +230,7 @@ impl Load for LineDraft {
     ghost loads = { line_load };
 
     #[tactic(auto, unfolding(crate::specs::Loading::line_load))]
-    fn load(&self, alloc: Global, _owner: &Id, structure: &mut Structure) -> Result<(), ReadError> {
+    fn load(self, alloc: Global, _owner: &Id, structure: &mut Structure) -> Result<(), ReadError> {
         let shape = line(copy_two(&self.ends)?);
         add_branch(alloc, &self.id, &shape, structure)
     }
@@ -265,12 +249,12 @@ impl Load for SubstationDraft {
     ghost loads = { substation_load };
 
     #[tactic(auto, unfolding(crate::specs::Loading::substation_load))]
-    fn load(&self, alloc: Global, _owner: &Id, structure: &mut Structure) -> Result<(), ReadError> {
+    fn load(self, alloc: Global, _owner: &Id, structure: &mut Structure) -> Result<(), ReadError> {
         add_substation(alloc, &self.id, structure)?;
-        load_under(alloc, self.levels.slice(), "levels", &self.id, structure)?;
+        load_under(alloc, self.levels, "levels", &self.id, structure)?;
         load_under(
             alloc,
-            self.transformers.slice(),
+            self.transformers,
             "transformers",
             &self.id,
             structure,
@@ -282,25 +266,25 @@ impl Load for SubstationDraft {
 #[tactic(auto, unfolding(crate::specs::Loading::parts_load))]
 fn load_parts(
     alloc: Global,
-    draft: &NetworkDraft,
+    draft: NetworkDraft,
     structure: &mut Structure,
 ) -> Result<(), ReadError>
-    ensures { Leads structure.new result (parts_load draft.now structure.old) }
+    ensures { Leads structure.new result (parts_load draft structure.old) }
 {
     load_under(
         alloc,
-        draft.substations.slice(),
+        draft.substations,
         "substations",
         &draft.id,
         structure,
     )?;
-    load_under(alloc, draft.lines.slice(), "lines", &draft.id, structure)
+    load_under(alloc, draft.lines, "lines", &draft.id, structure)
 }
 
 /// The network of a draft.
 #[tactic(auto, unfolding(crate::specs::Loading::network_load))]
-pub fn load_network(alloc: Global, draft: &NetworkDraft) -> Result<Structure, ReadError>
-    ensures { Gives result (network_load draft.now) }
+pub fn load_network(alloc: Global, draft: NetworkDraft) -> Result<Structure, ReadError>
+    ensures { Gives result (network_load draft) }
 {
     let mut structure = Structure::empty(alloc, draft.id.copy()?);
     match load_parts(alloc, draft, &mut structure) {

@@ -1,6 +1,6 @@
 // The network of a job as it is written.
 ghost use Rattle.std.specs.Prelude.{◌≡◌};
-ghost use Rattle.serde_json.specs.View.{view};
+ghost use Rattle.grid_value.specs.View.{view};
 ghost use Rattle.grid_json.specs.Reading.{Gives, texts};
 ghost use Rattle.grid_json.specs.Network.{injection_names, item_at, windings_at};
 
@@ -12,7 +12,7 @@ use crate::read::{FromJson, member, member_otherwise, object, only, optional};
 use grid_ids::{Id, Seq};
 use grid_kinds::{Injection, SwitchKind};
 use grid_structure::End;
-use serde_json::Value;
+use grid_value::Value;
 use std::alloc::Global;
 
 /// A busbar section at a node.

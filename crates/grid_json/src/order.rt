@@ -1,9 +1,10 @@
 // Orders of scripts.
-ghost use Rattle.std.specs.Prelude.{◌≡◌, ◌<◌, ◌≤◌, map, length, count_by, IfOk, true};
+ghost use Rattle.std.specs.Prelude.{◌≡◌, ◌<◌, ◌≤◌, map, length, count_by, IfOk, IfSome, Ok, true};
 ghost use Rattle.std.specs.List.{list_all};
-ghost use Rattle.serde_json.specs.View.{view};
+ghost use Rattle.grid_value.specs.View.{view};
 ghost use Rattle.grid_json.specs.Reading.{Gives};
-ghost use Rattle.grid_json.specs.Job.{is_worker, counts_from, stands_for, is_order, natural_of, order_at};
+ghost use Rattle.grid_json.specs.Streams.{some_then};
+ghost use Rattle.grid_json.specs.Job.{is_worker, counts_from, stands_for, is_order, natural_of, ordered, order_at};
 
 use crate::format::Format;
 use crate::job::Order;
@@ -11,7 +12,7 @@ use crate::read::FromJson;
 use crate::{ReadError, Reason};
 use grid_core::Script;
 use grid_ids::{Memory, Seq};
-use serde_json::Value;
+use grid_value::Value;
 use std::alloc::Global;
 
 // How often a worker's number stands in an order.
@@ -64,6 +65,17 @@ fn workers_of(alloc: Global, order: &[i64], workers: usize) -> Result<Order, Mem
     Ok(numbers)
 }
 
+/// The order of these scripts that the numbers are.
+fn order_in(alloc: Global, numbers: &[i64], scripts: &[Script]) -> Result<Order, ReadError>
+    requires { length scripts.now ≤ 32 }
+    ensures { Gives result (ordered (map length scripts.now) numbers.now) }
+{
+    if !is_scheduled(scripts, numbers) {
+        return Err(ReadError::here(alloc, Reason::Schedule));
+    }
+    Ok(workers_of(alloc, numbers, scripts.len())?)
+}
+
 /// The order of these scripts.
 pub fn order_of(
     alloc: Global,
@@ -74,9 +86,22 @@ pub fn order_of(
     requires { length scripts.now ≤ 32 }
     ensures { Gives result (order_at scripts.now (view value.now)) }
 {
-    let order: Seq<i64> = Seq::from_json(alloc, format, value)?;
-    if !is_scheduled(scripts, order.slice()) {
-        return Err(ReadError::here(alloc, Reason::Schedule));
+    let numbers: Seq<i64> = Seq::from_json(alloc, format, value)?;
+    order_in(alloc, numbers.slice(), scripts)
+}
+
+/// The order of these scripts that the numbers are, where there are any.
+pub fn order_of_some(
+    alloc: Global,
+    numbers: Option<Seq<i64>>,
+    scripts: &[Script],
+) -> Option<Option<Order>>
+    requires { length scripts.now ≤ 32 }
+    ensures { IfSome result
+        (λ order. some_then (ordered (map length scripts.now)) numbers ≡ Ok order) }
+{
+    match numbers {
+        None => Some(None),
+        Some(numbers) => Some(Some(order_in(alloc, numbers.slice(), scripts).ok()?)),
     }
-    Ok(workers_of(alloc, order.slice(), scripts.len())?)
 }

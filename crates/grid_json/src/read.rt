@@ -1,10 +1,9 @@
 // Reading values from JSON, each with the first fault and its place.
-ghost use Rattle.std.specs.Prelude.{◌≡◌, ℕ, Result, IfOk, length, string_bytes};
+ghost use Rattle.std.specs.Prelude.{◌≡◌, ℕ, Result, IfOk, length};
 ghost use Rattle.std.specs.List.{list_any, list_all};
 ghost use Rattle.std.specs.Str.{bytes_eq};
-ghost use Rattle.std.specs.BTreeMap.{keys};
 ghost use Rattle.serde_json.specs.Data.{Data};
-ghost use Rattle.serde_json.specs.View.{view, items_view};
+ghost use Rattle.grid_value.specs.View.{view, items_view};
 ghost use Rattle.grid_json.specs.declared.fault.Fault.{Fault as FaultAt};
 ghost use Rattle.grid_json.specs.declared.format.Format.{Format as FormatAt};
 ghost use Rattle.grid_json.specs.Reading.{Gives, whole_at, flag_at, id_at, member_at, optional_at, member_or, object_at, only_at, texts, array_at, items_at};
@@ -12,7 +11,7 @@ ghost use Rattle.grid_json.specs.Reading.{Gives, whole_at, flag_at, id_at, membe
 use crate::format::Format;
 use crate::{ReadError, Reason};
 use grid_ids::{Id, IdFault, Seq};
-use serde_json::{Map, Value};
+use grid_value::Value;
 use std::alloc::Global;
 
 /// What is read from a JSON value.
@@ -138,21 +137,21 @@ fn is_among(names: &[&str], name: &str) -> bool
 }
 
 /// Whether each member's name is among those given.
-fn has_only(names: &[&str], map: &Map<String, Value>) -> bool
+fn has_only(names: &[&str], members: &[(&str, Value)]) -> bool
     ensures { result ≡ list_all
-        (λ k. list_any (λ known. bytes_eq known.now (string_bytes k)) names.now) (keys map.now) }
+        (λ member. list_any (λ known. bytes_eq known.now member.0.now) names.now) members.now }
 {
-    map.keys().all(|name| is_among(names, name.as_str()))
+    members.iter().all(|member| is_among(names, member.0))
 }
 
 /// The value is an object that has no member but these.
 pub fn only(alloc: Global, value: &Value, names: &[&str]) -> Result<(), ReadError>
     ensures { Gives result (only_at (texts names.now) (view value.now)) }
 {
-    let Some(map) = value.as_object() else {
+    let Some(members) = value.as_object() else {
         return Err(ReadError::here(alloc, Reason::WrongKind));
     };
-    if has_only(names, map) {
+    if has_only(names, members.as_slice()) {
         Ok(())
     } else {
         Err(ReadError::here(alloc, Reason::Unknown))

@@ -1,18 +1,18 @@
 // Jobs from bytes.
 ghost use Rattle.std.specs.Prelude.{◌≡◌, ◌≤◌, codes, IfOk};
-ghost use Rattle.serde_json.specs.View.{view};
+ghost use Rattle.grid_value.specs.View.{view};
 ghost use Rattle.grid_json.specs.Job.{command_total, max_commands, draft_at};
 ghost use Rattle.grid_json.specs.Reading.{Gives, member_at};
 ghost use Rattle.grid_json.specs.Whole.{loaded, whole_job_at, or_bad_job, draft_of, job_of, JobGives};
 
 use crate::job::{JobDraft, Order, read_draft};
 use crate::load::load_network;
-use crate::value::{ByteFault, value_of};
+use crate::stream::stream_draft;
 use crate::{Place, ReadError, Reason};
 use grid_core::Scripts;
 use grid_events::Filters;
 use grid_structure::Structure;
-use serde_json::Value;
+use grid_value::{ByteFault, Scratch, Value};
 use std::alloc::Global;
 
 /// A network with its listeners, the scripts of its workers, and the order of their steps, where one is given.
@@ -50,13 +50,18 @@ fn read_first(alloc: Global, value: &Value) -> Result<JobDraft, JobFault>
     }
 }
 
-/// The first pass over the bytes. The value is given up then.
+/// The first pass over the bytes, straight from the tokens where that goes, and else over a value of them, which is given
+/// up then.
 #[tactic(auto, unfolding(crate::specs::Whole::draft_of))]
 fn read_bytes(alloc: Global, bytes: &[u8]) -> Result<JobDraft, JobFault>
     ensures draft { JobGives result (draft_of bytes.now) }
     ensures total { IfOk result (λ draft. command_total draft.scripts ≤ max_commands) }
 {
-    match value_of(alloc, bytes) {
+    if let Some(draft) = stream_draft(alloc, bytes) {
+        return Ok(draft);
+    }
+    let mut scratch = Scratch::new(alloc);
+    match Value::from_slice(alloc, bytes, &mut scratch) {
         Ok(value) => read_first(alloc, &value),
         Err(ByteFault::NotJson) => Err(JobFault::BadJson),
         Err(ByteFault::Memory) => Err(JobFault::Memory),
@@ -69,7 +74,7 @@ fn load(alloc: Global, draft: JobDraft) -> Result<Job, ReadError>
     ensures job { Gives result (loaded draft) }
     ensures scripts { IfOk result (λ job. job.scripts ≡ draft.scripts) }
 {
-    let network = load_network(alloc, &draft.network)?;
+    let network = load_network(alloc, draft.network)?;
     Ok(Job {
         network,
         filters: draft.filters,

@@ -8,7 +8,8 @@ use crate::told::why_seen;
 use crate::why::{Why, why_of};
 use crate::wrong_words::{WrongWords, wrong_words};
 use grid_cli::{Form, Status, read_words};
-use grid_json::{Place, Reason, value_of};
+use grid_json::{Place, Reason};
+use serde_json::Value;
 use std::alloc::{AllocError, Global};
 use thiserror::Error;
 
@@ -65,7 +66,7 @@ fn seen_in(
     input: &[u8],
 ) -> Result<(Option<Why>, String), AllocError> {
     let mut owned = String::new(alloc);
-    let Ok(root) = value_of(alloc, input) else {
+    let Ok(root) = Value::from_slice(alloc, input) else {
         return Ok((None, owned));
     };
     if let Some(id) = owner(&root, place.text()) {

@@ -2,7 +2,7 @@
 use Rattle.std.proofs.Common.{◌≡◌, ℕ, List, [], Some, None, Ok, refl}
 use Rattle.grid_structure.specs.Network.{Network}
 use Rattle.grid_structure.specs.Soundness.{IsSound}
-use Rattle.grid_json.specs.Bytes.{reading}
+use Rattle.grid_value.specs.Bytes.{reading}
 use Rattle.grid_json.specs.Whole.{loaded, draft_of, job_of}
 use Rattle.grid_print.specs.Job.{job_value}
 use Rattle.grid_print.specs.Readable.{IsReadable}

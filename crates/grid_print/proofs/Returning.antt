@@ -12,8 +12,8 @@ use Rattle.json.proofs.Printed.Trees.{ArePrintable-json_tokens}
 use Rattle.serde_json.specs.Data.{Data}
 use Rattle.serde_json.specs.Read.{of_json, max_depth, read}
 use Rattle.serde_json.specs.Written.{IsInOrder}
-use Rattle.grid_json.specs.Bytes.{reading}
-use Rattle.grid_json.proofs.Texts.{reading_some}
+use Rattle.grid_value.specs.Bytes.{reading}
+use Rattle.grid_value.proofs.Texts.{reading_some}
 use Rattle.grid_print.proofs.Newline.{tokens_newline}
 
 -- ---- the tokens of a tree can be written where none of them is wrong

@@ -4,7 +4,7 @@ ghost use Rattle.serde_json.specs.Data.{depth};
 ghost use Rattle.serde_json.specs.Read.{max_depth};
 ghost use Rattle.serde_json.specs.Written.{has_float};
 ghost use Rattle.serde_json.specs.View.{view};
-ghost use Rattle.grid_json.specs.Bytes.{reading};
+ghost use Rattle.grid_value.specs.Bytes.{reading};
 ghost use Rattle.grid_json.specs.Whole.{job_of};
 ghost use Rattle.grid_print.specs.Readable.{IsReadable};
 ghost use Rattle.grid_print.specs.Loads.{job_alone};

@@ -5,7 +5,7 @@ use Rattle.grid_json.specs.declared.fault.Fault.{Fault}
 use Rattle.grid_json.specs.declared.fault.Reason.TheVariants.{TooManyContingencies}
 use Rattle.grid_json.specs.declared.whole.JobFault.{JobFault}
 use Rattle.grid_json.specs.declared.whole.JobFault.TheVariants.{BadJson}
-use Rattle.grid_json.specs.Bytes.{reading}
+use Rattle.grid_value.specs.Bytes.{reading}
 use Rattle.grid_json.specs.Job.{few_at}
 use Rattle.grid_json.specs.Reading.{◌>>=◌, id_at, array_at, member_at, only_at}
 use Rattle.grid_json.specs.Whole.{whole_job_at, or_bad_job}

@@ -1,17 +1,14 @@
 // Jobs with contingencies from JSON.
 ghost use Rattle.std.specs.Prelude.{◌≤◌, IfOk, codes};
-ghost use Rattle.serde_json.specs.View.{view};
+ghost use Rattle.grid_value.specs.View.{view};
 ghost use Rattle.grid_json.specs.Job.{command_total, max_commands};
 ghost use Rattle.grid_json.specs.Reading.{Gives, member_at};
 ghost use Rattle.grid_json.specs.Whole.{JobGives};
 ghost use Rattle.grid_screen.specs.Jobs.{contingencies_at, screen_at, screen_job_of};
 
 use crate::{Contingencies, Contingency, ScreenJob};
-use grid_json::{
-    ByteFault, Format, FromJson, JobFault, ReadError, Reason, few, job_member, member, only,
-    value_of,
-};
-use serde_json::Value;
+use grid_json::{Format, FromJson, JobFault, ReadError, Reason, few, job_member, member, only};
+use grid_value::{ByteFault, Scratch, Value};
 use std::alloc::Global;
 
 /// The most contingencies that are screened at once.
@@ -78,7 +75,8 @@ pub fn read_screen(alloc: Global, bytes: &[u8]) -> Result<ScreenJob, JobFault>
     ensures job { JobGives result (screen_job_of bytes.now) }
     ensures total { IfOk result (λ screen. command_total screen.job.scripts ≤ max_commands) }
 {
-    let value = match value_of(alloc, bytes) {
+    let mut scratch = Scratch::new(alloc);
+    let value = match Value::from_slice(alloc, bytes, &mut scratch) {
         Ok(value) => value,
         Err(ByteFault::NotJson) => return Err(JobFault::BadJson),
         Err(ByteFault::Memory) => return Err(JobFault::Memory),

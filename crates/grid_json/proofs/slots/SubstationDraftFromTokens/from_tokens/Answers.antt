@@ -1,0 +1,28 @@
+use Rattle.std.proofs.Common.{[], Some, refl}
+use Rattle.std.specs.Prelude.{codes}
+use Rattle.serde_json.specs.Data.{object}
+use Rattle.grid_json.specs.Reading.{id_at, array_at}
+use Rattle.grid_json.specs.Network.{level_at, substation_at, transformer_at}
+use Rattle.grid_json.specs.Streams.{Holds}
+use Rattle.grid_json.proofs.Filling.{member_is, member_or_is}
+use Rattle.grid_json.proofs.slots.SubstationDraftFromTokens.from_tokens.Goals as goal
+
+pub returns-clause-read : goal.returns-clause-read
+unfolding substation_at
+returns-clause-read c =
+    let slots = c.in_ok-slots.slots in
+    let read = c.in_ok-slots.ensures.object in
+    let found = read.0 in
+    let held = read.2 in
+    let id : Holds id_at (codes "id") found (Some c.in_ok-slots-2.field-0) = rw c.in_ok-slots-2.was at held.id in (
+      object found,
+      read.1,
+      rw (
+        held.known,
+        member_is id_at (codes "id") found c.in_ok-slots-2.field-0 id,
+        member_or_is (array_at (level_at c.args.format)) (codes "levels") [] found slots.levels held.levels,
+        ← c.or_none.ensures,
+        member_or_is (array_at (transformer_at c.args.format)) (codes "transformers") [] found slots.transformers held.transformers,
+        ← c.or_none-2.ensures,
+      ) refl,
+    )

@@ -1,0 +1,176 @@
+// The first pass over a job straight from its tokens, where it has no fault.
+ghost use Rattle.std.specs.Prelude.{◌≡◌, ◌<◌, ◌≤◌, length, unwrap_or, codes, None, Ok, IfSome, OnSome, IsTrue};
+ghost use Rattle.grid_json.specs.declared.format.Format.TheVariants.{One};
+ghost use Rattle.grid_json.specs.Job.{command_total, max_commands, draft_at};
+ghost use Rattle.grid_json.specs.Streams.{Streams, Fills, Takes};
+ghost use Rattle.grid_json.specs.Slots.{JobHolds};
+ghost use Rattle.grid_json.specs.Whole.{draft_of};
+
+use crate::format::Format;
+use crate::job::{JobDraft, Listeners, Workers, filters_or_none, scripts_or_none};
+use crate::network::NetworkDraft;
+use crate::order::order_of_some;
+use crate::tokens::{FromTokens, Slots, fill, object_of, small};
+use grid_ids::Seq;
+use grid_value::{MAX_DEPTH, Scratch};
+use json::Reader;
+use std::alloc::Global;
+
+impl FromTokens for Format {
+    fn from_tokens(
+        alloc: Global,
+        format: Format,
+        reader: &mut Reader<'_>,
+        depth: usize,
+    ) -> Option<Format> {
+        small(alloc, format, reader, depth)
+    }
+}
+
+impl FromTokens for Listeners {
+    fn from_tokens(
+        alloc: Global,
+        format: Format,
+        reader: &mut Reader<'_>,
+        depth: usize,
+    ) -> Option<Listeners> {
+        small(alloc, format, reader, depth)
+    }
+}
+
+impl FromTokens for Workers {
+    fn from_tokens(
+        alloc: Global,
+        format: Format,
+        reader: &mut Reader<'_>,
+        depth: usize,
+    ) -> Option<Workers> {
+        small(alloc, format, reader, depth)
+    }
+}
+
+/// Takes the next value of the reader into a slot, by the format that was found.
+fn fill_by<T: FromTokens>(
+    alloc: Global,
+    format: Option<Format>,
+    slot: &mut Option<T>,
+    reader: &mut Reader<'_>,
+    depth: usize,
+) -> Option<()>
+    ensures filled { OnSome result
+        (Fills (T.reads (unwrap_or format One)) depth reader.old reader.new slot.new) }
+    ensures shorter { OnSome result (length reader.new < length reader.old) }
+{
+    match format {
+        Some(format) => fill(alloc, format, slot, reader, depth),
+        None => None,
+    }
+}
+
+/// The members of a job.
+#[derive(Drop)]
+struct JobSlots {
+    format: Option<Format>,
+    network: Option<NetworkDraft>,
+    listeners: Option<Listeners>,
+    workers: Option<Workers>,
+    order: Option<Seq<i64>>,
+}
+
+impl JobSlots {
+    /// Whether no member was found that is read by the format.
+    fn awaits_format(&self) -> bool
+        ensures { IsTrue result → (self.now.network ≡ None) × (self.now.listeners ≡ None)
+            × (self.now.workers ≡ None) }
+    {
+        self.network.is_none() && self.listeners.is_none() && self.workers.is_none()
+    }
+
+    /// Takes the next value of the reader as the format, where no member was found that is read by it.
+    fn take_format(
+        &mut self,
+        alloc: Global,
+        format: Format,
+        reader: &mut Reader<'_>,
+        depth: usize,
+    ) -> Option<()>
+        ensures taken { OnSome result (Takes (JobHolds format) (codes "format") depth reader.old
+            reader.new self.old self.new) }
+        ensures shorter { OnSome result (length reader.new < length reader.old) }
+    {
+        if !self.awaits_format() {
+            return None;
+        }
+        fill(alloc, format, &mut self.format, reader, depth)
+    }
+}
+
+impl Slots for JobSlots {
+    ghost holds = { JobHolds };
+
+    fn empty() -> JobSlots {
+        JobSlots {
+            format: None,
+            network: None,
+            listeners: None,
+            workers: None,
+            order: None,
+        }
+    }
+
+    fn take(
+        &mut self,
+        alloc: Global,
+        format: Format,
+        name: &str,
+        reader: &mut Reader<'_>,
+        depth: usize,
+    ) -> Option<()> {
+        match name {
+            "format" => self.take_format(alloc, format, reader, depth),
+            "network" => fill_by(alloc, self.format, &mut self.network, reader, depth),
+            "listeners" => fill_by(alloc, self.format, &mut self.listeners, reader, depth),
+            "workers" => fill_by(alloc, self.format, &mut self.workers, reader, depth),
+            "order" => fill(alloc, format, &mut self.order, reader, depth),
+            _ => None,
+        }
+    }
+}
+
+/// The next value of the reader as a job.
+#[tactic(auto, unfolding(crate::specs::Job::draft_at))]
+fn next_draft(alloc: Global, reader: &mut Reader<'_>, depth: usize) -> Option<JobDraft>
+    ensures draft { IfSome result (Streams draft_at depth reader.old reader.new) }
+    ensures total { IfSome result (λ draft. command_total draft.scripts ≤ max_commands) }
+{
+    let slots: JobSlots = object_of(alloc, Format::One, reader, depth)?;
+    // The format was found before what was read by it.
+    let _format = slots.format?;
+    let network = slots.network?;
+    let filters = filters_or_none(alloc, slots.listeners);
+    let scripts = scripts_or_none(alloc, slots.workers);
+    let order = order_of_some(alloc, slots.order, scripts.slice())?;
+    Some(JobDraft {
+        network,
+        filters,
+        scripts,
+        order,
+    })
+}
+
+/// The first pass over the bytes, where they spell a job with no fault whose format stands before what is read by it.
+pub fn stream_draft(alloc: Global, bytes: &[u8]) -> Option<JobDraft>
+    ensures draft { IfSome result (λ draft. draft_of bytes.now ≡ Ok draft) }
+    ensures total { IfSome result (λ draft. command_total draft.scripts ≤ max_commands) }
+{
+    let Ok(text) = std::str::from_utf8(bytes) else {
+        return None;
+    };
+    let mut scratch = Scratch::new(alloc);
+    let mut reader = Reader::new(text, &mut scratch).ok()?;
+    let draft = next_draft(alloc, &mut reader, MAX_DEPTH)?;
+    if reader.next().is_some() {
+        return None;
+    }
+    Some(draft)
+}

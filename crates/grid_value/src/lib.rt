@@ -1,0 +1,11 @@
+//! JSON values whose texts are lent by the bytes that they were read from.
+#![tactic(auto)]
+
+mod number;
+mod read;
+mod value;
+
+pub use json::Scratch;
+pub use number::Number;
+pub use read::{ByteFault, MAX_DEPTH};
+pub use value::Value;
