@@ -1,148 +1,16 @@
--- Rows of steps, as they grow, and the best step of one.
-use Rattle.std.proofs.Common.{◌≡◌, refl, sym, ap, ◌∙◌, subst, ℕ, zero, suc, ◌+◌, ◌<◌, ◌≤◌, List, [], ◌∷◌, ◌++◌, length, inl, inr, arith, ◌⊎◌, get_or, take}
-use Rattle.std.specs.Prelude.{Option, Some, None, slice_get, Result, Ok, Err}
+-- The rows of edges, a chain for each node, as they grow and as they are gone through.
+use Rattle.std.proofs.Common.{◌≡◌, ◌≢◌, refl, sym, ap, ◌∙◌, subst, ℕ, zero, suc, ◌+◌, ◌<◌, ◌≤◌, true, false, List, [], ◌∷◌, ◌++◌, length, inl, inr, arith, ◌⊎◌, get_or, set, length-set, get_or-set_same, get_or-set_other}
+use Rattle.std.specs.Prelude.{Option, Some, None, slice_get, unwrap_or, is_some, Result, Ok, Err}
 use Rattle.std.specs.Result.{OnOk, IfOk}
-use Rattle.std.specs.List.{Contains}
-use Rattle.std.specs.Global.{Vec}
-use Rattle.std.proofs.lemmas.Bool.{cases_eq}
-use Rattle.std.proofs.lemmas.List.{take_more}
-use Rattle.std.proofs.lemmas.List.Elements.{Contains-append_left, Contains-append_right, Contains-append_cases}
-use Rattle.std.proofs.lemmas.Option.{slice_get-get_or}
+use Rattle.std.proofs.lemmas.Bool.{cases_eq, cases_order, false≢true, true≢false}
+use Rattle.std.proofs.lemmas.List.{get_or_append_left, get_or_push, length_push}
 use Rattle.grid_paths.specs.declared.PathEdge.{PathEdge}
 use Rattle.grid_paths.specs.declared.Step.{Step}
 use Rattle.grid_paths.specs.Paths.{across}
-use Rattle.grid_paths.specs.Routes.{ends_of, EndsBelow}
-use Rattle.grid_paths.specs.Search.{weight_of_lem, Leads, row_at, row_of, AreRows, AreRowsTo, Appends, StepsBelow, IsTight, IsBest, IsRow}
+use Rattle.grid_paths.specs.Routes.{ends_of}
+use Rattle.grid_paths.specs.Search.{far, weight_of_lem, Leads, cost_at, IsLed, IsLink, AreLinks, AreChainsTo, AreChains, Passes, IsTight, IsBestFrom}
 use Rattle.grid_paths.proofs.Least.{some_same, some_none}
-use Rattle.grid_paths.proofs.Routing.{across_ends, across_first, across_second, Leads_below, Leads_weight, weight_positive}
-
-pub Contains_only : {X : Type 0} (x y : X) → Contains (x ∷ []) y → y ≡ x
-Contains_only x y (zero, lt, e) = sym e
-Contains_only x y (suc k, lt, e) = absurd (omega arith)
-
-pub Contains_this : {X : Type 0} (x : X) → Contains (x ∷ []) x
-Contains_this x = (0, omega arith, refl)
-
-pub Contains_none : {X : Type 0} (y : X) → Contains [] y → ⊥
-Contains_none y (k, lt, e) = absurd (omega arith)
-
-pub Contains_push : {X : Type 0} (xs : List X) (x y : X) → Contains (xs ++ x ∷ []) y → Contains xs y ⊎ (y ≡ x)
-Contains_push xs x y h = elim (Contains-append_cases xs (x ∷ []) y h) [ inl g ↦ inl g | inr g ↦ inr (Contains_only x y g) ]
-
--- ---- one step more
-
-appended_has : (old new : List (Vec Step)) (node u : ℕ) (step s : Step) → Appends old new node step → Contains (row_at new u) s → Contains (row_at old u) s ⊎ ((u ≡ node) × (s ≡ step))
-appended_has old new node u step s a h = elim (cases_eq u node) [
-  | inl e ↦ (
-      let P : ℕ → Type 0 = λ z. Contains (row_at new z) s in
-      let Q : List Step → Type 0 = λ z. Contains z s in
-      elim (Contains_push (row_at old node) step s (subst Q a.here (subst P e h))) [
-        | inl g ↦ inl (let R : ℕ → Type 0 = λ z. Contains (row_at old z) s in subst R (sym e) g)
-        | inr g ↦ inr (e, g)
-      ]
-      )
-  | inr ne ↦ inl (let Q : List Step → Type 0 = λ z. Contains z s in subst Q (a.others u ne) h)
-]
-
-appended_kept : (old new : List (Vec Step)) (node u : ℕ) (step s : Step) → Appends old new node step → Contains (row_at old u) s → Contains (row_at new u) s
-appended_kept old new node u step s a h = elim (cases_eq u node) [
-  | inl e ↦ (
-      let P : ℕ → Type 0 = λ z. Contains (row_at old z) s in
-      let Q : List Step → Type 0 = λ z. Contains z s in
-      let R : ℕ → Type 0 = λ z. Contains (row_at new z) s in
-      subst R (sym e) (subst Q (sym a.here) (Contains-append_left (row_at old node) (step ∷ []) s (subst P e h)))
-      )
-  | inr ne ↦ (let Q : List Step → Type 0 = λ z. Contains z s in subst Q (sym (a.others u ne)) h)
-]
-
-appended_new : (old new : List (Vec Step)) (node : ℕ) (step : Step) → Appends old new node step → Contains (row_at new node) step
-appended_new old new node step a = let Q : List Step → Type 0 = λ z. Contains z step in subst Q (sym a.here) (Contains-append_right (row_at old node) (step ∷ []) step (Contains_this step))
-
--- ---- an edge more
-
-barred_none : (edges : List PathEdge) (place : ℕ) (edge : PathEdge) (rows : List (Vec Step)) → weight_of_lem edge.way ≡ None → slice_get edges place ≡ Some edge
-    → (u v weight : ℕ) → Leads edges u place v weight → ⊥
-barred_none edges place edge rows none at u v weight l =
-    let e : l.edge ≡ edge = some_same l.edge edge (sym l.at ∙ at) in
-    some_none weight (sym none ∙ ap (λ (z : PathEdge). weight_of_lem z.way) (sym e) ∙ l.weighs)
-
-pub rows_none : (edges : List PathEdge) (place : ℕ) (edge : PathEdge) (rows : List (Vec Step)) → weight_of_lem edge.way ≡ None → slice_get edges place ≡ Some edge
-    → AreRowsTo edges place rows → AreRowsTo edges (place + 1) rows
-rows_none edges place edge rows none at r = record {
-  sound = r.sound;
-  complete = λ u p v weight lt below l. elim (cases_eq p place) [
-    | inl e ↦ (let P : ℕ → Type 0 = λ z. Leads edges u z v weight in absurd (barred_none edges place edge rows none at u v weight (subst P e l)))
-    | inr ne ↦ r.complete u p v weight lt (omega (arith, ne, below)) l
-  ];
-}
-
-step_of : ℕ → ℕ → ℕ → Step
-step_of p v w = record { place = p; to = v; weight = w }
-
-pub rows_both : (edges : List PathEdge) (place weight : ℕ) (edge : PathEdge) (r0 r1 r2 : List (Vec Step)) → slice_get edges place ≡ Some edge → weight_of_lem edge.way ≡ Some weight
-    → AreRowsTo edges place r0 → Appends r0 r1 edge.a (record { place = place; to = edge.b; weight = weight }) → Appends r1 r2 edge.b (record { place = place; to = edge.a; weight = weight })
-    → AreRowsTo edges (place + 1) r2
-unfolding step_of
-rows_both edges place weight edge r0 r1 r2 at w r one two = record { sound = sound; complete = complete }
-  where
-    first : Step
-    first = record { place = place; to = edge.b; weight = weight }
-
-    second : Step
-    second = record { place = place; to = edge.a; weight = weight }
-
-    lead : (u v : ℕ) → across u (ends_of edge) ≡ Some v → Leads edges u place v weight
-    lead u v h = record { edge = edge; at = at; over = h; weighs = w }
-
-    sound : (u : ℕ) (s : Step) → Contains (row_at r2 u) s → Leads edges u s.place s.to s.weight
-    sound u s h = elim (appended_has r1 r2 edge.b u second s two h) [
-      | inl g ↦ elim (appended_has r0 r1 edge.a u first s one g) [
-        | inl k ↦ r.sound u s k
-        | inr k ↦ (let P : Step → Type 0 = λ z. Leads edges u z.place z.to z.weight in subst P (sym k.1) (lead u edge.b (across_first u edge.b (ends_of edge) (sym k.0) refl)))
-      ]
-      | inr g ↦ (let P : Step → Type 0 = λ z. Leads edges u z.place z.to z.weight in subst P (sym g.1) (lead u edge.a (across_second u edge.a (ends_of edge) (sym g.0) refl)))
-    ]
-
-    complete : (u p v w' : ℕ) → u < length r2 → p < place + 1 → Leads edges u p v w' → Contains (row_at r2 u) (record { place = p; to = v; weight = w' })
-    complete u p v w' lt below l = elim (cases_eq p place) [
-      | inl e ↦ (
-          let k : l.edge ≡ edge = some_same l.edge edge (sym l.at ∙ ap (slice_get edges) e ∙ at) in
-          let same : w' ≡ weight = some_same w' weight (sym l.weighs ∙ ap (λ (z : PathEdge). weight_of_lem z.way) k ∙ w) in
-          let over : across u (ends_of edge) ≡ Some v = ap (λ z. across u (ends_of z)) (sym k) ∙ l.over in
-          elim (across_ends u v (ends_of edge) over) [
-            | inl h ↦ (
-                let s : step_of p v w' ≡ step_of place edge.b weight = ap (λ z. step_of z v w') e ∙ ap (λ z. step_of place z w') (sym h.1) ∙ ap (λ z. step_of place edge.b z) same in
-                let P : Step → Type 0 = λ z. Contains (row_at r2 u) z in
-                let Q : ℕ → Type 0 = λ z. Contains (row_at r1 z) first in
-                subst P (sym s) (appended_kept r1 r2 edge.b u second first two (subst Q h.0 (appended_new r0 r1 edge.a first one)))
-                )
-            | inr h ↦ (
-                let s : step_of p v w' ≡ step_of place edge.a weight = ap (λ z. step_of z v w') e ∙ ap (λ z. step_of place z w') (sym h.1) ∙ ap (λ z. step_of place edge.a z) same in
-                let P : Step → Type 0 = λ z. Contains (row_at r2 u) z in
-                let Q : ℕ → Type 0 = λ z. Contains (row_at r2 z) second in
-                subst P (sym s) (subst Q h.0 (appended_new r1 r2 edge.b second two))
-                )
-          ]
-          )
-      | inr ne ↦ (
-          let small : u < length r0 = omega (arith, lt, one.long, two.long) in
-          appended_kept r1 r2 edge.b u second (record { place = p; to = v; weight = w' }) two
-          (appended_kept r0 r1 edge.a u first (record { place = p; to = v; weight = w' }) one (r.complete u p v w' small (omega (arith, ne, below)) l))
-          )
-    ]
-
-pub rows_empty : (edges : List PathEdge) (rows : List (Vec Step)) → ((u : ℕ) → row_at rows u ≡ []) → AreRowsTo edges 0 rows
-rows_empty edges rows h = record {
-  sound = λ u s c. absurd (Contains_none s (let Q : List Step → Type 0 = λ z. Contains z s in subst Q (h u) c));
-  complete = λ u p v w lt below l. absurd (omega arith);
-}
-
-pub rows_below : (edges : List PathEdge) (count : ℕ) (rows : List (Vec Step)) → EndsBelow edges count → AreRows edges rows → StepsBelow rows count
-rows_below edges count rows ends r u s c =
-    let l = r.sound u s c in
-    let w = Leads_weight edges u s.place s.to s.weight l in
-    let p = weight_positive edges s.place in
-    (Leads_below edges count u s.place s.to s.weight ends l, omega (arith, w, p))
+use Rattle.grid_paths.proofs.Routing.{across_ends, across_first, across_second, Leads_same, Leads_weight}
 
 pub place_within : (edges : List PathEdge) (u place v weight : ℕ) → Leads edges u place v weight → place < length edges
 place_within edges u place v weight l = within edges place l.edge l.at
@@ -152,61 +20,216 @@ place_within edges u place v weight l = within edges place l.edge l.at
     within (d ∷ ds) zero edge e = omega arith
     within (d ∷ ds) (suc p) edge e = let h = within ds p edge e in omega (arith, h)
 
-pub row_is : (edges : List PathEdge) (rows : List (Vec Step)) (u : ℕ) → u < length rows → AreRows edges rows → IsRow edges u (row_at rows u)
-row_is edges rows u lt r = record { sound = λ s c. r.sound u s c; complete = λ place v weight l. r.complete u place v weight lt (place_within edges u place v weight l) l }
+-- ---- an edge more
+
+-- from u the edge doesn't lead on
+link_kept : (edges : List PathEdge) (u place link : ℕ) → ((v weight : ℕ) → Leads edges u place v weight → ⊥) → IsLink edges u place link → IsLink edges u (place + 1) link
+link_kept edges u place link none h = record {
+  within = (let w = h.within in omega (arith, w));
+  led = h.led;
+  none = λ p v weight le lt l. elim (cases_eq p place) [
+    | inl e ↦ none v weight (let P : ℕ → Type 0 = λ z. Leads edges u z v weight in subst P e l)
+    | inr ne ↦ h.none p v weight le (omega (arith, ne, lt)) l
+  ];
+}
+
+-- from u it does
+link_put : (edges : List PathEdge) (u place v weight : ℕ) → Leads edges u place v weight → IsLink edges u (place + 1) (place + 1)
+link_put edges u place v weight l = record {
+  within = omega arith;
+  led = λ p e. (
+      let same : place ≡ p = omega (arith, e) in
+      let P : ℕ → Type 0 = λ z. (v : ℕ) × (weight : ℕ) × Leads edges u z v weight in
+      subst P same (v, weight, l)
+      );
+  none = λ p v weight le lt l. absurd (omega arith);
+}
+
+links_more : (edges : List PathEdge) (firsts : List ℕ) (nexts : List (ℕ × ℕ)) (place : ℕ) (edge : PathEdge) (links : ℕ × ℕ) → slice_get edges place ≡ Some edge → AreChainsTo edges place firsts nexts
+    → AreLinks edges edge place links → (p : ℕ) (e : PathEdge) (d : ℕ × ℕ) → p < place + 1 → slice_get edges p ≡ Some e → AreLinks edges e p (get_or (nexts ++ links ∷ []) p d)
+links_more edges firsts nexts place edge links at c here p e d lt at' = elim (cases_eq p place) [
+  | inl same ↦ (
+      let k : edge ≡ e = some_same edge e (sym at ∙ ap (slice_get edges) (sym same) ∙ at') in
+      let R : PathEdge → Type 0 = λ z. AreLinks edges z place links in
+      let S : ℕ → Type 0 = λ z. AreLinks edges e z links in
+      subst Q (sym (get_or_push nexts links d p (c.long ∙ sym same))) (subst S (sym same) (subst R k here))
+      )
+  | inr ne ↦ (
+      let l = c.long in
+      let less : p < place = omega (arith, ne, lt) in
+      subst Q (sym (get_or_append_left nexts (links ∷ []) d p (omega (arith, l, less)))) (c.next p e d less at')
+      )
+]
+  where
+    Q : ℕ × ℕ → Type 0
+    Q z = AreLinks edges e p z
+
+some_weight : (o : Option ℕ) → is_some o ≡ true → (w : ℕ) × (o ≡ Some w)
+some_weight None e = absurd (false≢true e)
+some_weight (Some w) e = (w, refl)
+
+no_weight : (o : Option ℕ) (w : ℕ) → is_some o ≡ false → o ≡ Some w → ⊥
+no_weight None w e g = some_none w g
+no_weight (Some v) w e g = true≢false e
+
+module _ (edges : List PathEdge) (place : ℕ) (edge : PathEdge) (firsts : List ℕ) (nexts : List (ℕ × ℕ)) (x y : ℕ) (a : edge.a < length firsts) (b : edge.b < length firsts)
+    (at : slice_get edges place ≡ Some edge) (ex : x ≡ get_or firsts edge.a x) (ey : y ≡ get_or firsts edge.b y) (c : AreChainsTo edges place firsts nexts) where
+  here : AreLinks edges edge place (x, y)
+  here =
+      let P : ℕ → Type 0 = λ z. IsLink edges edge.a place z in
+      let Q : ℕ → Type 0 = λ z. IsLink edges edge.b place z in
+      (subst P (sym ex) (c.first edge.a x a), subst Q (sym ey) (c.first edge.b y b))
+
+  long : length (nexts ++ (x, y) ∷ []) ≡ place + 1
+  long = length_push nexts (x, y) ∙ ap (λ n. n + 1) c.long
+
+  same_edge : (u v weight : ℕ) → (l : Leads edges u place v weight) → l.edge ≡ edge
+  same_edge u v weight l = some_same l.edge edge (sym l.at ∙ at)
+
+  pub added_barred : is_some (weight_of_lem edge.way) ≡ false → AreChainsTo edges (place + 1) firsts (nexts ++ (x, y) ∷ [])
+  added_barred barred = record {
+    long = long;
+    first = λ u d lt. link_kept edges u place _ (none u) (c.first u d lt);
+    next = links_more edges firsts nexts place edge (x, y) at c here;
+  }
+    where
+      none : (u v weight : ℕ) → Leads edges u place v weight → ⊥
+      none u v weight l = no_weight _ weight barred (ap (λ (z : PathEdge). weight_of_lem z.way) (sym (same_edge u v weight l)) ∙ l.weighs)
+
+  pub added_open : is_some (weight_of_lem edge.way) ≡ true → AreChainsTo edges (place + 1) (set (set firsts edge.a (place + 1)) edge.b (place + 1)) (nexts ++ (x, y) ∷ [])
+  added_open passable = record {
+    long = long;
+    first = first;
+    next = links_more edges firsts nexts place edge (x, y) at c here;
+  }
+    where
+      weight : (w : ℕ) × (weight_of_lem edge.way ≡ Some w)
+      weight = some_weight _ passable
+
+      from_a : Leads edges edge.a place edge.b weight.0
+      from_a = record { edge = edge; at = at; over = across_first edge.a edge.b (ends_of edge) refl refl; weighs = weight.1 }
+
+      from_b : Leads edges edge.b place edge.a weight.0
+      from_b = record { edge = edge; at = at; over = across_second edge.b edge.a (ends_of edge) refl refl; weighs = weight.1 }
+
+      none : (u : ℕ) → u ≢ edge.a → u ≢ edge.b → (v w : ℕ) → Leads edges u place v w → ⊥
+      none u na nb v w l =
+          let over : across u (ends_of edge) ≡ Some v = ap (λ z. across u (ends_of z)) (sym (same_edge u v w l)) ∙ l.over in
+          elim (across_ends u v (ends_of edge) over) [ inl h ↦ na (sym h.0) | inr h ↦ nb (sym h.0) ]
+
+      first : (u d : ℕ) → u < length (set (set firsts edge.a (place + 1)) edge.b (place + 1)) → IsLink edges u (place + 1) (get_or (set (set firsts edge.a (place + 1)) edge.b (place + 1)) u d)
+      first u d lt =
+          let one = length-set firsts edge.a (place + 1) in
+          let two = length-set (set firsts edge.a (place + 1)) edge.b (place + 1) in
+          let P : ℕ → Type 0 = λ z. IsLink edges u (place + 1) z in
+          elim (cases_eq u edge.b) [
+            | inl e ↦ (
+                let Q : ℕ → Type 0 = λ z. IsLink edges z (place + 1) (get_or (set (set firsts edge.a (place + 1)) edge.b (place + 1)) z d) in
+                let R : ℕ → Type 0 = λ z. IsLink edges edge.b (place + 1) z in
+                subst Q (sym e) (subst R (sym (get_or-set_same (set firsts edge.a (place + 1)) edge.b (place + 1) d (omega (arith, one, b)))) (link_put edges edge.b place edge.a weight.0 from_b))
+                )
+            | inr nb ↦ subst P (sym (get_or-set_other (set firsts edge.a (place + 1)) edge.b u (place + 1) d nb)) (elim (cases_eq u edge.a) [
+              | inl e ↦ (
+                  let Q : ℕ → Type 0 = λ z. IsLink edges z (place + 1) (get_or (set firsts edge.a (place + 1)) z d) in
+                  let R : ℕ → Type 0 = λ z. IsLink edges edge.a (place + 1) z in
+                  subst Q (sym e) (subst R (sym (get_or-set_same firsts edge.a (place + 1) d a)) (link_put edges edge.a place edge.b weight.0 from_a))
+                  )
+              | inr na ↦ subst P (sym (get_or-set_other firsts edge.a u (place + 1) d na)) (link_kept edges u place _ (none u na nb) (c.first u d (omega (arith, lt, one, two))))
+            ])
+          ]
+
+-- ---- along a chain
+
+pub first_link : (edges : List PathEdge) (firsts : List ℕ) (nexts : List (ℕ × ℕ)) (u link : ℕ) → AreChains edges firsts nexts → u < length firsts → link ≡ get_or firsts u link
+    → IsLink edges u (length edges) link
+first_link edges firsts nexts u link c lt e = let P : ℕ → Type 0 = λ z. IsLink edges u (length edges) z in subst P (sym e) (c.first u link lt)
+
+-- a link other than 0 is that of an edge
+pub led_within : (edges : List PathEdge) (u link place : ℕ) → IsLed edges u link → link ≡ place + 1 → place < length edges
+led_within edges u link place led e = let (v, weight, l) = led place e in place_within edges u place v weight l
+
+pub passed : (edges : List PathEdge) (firsts : List ℕ) (nexts : List (ℕ × ℕ)) (u link place : ℕ) (edge : PathEdge) (links : ℕ × ℕ) (weight : ℕ)
+    → AreChains edges firsts nexts → link ≡ place + 1 → IsLed edges u link → slice_get edges place ≡ Some edge → links ≡ get_or nexts place links → weight ≡ unwrap_or (weight_of_lem edge.way) far
+    → (edge.a ≡ u → Passes edges u link (record { place = place; to = edge.b; weight = weight }) links.0)
+    × (edge.a ≢ u → Passes edges u link (record { place = place; to = edge.a; weight = weight }) links.1)
+passed edges firsts nexts u link place edge links weight c e led at is_links is_weight = (
+  λ same. record {
+    here = e;
+    leads = leads edge.b (across_first u edge.b (ends_of edge) same refl);
+    follows = (let P : ℕ → Type 0 = λ z. IsLink edges z place links.0 in subst P same next.0);
+  },
+  λ other. record {
+    here = e;
+    leads = leads edge.a (across_second u edge.a (ends_of edge) (second other) refl);
+    follows = (let P : ℕ → Type 0 = λ z. IsLink edges z place links.1 in subst P (second other) next.1);
+  },
+)
+  where
+    lt : place < length edges
+    lt = led_within edges u link place led e
+
+    on : (v : ℕ) × (w : ℕ) × Leads edges u place v w
+    on = led place e
+
+    same_edge : on.2.edge ≡ edge
+    same_edge = some_same on.2.edge edge (sym on.2.at ∙ at)
+
+    weighs : weight_of_lem edge.way ≡ Some on.1
+    weighs = ap (λ (z : PathEdge). weight_of_lem z.way) (sym same_edge) ∙ on.2.weighs
+
+    leads : (to : ℕ) → across u (ends_of edge) ≡ Some to → Leads edges u place to weight
+    leads to over =
+        let w : on.1 ≡ weight = sym (is_weight ∙ ap (λ o. unwrap_or o far) weighs) in
+        record { edge = edge; at = at; over = over; weighs = weighs ∙ ap Some w }
+
+    second : edge.a ≢ u → edge.b ≡ u
+    second other = elim (across_ends u on.0 (ends_of edge) (ap (λ z. across u (ends_of z)) (sym same_edge) ∙ on.2.over)) [ inl h ↦ absurd (other h.0) | inr h ↦ h.0 ]
+
+    next : AreLinks edges edge place links
+    next = let P : ℕ × ℕ → Type 0 = λ z. AreLinks edges edge place z in subst P (sym is_links) (c.next place edge links lt at)
+
+-- a step from u on from the next link is this one, or one on from the link
+pub onward : (edges : List PathEdge) (u link : ℕ) (s : Step) (next : ℕ) → Passes edges u link s next → (place v weight : ℕ) → next ≤ place → Leads edges u place v weight
+    → ((s.place ≡ place) × (s.to ≡ v) × (s.weight ≡ weight)) ⊎ (link ≤ place)
+onward edges u link s next p place v weight le l = elim (cases_order place s.place) [
+  | inl e ↦ (
+      let P : ℕ → Type 0 = λ z. Leads edges u z v weight in
+      let k = subst P e l in
+      inl (
+        sym e,
+        Leads_same edges u s.place s.to v s.weight weight p.leads k,
+        Leads_weight edges u s.place s.to s.weight p.leads ∙ sym (Leads_weight edges u s.place v weight k),
+      )
+      )
+  | inr (inl less) ↦ absurd (p.follows.none place v weight le less l)
+  | inr (inr more) ↦ inr (let h = p.here in omega (arith, h, more))
+]
 
 -- ---- the best step so far
 
-pub best_kept : (found : List ℕ) (here : ℕ) (steps : List Step) (best : Option Step) (s : Step) → IsBest found here steps best → (IsTight found here s → ⊥) → IsBest found here (steps ++ s ∷ []) best
-best_kept found here steps None s h loose = λ t c tight. elim (Contains_push steps s t c) [
-  | inl g ↦ h t g tight
-  | inr g ↦ loose (let P : Step → Type 0 = λ z. IsTight found here z in subst P g tight)
+pub best_none : (edges : List PathEdge) (found : List ℕ) (u cost link : ℕ) → IsLink edges u (length edges) link → IsBestFrom edges found u cost link None
+best_none edges found u cost link h = λ place v weight le l tight. h.none place v weight le (place_within edges u place v weight l) l
+
+pub best_kept : (edges : List PathEdge) (found : List ℕ) (u cost link next : ℕ) (best : Option Step) (s : Step) → Passes edges u link s next → (IsTight found cost s → ⊥)
+    → IsBestFrom edges found u cost link best → IsBestFrom edges found u cost next best
+best_kept edges found u cost link next None s p loose h = λ place v weight le l tight. elim (onward edges u link s next p place v weight le l) [
+  | inl (e, f, g) ↦ loose (let c = ap (cost_at found) f in omega (arith, c, g, tight))
+  | inr k ↦ h place v weight k l tight
 ]
-best_kept found here steps (Some b) s h loose = (Contains-append_left steps (s ∷ []) b h.0, h.1, by)
-  where
-    by : (t : Step) → Contains (steps ++ s ∷ []) t → IsTight found here t → b.place ≤ t.place
-    by t c tight = elim (Contains_push steps s t c) [
-      | inl g ↦ h.2 t g tight
-      | inr g ↦ absurd (loose (let P : Step → Type 0 = λ z. IsTight found here z in subst P g tight))
-    ]
+best_kept edges found u cost link next (Some b) s p loose h = (
+  h.0,
+  h.1,
+  λ place v weight le l tight. elim (onward edges u link s next p place v weight le l) [
+    | inl (e, f, g) ↦ absurd (loose (let c = ap (cost_at found) f in omega (arith, c, g, tight)))
+    | inr k ↦ h.2 place v weight k l tight
+  ],
+)
 
-pub best_stays : (found : List ℕ) (here : ℕ) (steps : List Step) (b s : Step) → IsBest found here steps (Some b) → b.place ≤ s.place → IsBest found here (steps ++ s ∷ []) (Some b)
-best_stays found here steps b s h le = (Contains-append_left steps (s ∷ []) b h.0, h.1, by)
-  where
-    by : (t : Step) → Contains (steps ++ s ∷ []) t → IsTight found here t → b.place ≤ t.place
-    by t c tight = elim (Contains_push steps s t c) [ inl g ↦ h.2 t g tight | inr g ↦ (let P : Step → Type 0 = λ z. b.place ≤ z.place in subst P (sym g) le) ]
-
-pub best_first : (found : List ℕ) (here : ℕ) (steps : List Step) (s : Step) → IsBest found here steps None → IsTight found here s → IsBest found here (steps ++ s ∷ []) (Some s)
-best_first found here steps s h tight = (Contains-append_right steps (s ∷ []) s (Contains_this s), tight, by)
-  where
-    by : (t : Step) → Contains (steps ++ s ∷ []) t → IsTight found here t → s.place ≤ t.place
-    by t c k = elim (Contains_push steps s t c) [ inl g ↦ absurd (h t g k) | inr g ↦ (let P : Step → Type 0 = λ z. s.place ≤ z.place in subst P (sym g) (omega arith)) ]
-
-pub best_new : (found : List ℕ) (here : ℕ) (steps : List Step) (b s : Step) → IsBest found here steps (Some b) → IsTight found here s → s.place < b.place → IsBest found here (steps ++ s ∷ []) (Some s)
-best_new found here steps b s h tight sooner = (Contains-append_right steps (s ∷ []) s (Contains_this s), tight, by)
-  where
-    by : (t : Step) → Contains (steps ++ s ∷ []) t → IsTight found here t → s.place ≤ t.place
-    by t c k = elim (Contains_push steps s t c) [
-      | inl g ↦ (let le = h.2 t g k in omega (arith, le, sooner))
-      | inr g ↦ (let P : Step → Type 0 = λ z. s.place ≤ z.place in subst P (sym g) (omega arith))
-    ]
-
-pub best_more : (found : List ℕ) (here : ℕ) (row : List Step) (i : ℕ) (d : Step) (best : Option Step) → i < length row → IsBest found here (take i row ++ get_or row i d ∷ []) best → IsBest found here (take (i + 1) row) best
-best_more found here row i d best lt h = let P : List Step → Type 0 = λ z. IsBest found here z best in subst P (sym (take_more row i d lt)) h
+-- ---- under what a call returned
 
 pub OnOk_then : {A E : Type 0} (r : Result A E) (P Q : Type 0) → OnOk r P → (P → Q) → OnOk r Q
 OnOk_then (Ok x) P Q h f = f h
 OnOk_then (Err e) P Q h f = h
-
-pub row_read : (rows : List (Vec Step)) (u : ℕ) (row : Vec Step) → u < length rows → row ≡ get_or rows u row → row_at rows u ≡ row.items
-row_read rows u row lt e = ap row_of (slice_get-get_or rows u row lt ∙ ap Some (sym e))
-
--- the row that was read is that of the steps from u
-pub row_is_read : (edges : List PathEdge) (rows : List (Vec Step)) (u : ℕ) (row : Vec Step) (steps : List Step) → u < length rows → row ≡ get_or rows u row → steps ≡ row.items → AreRows edges rows → IsRow edges u steps
-row_is_read edges rows u row steps lt e f r = let P : List Step → Type 0 = λ z. IsRow edges u z in subst P (row_read rows u row lt e ∙ sym f) (row_is edges rows u lt r)
-
-pub step_fits : (rows : List (Vec Step)) (count u : ℕ) (row : Vec Step) (steps : List Step) (s : Step) → u < length rows → row ≡ get_or rows u row → steps ≡ row.items → StepsBelow rows count → Contains steps s → (s.to < count) × (0 < s.weight)
-step_fits rows count u row steps s lt e f below c = below u s (let P : List Step → Type 0 = λ z. Contains z s in subst P (f ∙ sym (row_read rows u row lt e)) c)
 
 pub IfOk_then : {A E : Type 0} (r : Result A E) (P Q : A → Type 0) → IfOk r P → ((x : A) → P x → Q x) → IfOk r Q
 IfOk_then (Ok x) P Q h f = f x h

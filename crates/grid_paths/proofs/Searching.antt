@@ -10,10 +10,9 @@ use Rattle.std.proofs.lemmas.Bool.{cases_eq, cases_Bool, both_ways}
 use Rattle.grid_paths.specs.declared.PathEdge.{PathEdge}
 use Rattle.grid_paths.specs.declared.Step.{Step}
 use Rattle.grid_paths.specs.Routes.{is_goal}
-use Rattle.std.specs.Global.{Vec}
-use Rattle.grid_paths.specs.Search.{far, Leads, cost_at, IsReached, IsSettled, AreLeastCosts, entry, IsSearched, AreInside, SettlesBy, IsRow, IsStarted, potential, Takes, Spreads, Visits, AreRows}
+use Rattle.grid_paths.specs.Search.{far, Leads, cost_at, IsReached, IsSettled, AreLeastCosts, entry, IsSearched, AreInside, IsStarted, potential, Takes, Spreads, Visits, WaitFrom, IsLink, Passes}
 use Rattle.grid_paths.proofs.Routing.{Leads_back, Leads_weight, weight_positive}
-use Rattle.grid_paths.proofs.Rows.{Contains_push, Contains_none}
+use Rattle.grid_paths.proofs.Rows.{place_within, onward}
 
 -- ---- a cost that is lowered
 
@@ -114,37 +113,49 @@ lowered edges goals found front front' x place v weight xlt vlt l less kept new 
           )
     ]
 
--- ---- a node's row is gone through
+-- ---- a node's edges are gone through
 
--- what was found after the first steps from x
-pub record IsSpread (edges : List PathEdge) (goals : List Bool) (x cost : ℕ) (steps : List Step) (found : List ℕ) (front : List (Reverse (ℕ × ℕ))) : Type 0 where
+-- the steps on from a link cost no less than what was found at their ends
+abbrev pub SettlesFrom : List PathEdge → ℕ → ℕ → List ℕ → ℕ → Type 0
+SettlesFrom edges x link found cost = (place v weight : ℕ) → link ≤ place → Leads edges x place v weight → cost_at found v ≤ weight + cost
+
+settles_none : (edges : List PathEdge) (x link : ℕ) (found : List ℕ) (cost : ℕ) → IsLink edges x (length edges) link → SettlesFrom edges x link found cost
+settles_none edges x link found cost h = λ place v weight le l. absurd (h.none place v weight le (place_within edges x place v weight l) l)
+
+settles_more : (edges : List PathEdge) (x link : ℕ) (s : Step) (next : ℕ) (found : List ℕ) (cost : ℕ) → Passes edges x link s next → cost_at found s.to ≤ s.weight + cost
+    → SettlesFrom edges x link found cost → SettlesFrom edges x next found cost
+settles_more edges x link s next found cost p low h = λ place v weight le l. elim (onward edges x link s next p place v weight le l) [
+  | inl (e, f, g) ↦ (let c = ap (cost_at found) f in omega (arith, c, g, low))
+  | inr k ↦ h place v weight k l
+]
+
+settles_still : (edges : List PathEdge) (x link : ℕ) (found found' : List ℕ) (cost : ℕ) → ((v : ℕ) → cost_at found' v ≤ cost_at found v) → SettlesFrom edges x link found cost → SettlesFrom edges x link found' cost
+settles_still edges x link found found' cost less h = λ place v weight le l. (let a = h place v weight le l in let b = less v in omega (arith, a, b))
+
+-- what was found after the steps from x on from a link
+pub record IsSpread (edges : List PathEdge) (goals : List Bool) (x cost link : ℕ) (found : List ℕ) (front : List (Reverse (ℕ × ℕ))) : Type 0 where
   pub searched : IsSearched edges goals found front x
   pub same : cost_at found x ≡ cost
-  pub done : SettlesBy steps found cost
+  pub done : SettlesFrom edges x link found cost
 
-pub spread_none : (edges : List PathEdge) (goals : List Bool) (x : ℕ) (found : List ℕ) (front : List (Reverse (ℕ × ℕ))) → IsSearched edges goals found front x → IsSpread edges goals x (cost_at found x) [] found front
-spread_none edges goals x found front s = record { searched = s; same = refl; done = λ t c. absurd (Contains_none t c) }
+spread_kept : (edges : List PathEdge) (goals : List Bool) (x cost link : ℕ) (s : Step) (next : ℕ) (found : List ℕ) (front : List (Reverse (ℕ × ℕ))) → Passes edges x link s next
+    → cost_at found s.to ≤ s.weight + cost → IsSpread edges goals x cost link found front → IsSpread edges goals x cost next found front
+spread_kept edges goals x cost link s next found front p low h = record { searched = h.searched; same = h.same; done = settles_more edges x link s next found cost p low h.done }
 
-pub spread_kept : (edges : List PathEdge) (goals : List Bool) (x cost : ℕ) (steps : List Step) (s : Step) (found : List ℕ) (front : List (Reverse (ℕ × ℕ)))
-    → cost_at found s.to ≤ s.weight + cost → IsSpread edges goals x cost steps found front → IsSpread edges goals x cost (steps ++ s ∷ []) found front
-spread_kept edges goals x cost steps s found front le h = record {
-  searched = h.searched;
-  same = h.same;
-  done = λ t c. elim (Contains_push steps s t c) [ inl g ↦ h.done t g | inr g ↦ (let P : Step → Type 0 = λ z. cost_at found z.to ≤ z.weight + cost in subst P (sym g) le) ];
-}
-
-pub spread_lowered : (edges : List PathEdge) (goals : List Bool) (x cost : ℕ) (steps : List Step) (s : Step) (found : List ℕ) (front front' : List (Reverse (ℕ × ℕ)))
-    → x < length goals → s.to < length goals → Leads edges x s.place s.to s.weight → s.weight + cost < cost_at found s.to
+spread_lowered : (edges : List PathEdge) (goals : List Bool) (x cost link : ℕ) (s : Step) (next : ℕ) (found : List ℕ) (front front' : List (Reverse (ℕ × ℕ)))
+    → x < length goals → s.to < length goals → Passes edges x link s next → s.weight + cost < cost_at found s.to
     → ((e : Reverse (ℕ × ℕ)) → Contains front e → Contains front' e) → Contains front' (entry (s.weight + cost) s.to)
-    → IsSpread edges goals x cost steps found front → IsSpread edges goals x cost (steps ++ s ∷ []) (set found s.to (s.weight + cost)) front'
-spread_lowered edges goals x cost steps s found front front' xlt vlt l less kept new h =
+    → IsSpread edges goals x cost link found front → IsSpread edges goals x cost next (set found s.to (s.weight + cost)) front'
+spread_lowered edges goals x cost link s next found front front' xlt vlt p less kept new h =
     let P : ℕ → Type 0 = λ c. IsSearched edges goals (set found s.to (s.weight + c)) front' x in
     let Q : ℕ → Type 0 = λ c. s.weight + c < cost_at found s.to in
     let R : ℕ → Type 0 = λ c. Contains front' (entry (s.weight + c) s.to) in
+    let e = now_here found s.to (s.weight + cost) below less in
     record {
-      searched = subst P h.same (lowered edges goals found front front' x s.place s.to s.weight xlt vlt l (subst Q (sym h.same) less) kept (subst R (sym h.same) new) h.searched);
+      searched = subst P h.same (lowered edges goals found front front' x s.place s.to s.weight xlt vlt p.leads (subst Q (sym h.same) less) kept (subst R (sym h.same) new) h.searched);
       same = now_other found s.to (s.weight + cost) below less x apart ∙ h.same;
-      done = done;
+      done = settles_more edges x link s next (set found s.to (s.weight + cost)) cost p (omega (arith, e))
+          (settles_still edges x link found _ cost (now_less found s.to (s.weight + cost) below less) h.done);
     }
   where
     below : s.to < length found
@@ -156,20 +167,10 @@ spread_lowered edges goals x cost steps s found front front' xlt vlt l less kept
         let k = subst S e h.same in
         absurd (omega (arith, k, less))
 
-    done : SettlesBy (steps ++ s ∷ []) (set found s.to (s.weight + cost)) cost
-    done t c = elim (Contains_push steps s t c) [
-      | inl g ↦ (let a = h.done t g in let b = now_less found s.to (s.weight + cost) below less t.to in omega (arith, a, b))
-      | inr g ↦ (
-          let e = now_here found s.to (s.weight + cost) below less in
-          let T : Step → Type 0 = λ z. cost_at (set found s.to (s.weight + cost)) z.to ≤ z.weight + cost in
-          subst T (sym g) (omega (arith, e))
-          )
-    ]
-
--- when the whole row is done, the node is settled
-pub spread_all : (edges : List PathEdge) (goals : List Bool) (x cost : ℕ) (row : List Step) (found : List ℕ) (front : List (Reverse (ℕ × ℕ)))
-    → IsRow edges x row → IsSpread edges goals x cost row found front → IsSearched edges goals found front (length goals)
-spread_all edges goals x cost row found front r h = record {
+-- when all are done, the node is settled
+spread_all : (edges : List PathEdge) (goals : List Bool) (x cost : ℕ) (found : List ℕ) (front : List (Reverse (ℕ × ℕ)))
+    → IsSpread edges goals x cost 0 found front → IsSearched edges goals found front (length goals)
+spread_all edges goals x cost found front h = record {
   long = h.searched.long;
   goal = h.searched.goal;
   ground = h.searched.ground;
@@ -177,7 +178,7 @@ spread_all edges goals x cost row found front r h = record {
   faced = λ u lt small but. elim (cases_eq u x) [
     | inl e ↦ inr (λ place v weight l.
         let P : ℕ → Type 0 = λ z. Leads edges z place v weight in
-        let d = h.done (record { place = place; to = v; weight = weight }) (r.complete place v weight (subst P e l)) in
+        let d = h.done place v weight (omega arith) (subst P e l) in
         let S : ℕ → Type 0 = λ z. cost_at found z ≡ cost in
         let same = subst S (sym e) h.same in
         omega (arith, d, same))
@@ -230,14 +231,18 @@ stale edges goals found front front' cost x rest other s = record {
   ];
 }
 
--- none waits
-pub searched_all : (edges : List PathEdge) (goals : List Bool) (found : List ℕ) (front : List (Reverse (ℕ × ℕ))) → length front ≡ 0 → IsSearched edges goals found front (length goals) → AreLeastCosts edges goals found
-searched_all edges goals found front none s = record {
+-- none waits at a cost below the limit
+pub searched_below : (edges : List PathEdge) (goals : List Bool) (found : List ℕ) (front : List (Reverse (ℕ × ℕ))) (limit : ℕ) → WaitFrom front limit
+    → IsSearched edges goals found front (length goals) → AreLeastCosts edges goals found limit
+searched_below edges goals found front limit wait s = record {
   long = s.long;
   goal = s.goal;
   ground = s.ground;
   reached = s.reached;
-  settled = λ u lt small. elim (s.faced u lt small (λ e. absurd (omega (arith, e, lt)))) [ inl h ↦ (let k = h.1 in absurd (omega (arith, k, none))) | inr h ↦ h ];
+  settled = λ u lt small low. elim (s.faced u lt small (λ e. absurd (omega (arith, e, lt)))) [
+    | inl h ↦ (let k = wait (entry (cost_at found u) u) h in absurd (omega (arith, k, low)))
+    | inr h ↦ h
+  ];
 }
 
 -- ---- the start
@@ -272,9 +277,6 @@ moved_new x xs ys p = Contains-permutation (x ∷ xs) ys x p (Contains_here x xs
 
 pub moved_from : {X : Type 0} (x y : X) (xs ys : List X) → IsPermutation (x ∷ xs) ys → Contains ys y → (y ≡ x) ⊎ Contains xs y
 moved_from x y xs ys p c = Contains_parts x y xs (Contains-permutation ys (x ∷ xs) y (IsPermutation-sym (x ∷ xs) ys p) c)
-
-pub moved_out : {X : Type 0} (x y : X) (xs ys : List X) → IsPermutation xs (x ∷ ys) → Contains xs y → (y ≡ x) ⊎ Contains ys y
-moved_out x y xs ys p c = Contains_parts x y ys (Contains-permutation xs (x ∷ ys) y p c)
 
 pub moved_in : {X : Type 0} (x y : X) (xs ys : List X) → IsPermutation xs (x ∷ ys) → Contains ys y → Contains xs y
 moved_in x y xs ys p c = Contains-permutation (x ∷ ys) xs y (IsPermutation-sym xs (x ∷ ys) p) (Contains_there x y ys c)
@@ -334,31 +336,31 @@ begin_other goals k found front g s = record {
   ];
 }
 
--- ---- a row, step by step
+-- ---- a node's edges, one by one
 
-pub record SpreadsTo (row steps : List Step) (cost : ℕ) (found : List ℕ) (front : List (Reverse (ℕ × ℕ))) (len : ℕ) (found' : List ℕ) (front' : List (Reverse (ℕ × ℕ))) (len' : ℕ) : Type 0 where
+pub record SpreadsTo (edges : List PathEdge) (x link cost : ℕ) (found : List ℕ) (front : List (Reverse (ℕ × ℕ))) (len : ℕ) (found' : List ℕ) (front' : List (Reverse (ℕ × ℕ))) (len' : ℕ) : Type 0 where
   pub long : length found' ≡ length found
   pub inside : AreInside front (length found) → AreInside front' (length found)
   pub falls : potential found' len' ≤ potential found len
-  pub spread : (edges : List PathEdge) (goals : List Bool) (x : ℕ) → IsRow edges x row → x < length goals → cost_at found x ≡ cost
-      → IsSearched edges goals found front x → IsSpread edges goals x cost steps found' front'
+  pub spread : (goals : List Bool) → x < length goals → cost_at found x ≡ cost → IsSearched edges goals found front x → IsSpread edges goals x cost link found' front'
 
-pub spreads_none : (row : List Step) (cost : ℕ) (found : List ℕ) (front : List (Reverse (ℕ × ℕ))) (len : ℕ) → SpreadsTo row [] cost found front len found front len
-spreads_none row cost found front len = record {
+pub spreads_none : (edges : List PathEdge) (x link cost : ℕ) (found : List ℕ) (front : List (Reverse (ℕ × ℕ))) (len : ℕ) → IsLink edges x (length edges) link
+    → SpreadsTo edges x link cost found front len found front len
+spreads_none edges x link cost found front len h = record {
   long = refl;
-  inside = λ h. h;
+  inside = λ i. i;
   falls = omega arith;
-  spread = λ edges goals x r lt e s. (let P : ℕ → Type 0 = λ z. IsSpread edges goals x z [] found front in subst P e (spread_none edges goals x found front s));
+  spread = λ goals lt e s. record { searched = s; same = e; done = settles_none edges x link found cost h };
 }
 
-pub spreads_more : (row steps : List Step) (cost : ℕ) (found : List ℕ) (front : List (Reverse (ℕ × ℕ))) (len : ℕ) (found' : List ℕ) (front' : List (Reverse (ℕ × ℕ))) (len' : ℕ)
-    (s : Step) (found'' : List ℕ) (front'' : List (Reverse (ℕ × ℕ))) (len'' : ℕ) → Contains row s → s.to < length found' → Takes s cost found' front' len' found'' front'' len''
-    → SpreadsTo row steps cost found front len found' front' len' → SpreadsTo row (steps ++ s ∷ []) cost found front len found'' front'' len''
-spreads_more row steps cost found front len found' front' len' s found'' front'' len'' has below t h = record {
+pub spreads_more : (edges : List PathEdge) (x link cost : ℕ) (found : List ℕ) (front : List (Reverse (ℕ × ℕ))) (len : ℕ) (found' : List ℕ) (front' : List (Reverse (ℕ × ℕ))) (len' : ℕ)
+    (s : Step) (next : ℕ) (found'' : List ℕ) (front'' : List (Reverse (ℕ × ℕ))) (len'' : ℕ) → Passes edges x link s next → s.to < length found' → Takes s cost found' front' len' found'' front'' len''
+    → SpreadsTo edges x link cost found front len found' front' len' → SpreadsTo edges x next cost found front len found'' front'' len''
+spreads_more edges x link cost found front len found' front' len' s next found'' front'' len'' p below t h = record {
   long = long t.cases ∙ h.long;
   inside = λ i. inside t.cases (h.inside i);
   falls = (let a = t.falls in let b = h.falls in omega (arith, a, b));
-  spread = λ edges goals x r lt e k. spread t.cases edges goals x r lt (h.spread edges goals x r lt e k);
+  spread = λ goals lt e k. spread t.cases goals lt (h.spread goals lt e k);
 }
   where
     Cases : Type 0
@@ -376,24 +378,25 @@ spreads_more row steps cost found front len found' front' len' s found'' front''
       | inr g ↦ i e g
     ]
 
-    spread : Cases → (edges : List PathEdge) (goals : List Bool) (x : ℕ) → IsRow edges x row → x < length goals → IsSpread edges goals x cost steps found' front' → IsSpread edges goals x cost (steps ++ s ∷ []) found'' front''
-    spread (inl c) edges goals x r lt k =
-        let P : List ℕ → Type 0 = λ z. IsSpread edges goals x cost (steps ++ s ∷ []) z front'' in
-        let Q : List (Reverse (ℕ × ℕ)) → Type 0 = λ z. IsSpread edges goals x cost (steps ++ s ∷ []) found' z in
-        subst P (sym c.1) (subst Q (sym c.2) (spread_kept edges goals x cost steps s found' front' c.0 k))
-    spread (inr c) edges goals x r lt k =
-        let P : List ℕ → Type 0 = λ z. IsSpread edges goals x cost (steps ++ s ∷ []) z front'' in
+    spread : Cases → (goals : List Bool) → x < length goals → IsSpread edges goals x cost link found' front' → IsSpread edges goals x cost next found'' front''
+    spread (inl c) goals lt k =
+        let P : List ℕ → Type 0 = λ z. IsSpread edges goals x cost next z front'' in
+        let Q : List (Reverse (ℕ × ℕ)) → Type 0 = λ z. IsSpread edges goals x cost next found' z in
+        subst P (sym c.1) (subst Q (sym c.2) (spread_kept edges goals x cost link s next found' front' p c.0 k))
+    spread (inr c) goals lt k =
+        let P : List ℕ → Type 0 = λ z. IsSpread edges goals x cost next z front'' in
         let l = k.searched.long in
-        subst P (sym c.1) (spread_lowered edges goals x cost steps s found' front' front'' lt (omega (arith, l, below)) (r.sound s has) c.0
+        subst P (sym c.1) (spread_lowered edges goals x cost link s next found' front' front'' lt (omega (arith, l, below)) p c.0
         (λ e g. moved_has (entry (s.weight + cost) s.to) e front' front'' c.2 g) (moved_new (entry (s.weight + cost) s.to) front' front'' c.2) k)
 
-pub spreads_all : (row : List Step) (cost : ℕ) (found : List ℕ) (front : List (Reverse (ℕ × ℕ))) (len : ℕ) (found' : List ℕ) (front' : List (Reverse (ℕ × ℕ))) (len' : ℕ)
-    → SpreadsTo row row cost found front len found' front' len' → Spreads row cost found front len found' front' len'
-spreads_all row cost found front len found' front' len' h = record {
+pub spreads_all : (edges : List PathEdge) (x link cost : ℕ) (found : List ℕ) (front : List (Reverse (ℕ × ℕ))) (len : ℕ) (found' : List ℕ) (front' : List (Reverse (ℕ × ℕ))) (len' : ℕ)
+    → link ≡ 0 → SpreadsTo edges x link cost found front len found' front' len' → Spreads edges x cost found front len found' front' len'
+spreads_all edges x link cost found front len found' front' len' e h = record {
   long = h.long;
   inside = h.inside;
   falls = h.falls;
-  settles = λ edges goals x r lt e s. spread_all edges goals x cost row found' front' r (h.spread edges goals x r lt e s);
+  settles = λ goals lt same s. spread_all edges goals x cost found' front'
+      (let P : ℕ → Type 0 = λ z. IsSpread edges goals x cost z found' front' in subst P e (h.spread goals lt same s));
 }
 
 pub found_here : (found : List ℕ) (u r : ℕ) → u < length found → r ≡ get_or found u r → cost_at found u ≡ r
@@ -401,27 +404,24 @@ found_here found u r lt e = sym (get_or_default_zero found u r lt) ∙ sym e
 
 -- ---- a node is visited
 
-pub visits_row : (rows : List (Vec Step)) (row : List Step) (cost x : ℕ) (found : List ℕ) (front : List (Reverse (ℕ × ℕ))) (len : ℕ) (found' : List ℕ) (front' : List (Reverse (ℕ × ℕ))) (len' : ℕ)
-    → x < length found → cost_at found x ≡ cost → ((edges : List PathEdge) → AreRows edges rows → IsRow edges x row)
-    → Spreads row cost found front len found' front' len' → Visits rows cost x found front len found' front' len'
-visits_row rows row cost x found front len found' front' len' lt same is_row h = record {
+pub visits_edges : (edges : List PathEdge) (cost x : ℕ) (found : List ℕ) (front : List (Reverse (ℕ × ℕ))) (len : ℕ) (found' : List ℕ) (front' : List (Reverse (ℕ × ℕ))) (len' : ℕ)
+    → x < length found → cost_at found x ≡ cost → Spreads edges x cost found front len found' front' len' → Visits edges cost x found front len found' front' len'
+visits_edges edges cost x found front len found' front' len' lt same h = record {
   long = h.long;
   inside = h.inside;
   falls = h.falls;
-  keeps = λ edges goals r s. (
+  keeps = λ goals s. (
       let l = s.long in
-      h.settles edges goals x (is_row edges r) (omega (arith, lt, l)) same
-      (popped edges goals found (entry cost x ∷ front) front cost x (λ e c. Contains_parts (entry cost x) e front c) s)
+      h.settles goals (omega (arith, lt, l)) same (popped edges goals found (entry cost x ∷ front) front cost x (λ e c. Contains_parts (entry cost x) e front c) s)
       );
 }
 
-pub visits_none : (rows : List (Vec Step)) (cost x : ℕ) (found : List ℕ) (front : List (Reverse (ℕ × ℕ))) (len : ℕ)
-    → cost_at found x ≢ cost → Visits rows cost x found front len found front len
-visits_none rows cost x found front len other = record {
+pub visits_none : (edges : List PathEdge) (cost x : ℕ) (found : List ℕ) (front : List (Reverse (ℕ × ℕ))) (len : ℕ) → cost_at found x ≢ cost → Visits edges cost x found front len found front len
+visits_none edges cost x found front len other = record {
   long = refl;
   inside = λ i. i;
   falls = omega arith;
-  keeps = λ edges goals r s. stale edges goals found (entry cost x ∷ front) front cost x (λ e c. Contains_parts (entry cost x) e front c) other s;
+  keeps = λ goals s. stale edges goals found (entry cost x ∷ front) front cost x (λ e c. Contains_parts (entry cost x) e front c) other s;
 }
 
 -- the front in another order

@@ -1,39 +1,48 @@
 -- The walk down the least costs, by the least places, is the least of all routes.
-use Rattle.std.proofs.Common.{◌≡◌, refl, sym, ◌∙◌, subst, ℕ, zero, suc, ◌+◌, ◌<◌, ◌≤◌, Bool, true, false, not, List, [], ◌∷◌, length, inl, inr, arith, ◌⊎◌}
+use Rattle.std.proofs.Common.{◌≡◌, refl, sym, ◌∙◌, subst, ℕ, ◌<◌, ◌≤◌, Bool, true, false, not, List, [], ◌∷◌, length, inl, inr, arith, ◌⊎◌}
 use Rattle.std.specs.Prelude.{Some, eqb, slice_get, IsTrue}
 use Rattle.std.specs.List.{list_any, list_all}
 use Rattle.std.specs.Ordering.{nat_cmp, is_lt}
 use Rattle.std.specs.Cmp.Lexicographic.{slice_cmp}
-use Rattle.std.proofs.lemmas.Bool.{false≢true, true≢false, cases_eq, cases_lt, and_from, eqb-true, or_cases}
+use Rattle.std.proofs.lemmas.Bool.{false≢true, true≢false, cases_lt, and_from, eqb-true, or_cases}
 use Rattle.grid_paths.specs.declared.PathEdge.{PathEdge}
 use Rattle.grid_paths.specs.Paths.{has_node, all_differ, across, visited, differ_if_some, is_path, last_in, last_node}
 use Rattle.grid_paths.specs.Routes.{ends_of, all_ends, passes, is_goal, is_route, IsLeastRoute, EndsBelow}
 use Rattle.grid_paths.specs.Search.{far, Leads, cost_at, AreLeastCosts, Walks}
 use Rattle.grid_paths.proofs.Routing.{Leads_back, Leads_same, Leads_weight, Leads_passes, Leads_below, weight_positive, cost, cost_most, not_better, greater, tied, Runs, routed, edge_ends}
 
--- ---- no run costs less
+-- ---- no run costs less, if it costs no more than the limit
 
-pub run_costs : (edges : List PathEdge) (goals : List Bool) (found : List ℕ) → AreLeastCosts edges goals found → EndsBelow edges (length goals)
-    → (path : List ℕ) (u : ℕ) → u < length goals → Runs edges goals u path → cost edges path < far → cost_at found u ≤ cost edges path
+run_costs : (edges : List PathEdge) (goals : List Bool) (found : List ℕ) (limit : ℕ) → AreLeastCosts edges goals found limit → EndsBelow edges (length goals)
+    → (path : List ℕ) (u : ℕ) → u < length goals → Runs edges goals u path → cost edges path < far → cost edges path ≤ limit → cost_at found u ≤ cost edges path
 unfolding Runs cost
-run_costs edges goals found least ends [] u lt run small = let z = least.goal u lt run in omega (arith, z)
-run_costs edges goals found least ends (place ∷ rest) u lt (v, weight, leads, run) small =
+run_costs edges goals found limit least ends [] u lt run small low = let z = least.goal u lt run in omega (arith, z)
+run_costs edges goals found limit least ends (place ∷ rest) u lt (v, weight, leads, run) small low =
     let w = Leads_weight edges u place v weight leads in
+    let pos = weight_positive edges place in
     let below = Leads_below edges (length goals) u place v weight ends leads in
-    let onward = run_costs edges goals found least ends rest v below run (omega (arith, small)) in
-    let step = least.settled v below (omega (arith, onward, small)) place u weight (Leads_back edges u place v weight leads) in
+    let onward = run_costs edges goals found limit least ends rest v below run (omega (arith, small)) (omega (arith, low)) in
+    let step = least.settled v below (omega (arith, onward, small)) (omega (arith, onward, pos, low)) place u weight (Leads_back edges u place v weight leads) in
     omega (arith, w, onward, step)
+
+-- the limit is what was found at the start: no run from there costs less
+start_costs : (edges : List PathEdge) (goals : List Bool) (found : List ℕ) (from : ℕ) → AreLeastCosts edges goals found (cost_at found from) → EndsBelow edges (length goals)
+    → from < length goals → (path : List ℕ) → Runs edges goals from path → cost edges path < far → cost_at found from ≤ cost edges path
+start_costs edges goals found from least ends lt path run small = elim (cases_lt (cost_at found from) (cost edges path)) [
+  | inl h ↦ omega (arith, h)
+  | inr h ↦ run_costs edges goals found (cost_at found from) least ends path from lt run small h
+]
 
 -- ---- the walk costs what was found, and is a route
 
-pub walk_costs : (edges : List PathEdge) (goals : List Bool) (found : List ℕ) → AreLeastCosts edges goals found → EndsBelow edges (length goals)
+walk_costs : (edges : List PathEdge) (goals : List Bool) (found : List ℕ) (limit : ℕ) → AreLeastCosts edges goals found limit → EndsBelow edges (length goals)
     → (path : List ℕ) (u : ℕ) → u < length goals → Walks edges goals found u path → cost edges path ≡ cost_at found u
 unfolding Walks cost
-walk_costs edges goals found least ends [] u lt walk = sym (least.goal u lt walk)
-walk_costs edges goals found least ends (place ∷ rest) u lt (v, weight, leads, same, first, walk) =
+walk_costs edges goals found limit least ends [] u lt walk = sym (least.goal u lt walk)
+walk_costs edges goals found limit least ends (place ∷ rest) u lt (v, weight, leads, same, first, walk) =
     let w = Leads_weight edges u place v weight leads in
     let below = Leads_below edges (length goals) u place v weight ends leads in
-    let onward = walk_costs edges goals found least ends rest v below walk in
+    let onward = walk_costs edges goals found limit least ends rest v below walk in
     omega (arith, w, onward, same)
 
 -- where a walk goes
@@ -74,20 +83,10 @@ differ_on : (u : ℕ) (nodes : List ℕ) → (has_node nodes u ≡ true → ⊥)
 unfolding all_differ
 differ_on u nodes h d = and_from (not (has_node nodes u)) (all_differ nodes) (not_has (has_node nodes u) h) d
 
--- a path to a goal on which the cost falls
-Falls : List PathEdge → List Bool → List ℕ → ℕ → List ℕ → Type 0
-Falls edges goals found u [] = is_goal goals u ≡ true
-Falls edges goals found u (place ∷ rest) = (v : ℕ) × (weight : ℕ) × Leads edges u place v weight × (weight + cost_at found v ≤ cost_at found u) × Falls edges goals found v rest
-
-falls_of : (edges : List PathEdge) (goals : List Bool) (found : List ℕ) (path : List ℕ) (u : ℕ) → Walks edges goals found u path → Falls edges goals found u path
-unfolding Walks Falls
-falls_of edges goals found [] u walk = walk
-falls_of edges goals found (place ∷ rest) u (v, weight, leads, same, first, walk) = (v, weight, leads, omega (arith, same), falls_of edges goals found rest v walk)
-
-walked : (edges : List PathEdge) (goals : List Bool) (found : List ℕ) (path : List ℕ) (u : ℕ) → Falls edges goals found u path → Walked edges goals found u path
-unfolding Falls visited last_in
+walked : (edges : List PathEdge) (goals : List Bool) (found : List ℕ) (path : List ℕ) (u : ℕ) → Walks edges goals found u path → Walked edges goals found u path
+unfolding Walks visited last_in
 walked edges goals found [] u walk = record { nodes = []; visits = refl; goal = walk; passing = refl; falls = λ m h. absurd (no_node m h); differ = alone u }
-walked edges goals found (place ∷ rest) u (v, weight, leads, same, walk) =
+walked edges goals found (place ∷ rest) u (v, weight, leads, same, first, walk) =
     let r = walked edges goals found rest v walk in
     let w = Leads_weight edges u place v weight leads in
     let p = weight_positive edges place in
@@ -102,37 +101,11 @@ walked edges goals found (place ∷ rest) u (v, weight, leads, same, walk) =
       differ = differ_on u (v ∷ r.nodes) (λ h. let f = falls u h in absurd (omega (arith, f))) r.differ;
     }
 
-fall_is_route : (edges : List PathEdge) (goals : List Bool) (found : List ℕ) (path : List ℕ) (u : ℕ) → Falls edges goals found u path → is_route edges goals u path ≡ true
+walk_is_route : (edges : List PathEdge) (goals : List Bool) (found : List ℕ) (path : List ℕ) (u : ℕ) → Walks edges goals found u path → is_route edges goals u path ≡ true
 unfolding is_route is_path last_node differ_if_some last_in
-fall_is_route edges goals found path u walk =
+walk_is_route edges goals found path u walk =
     let w = walked edges goals found path u walk in
     rw (w.visits, w.differ, w.goal, w.passing) refl
-
-walk_is_route : (edges : List PathEdge) (goals : List Bool) (found : List ℕ) (path : List ℕ) (u : ℕ) → Walks edges goals found u path → is_route edges goals u path ≡ true
-walk_is_route edges goals found path u walk = fall_is_route edges goals found path u (falls_of edges goals found path u walk)
-
-falling : (edges : List PathEdge) (goals : List Bool) (found : List ℕ) → AreLeastCosts edges goals found → EndsBelow edges (length goals)
-    → (fuel u : ℕ) → cost_at found u < fuel → u < length goals → cost_at found u < far → (path : List ℕ) × Falls edges goals found u path
-unfolding Falls
-falling edges goals found least ends zero u more lt small = absurd (omega arith)
-falling edges goals found least ends (suc fuel) u more lt small = elim (cases_eq (cost_at found u) 0) [
-  | inl z ↦ ([], least.ground u lt z)
-  | inr ne ↦ (
-      let h = least.reached u lt small ne in
-      let w = Leads_weight edges u h.place h.node h.weight h.step in
-      let p = weight_positive edges h.place in
-      let c = h.costs in
-      let r = falling edges goals found least ends fuel h.node (omega (arith, w, p, c, more)) (Leads_below edges (length goals) u h.place h.node h.weight ends h.step) (omega (arith, c, small)) in
-      (h.place ∷ r.0, (h.node, h.weight, h.step, c, r.1))
-      )
-]
-
--- where the cost isn't far there is a route
-pub route_from_cost : (edges : List PathEdge) (goals : List Bool) (found : List ℕ) → AreLeastCosts edges goals found → EndsBelow edges (length goals)
-    → (u : ℕ) → u < length goals → cost_at found u < far → (path : List ℕ) × IsTrue (is_route edges goals u path)
-route_from_cost edges goals found least ends u lt small =
-    let r = falling edges goals found least ends (suc (cost_at found u)) u (omega arith) lt small in
-    (r.0, fall_is_route edges goals found r.0 u r.1)
 
 -- ---- of the runs that cost as much, the walk has the least list
 
@@ -140,21 +113,22 @@ tie_on : (p q : ℕ) (ps qs : List ℕ) → (p < q) ⊎ ((p ≡ q) × (is_lt (sl
 tie_on p q ps qs (inl h) = rw (greater q p h) refl
 tie_on p q ps qs (inr (e, h)) = rw (tied q p (sym e)) h
 
-pub walk_least : (edges : List PathEdge) (goals : List Bool) (found : List ℕ) → AreLeastCosts edges goals found → EndsBelow edges (length goals)
-    → (path other : List ℕ) (u : ℕ) → u < length goals → Walks edges goals found u path → Runs edges goals u other → cost edges other ≡ cost_at found u → cost edges other < far
+walk_least : (edges : List PathEdge) (goals : List Bool) (found : List ℕ) (limit : ℕ) → AreLeastCosts edges goals found limit → EndsBelow edges (length goals)
+    → (path other : List ℕ) (u : ℕ) → u < length goals → Walks edges goals found u path → Runs edges goals u other → cost edges other ≡ cost_at found u → cost edges other < far → cost edges other ≤ limit
     → is_lt (slice_cmp nat_cmp other path) ≡ false
 unfolding Walks Runs cost
-walk_least edges goals found least ends [] [] u lt walk run same small = refl
-walk_least edges goals found least ends [] (q ∷ qs) u lt walk run same small = refl
-walk_least edges goals found least ends (p ∷ ps) [] u lt (v, weight, leads, e, first, walk) run same small =
+walk_least edges goals found limit least ends [] [] u lt walk run same small low = refl
+walk_least edges goals found limit least ends [] (q ∷ qs) u lt walk run same small low = refl
+walk_least edges goals found limit least ends (p ∷ ps) [] u lt (v, weight, leads, e, first, walk) run same small low =
     let w = Leads_weight edges u p v weight leads in
     let pos = weight_positive edges p in
     absurd (omega (arith, w, pos, e, same))
-walk_least edges goals found least ends (p ∷ ps) (q ∷ qs) u lt (v, weight, leads, e, first, walk) (v', weight', leads', run) same small =
+walk_least edges goals found limit least ends (p ∷ ps) (q ∷ qs) u lt (v, weight, leads, e, first, walk) (v', weight', leads', run) same small low =
     let w' = Leads_weight edges u q v' weight' leads' in
+    let pos' = weight_positive edges q in
     let below' = Leads_below edges (length goals) u q v' weight' ends leads' in
-    let onward = run_costs edges goals found least ends qs v' below' run (omega (arith, small)) in
-    let step = least.settled v' below' (omega (arith, onward, small)) q u weight' (Leads_back edges u q v' weight' leads') in
+    let onward = run_costs edges goals found limit least ends qs v' below' run (omega (arith, small)) (omega (arith, low)) in
+    let step = least.settled v' below' (omega (arith, onward, small)) (omega (arith, onward, pos', low)) q u weight' (Leads_back edges u q v' weight' leads') in
     let tight : cost edges qs ≡ cost_at found v' = omega (arith, w', onward, step, same) in
     let le = first q v' weight' leads' (omega (arith, w', tight, same)) in
     tie_on p q ps qs (elim (cases_lt p q) [
@@ -165,7 +139,7 @@ walk_least edges goals found least ends (p ∷ ps) (q ∷ qs) u lt (v, weight, l
           let one : v' ≡ v = sym (Leads_same edges u p v v' weight weight' leads (subst P (sym g) leads')) in
           let Q : ℕ → Type 0 = λ z. (z < length goals) × Runs edges goals z qs × (cost edges qs ≡ cost_at found z) in
           let all = subst Q one (below', run, tight) in
-          inr (g, walk_least edges goals found least ends ps qs v all.0 walk all.1 all.2 (omega (arith, small)))
+          inr (g, walk_least edges goals found limit least ends ps qs v all.0 walk all.1 all.2 (omega (arith, small)) (omega (arith, low)))
           )
     ])
 
@@ -179,12 +153,12 @@ not_if : (b : Bool) → (b ≡ true → ⊥) → IsTrue (not b)
 not_if false f = refl
 not_if true f = absurd (f refl)
 
-pub walk_is_least : (edges : List PathEdge) (goals : List Bool) (found : List ℕ) → AreLeastCosts edges goals found → EndsBelow edges (length goals) → length goals < 4294967296
-    → (from : ℕ) → from < length goals → (path : List ℕ) → Walks edges goals found from path → IsLeastRoute edges goals from path
-walk_is_least edges goals found least ends many from lt path walk =
+pub walk_is_least : (edges : List PathEdge) (goals : List Bool) (found : List ℕ) (from : ℕ) → AreLeastCosts edges goals found (cost_at found from) → EndsBelow edges (length goals)
+    → length goals < 4294967296 → from < length goals → (path : List ℕ) → Walks edges goals found from path → IsLeastRoute edges goals from path
+walk_is_least edges goals found from least ends many lt path walk =
     let whole = walk_is_route edges goals found path from walk in
     let mine = routed edges goals from path ends lt whole in
-    let same = walk_costs edges goals found least ends path from lt walk in
+    let same = walk_costs edges goals found (cost_at found from) least ends path from lt walk in
     record {
       route = whole;
       least = λ other h.
@@ -192,17 +166,17 @@ walk_is_least edges goals found least ends many from lt path walk =
           let short = r.short in
           let most = cost_most edges other in
           let small : cost edges other < far = omega (arith, short, most, many) in
-          let le = run_costs edges goals found least ends other from lt r.run small in
+          let le = start_costs edges goals found from least ends lt other r.run small in
           not_true _ (not_better edges path other (let s = mine.short in omega (arith, s, many)) (omega (arith, short, many)) (omega (arith, le, same))
-          (λ e. walk_least edges goals found least ends path other from lt walk r.run (sym e ∙ same) small));
+          (λ e. walk_least edges goals found (cost_at found from) least ends path other from lt walk r.run (sym e ∙ same) small (omega (arith, e, same))));
     }
 
-pub none_from_far : (edges : List PathEdge) (goals : List Bool) (found : List ℕ) → AreLeastCosts edges goals found → EndsBelow edges (length goals) → length goals < 4294967296
-    → (from : ℕ) → from < length goals → far ≤ cost_at found from → (path : List ℕ) → IsTrue (not (is_route edges goals from path))
-none_from_far edges goals found least ends many from lt high path = not_if _ (λ h.
+pub none_from_far : (edges : List PathEdge) (goals : List Bool) (found : List ℕ) (from : ℕ) → AreLeastCosts edges goals found (cost_at found from) → EndsBelow edges (length goals)
+    → length goals < 4294967296 → from < length goals → far ≤ cost_at found from → (path : List ℕ) → IsTrue (not (is_route edges goals from path))
+none_from_far edges goals found from least ends many lt high path = not_if _ (λ h.
     let r = routed edges goals from path ends lt h in
     let short = r.short in
     let most = cost_most edges path in
     let small : cost edges path < far = omega (arith, short, most, many) in
-    let le = run_costs edges goals found least ends path from lt r.run small in
+    let le = start_costs edges goals found from least ends lt path r.run small in
     absurd (omega (arith, le, small, high)))

@@ -1,9 +1,10 @@
--- What the search for the least route keeps: for each node the steps that leave it, and the least cost that was found.
-use Rattle.std.specs.Prelude.{◌≡◌, ◌≢◌, ℕ, ◌+◌, ◌*◌, ◌<◌, ◌≤◌, Bool, true, false, Option, Some, None, List, [], ◌∷◌, ◌++◌, length, slice_get, slice_index, ◌⊎◌, sum, slice_set}
+-- What the search for the least route keeps: for each node the chain of edges that leave it, and the least cost that was found.
+use Rattle.std.specs.Prelude.{◌≡◌, ◌≢◌, ℕ, ◌+◌, ◌*◌, ◌<◌, ◌≤◌, Bool, true, false, Option, Some, None, List, [], ◌∷◌, length, slice_get, slice_index, ◌⊎◌, sum, slice_set}
 use Rattle.std.specs.List.Sorted.{IsPermutation}
-use Rattle.std.specs.Global.{Vec}
+use Rattle.std.specs.declared.cmp.Ordering.{Ordering}
 use Rattle.std.specs.declared.cmp.Reverse.{Reverse}
-use Rattle.std.specs.List.{Contains}
+use Rattle.std.specs.Ordering.{nat_cmp, ordering_then}
+use Rattle.std.specs.List.{Contains, slice_index_or}
 use Rattle.grid_paths.specs.declared.Way.{Way}
 use Rattle.grid_paths.specs.declared.Way.TheVariants.{Free, Closable, Barred}
 use Rattle.grid_paths.specs.declared.PathEdge.{PathEdge}
@@ -44,13 +45,13 @@ pub record IsReached (edges : List PathEdge) (found : List ℕ) (u : ℕ) : Type
   pub step : Leads edges u place node weight
   pub costs : weight + cost_at found node ≤ cost_at found u
 
--- the least costs of routes from each node to a goal, as far as they are below far
-pub record AreLeastCosts (edges : List PathEdge) (goals : List Bool) (found : List ℕ) : Type 0 where
+-- the least costs of routes from each node to a goal, as far as they are below a limit; a cost from there on, if below far, is that of some route
+pub record AreLeastCosts (edges : List PathEdge) (goals : List Bool) (found : List ℕ) (limit : ℕ) : Type 0 where
   pub long : length found ≡ length goals
   pub goal : (u : ℕ) → u < length goals → is_goal goals u ≡ true → cost_at found u ≡ 0
   pub ground : (u : ℕ) → u < length goals → cost_at found u ≡ 0 → is_goal goals u ≡ true
   pub reached : (u : ℕ) → u < length goals → cost_at found u < far → cost_at found u ≢ 0 → IsReached edges found u
-  pub settled : (u : ℕ) → u < length goals → cost_at found u < far → IsSettled edges found u
+  pub settled : (u : ℕ) → u < length goals → cost_at found u < far → cost_at found u < limit → IsSettled edges found u
 
 -- of the steps from u that cost no more than what was found at u, none has a lesser place
 abbrev pub IsLeastPlace : List PathEdge → List ℕ → ℕ → ℕ → Type 0
@@ -62,46 +63,60 @@ Walks edges goals found u [] = is_goal goals u ≡ true
 Walks edges goals found u (place ∷ rest) =
     (v : ℕ) × (weight : ℕ) × Leads edges u place v weight × (weight + cost_at found v ≡ cost_at found u) × IsLeastPlace edges found u place × Walks edges goals found v rest
 
--- ---- the rows of steps
+-- ---- the chains of edges
 
-abbrev pub row_of : Option (Vec Step) → List Step
-row_of (Some row) = row.items
-row_of None = []
+-- a link other than 0 is one more than the place of an edge that leads on from u
+abbrev pub IsLed : List PathEdge → ℕ → ℕ → Type 0
+IsLed edges u link = (place : ℕ) → link ≡ place + 1 → (v : ℕ) × (weight : ℕ) × Leads edges u place v weight
 
--- the steps that leave a node
-abbrev pub row_at : List (Vec Step) → ℕ → List Step
-row_at rows u = row_of (slice_get rows u)
+-- of the first edges that lead on from u the link is to the last, or 0 if there is none
+pub record IsLink (edges : List PathEdge) (u count link : ℕ) : Type 0 where
+  pub within : link ≤ count
+  pub led : IsLed edges u link
+  pub none : (place v weight : ℕ) → link ≤ place → place < count → Leads edges u place v weight → ⊥
 
--- the steps from each node over the edges at the first places
-pub record AreRowsTo (edges : List PathEdge) (count : ℕ) (rows : List (Vec Step)) : Type 0 where
-  pub sound : (u : ℕ) (s : Step) → Contains (row_at rows u) s → Leads edges u s.place s.to s.weight
-  pub complete : (u place v weight : ℕ) → u < length rows → place < count → Leads edges u place v weight → Contains (row_at rows u) (record { place = place; to = v; weight = weight })
+-- the links from an edge at its two ends
+abbrev pub AreLinks : List PathEdge → PathEdge → ℕ → ℕ × ℕ → Type 0
+AreLinks edges edge place links = IsLink edges edge.a place links.0 × IsLink edges edge.b place links.1
 
-abbrev pub AreRows : List PathEdge → List (Vec Step) → Type 0
-AreRows edges rows = AreRowsTo edges (length edges) rows
+-- the chains of the first edges
+pub record AreChainsTo (edges : List PathEdge) (count : ℕ) (firsts : List ℕ) (nexts : List (ℕ × ℕ)) : Type 0 where
+  pub long : length nexts ≡ count
+  pub first : (u d : ℕ) → u < length firsts → IsLink edges u count (slice_index_or firsts u d)
+  pub next : (place : ℕ) (edge : PathEdge) (d : ℕ × ℕ) → place < count → slice_get edges place ≡ Some edge → AreLinks edges edge place (slice_index_or nexts place d)
 
--- one row has one step more
-pub record Appends (old new : List (Vec Step)) (node : ℕ) (step : Step) : Type 0 where
-  pub long : length new ≡ length old
-  pub here : row_at new node ≡ row_at old node ++ step ∷ []
-  pub others : (u : ℕ) → u ≢ node → row_at new u ≡ row_at old u
+abbrev pub AreChains : List PathEdge → List ℕ → List (ℕ × ℕ) → Type 0
+AreChains edges firsts nexts = AreChainsTo edges (length edges) firsts nexts
 
-abbrev pub StepsBelow : List (Vec Step) → ℕ → Type 0
-StepsBelow rows count = (u : ℕ) (s : Step) → Contains (row_at rows u) s → (s.to < count) × (0 < s.weight)
+-- the step at a link of the chain of u, and the next link
+pub record Passes (edges : List PathEdge) (u link : ℕ) (step : Step) (next : ℕ) : Type 0 where
+  pub here : link ≡ step.place + 1
+  pub leads : Leads edges u step.place step.to step.weight
+  pub follows : IsLink edges u step.place next
 
--- ---- the best step of a row
+-- ---- the best step
 
 abbrev pub IsTight : List ℕ → ℕ → Step → Type 0
 IsTight found here s = s.weight + cost_at found s.to ≡ here
 
-abbrev pub IsBest : List ℕ → ℕ → List Step → Option Step → Type 0
-IsBest found here steps None = (t : Step) → Contains steps t → IsTight found here t → ⊥
-IsBest found here steps (Some s) = Contains steps s × IsTight found here s × ((t : Step) → Contains steps t → IsTight found here t → s.place ≤ t.place)
+-- of the steps from u that cost just this much, from a place on, the one of least place
+abbrev pub IsBestFrom : List PathEdge → List ℕ → ℕ → ℕ → ℕ → Option Step → Type 0
+IsBestFrom edges found u here link None = (place v weight : ℕ) → link ≤ place → Leads edges u place v weight → weight + cost_at found v ≡ here → ⊥
+IsBestFrom edges found u here link (Some s) =
+    Leads edges u s.place s.to s.weight × IsTight found here s × ((place v weight : ℕ) → link ≤ place → Leads edges u place v weight → weight + cost_at found v ≡ here → s.place ≤ place)
 
 -- ---- the search
 
 abbrev pub entry : ℕ → ℕ → Reverse (ℕ × ℕ)
 entry cost node = record { 0 = (cost, node) }
+
+-- of two entries the one that comes out first is the greater: that of lesser cost, then of lesser node
+abbrev pub entry_cmp : Reverse (ℕ × ℕ) → Reverse (ℕ × ℕ) → Ordering
+entry_cmp x y = ordering_then (nat_cmp y.0.0 x.0.0) (nat_cmp y.0.1 x.0.1)
+
+-- none waits at a lesser cost
+abbrev pub WaitFrom : List (Reverse (ℕ × ℕ)) → ℕ → Type 0
+WaitFrom front cost = (e : Reverse (ℕ × ℕ)) → Contains front e → cost ≤ e.0.0
 
 -- what was found and who waits, in the midst of the search: each node but one waits or is settled
 pub record IsSearched (edges : List PathEdge) (goals : List Bool) (found : List ℕ) (front : List (Reverse (ℕ × ℕ))) (but : ℕ) : Type 0 where
@@ -113,15 +128,6 @@ pub record IsSearched (edges : List PathEdge) (goals : List Bool) (found : List 
 
 abbrev pub AreInside : List (Reverse (ℕ × ℕ)) → ℕ → Type 0
 AreInside front count = (e : Reverse (ℕ × ℕ)) → Contains front e → e.0.1 < count
-
--- the steps cost no less than what was found at their ends
-abbrev pub SettlesBy : List Step → List ℕ → ℕ → Type 0
-SettlesBy steps found here = (s : Step) → Contains steps s → cost_at found s.to ≤ s.weight + here
-
--- the row is that of the steps from x
-pub record IsRow (edges : List PathEdge) (x : ℕ) (row : List Step) : Type 0 where
-  pub sound : (s : Step) → Contains row s → Leads edges x s.place s.to s.weight
-  pub complete : (place v weight : ℕ) → Leads edges x place v weight → Contains row (record { place = place; to = v; weight = weight })
 
 -- the first goals cost 0 and wait, and all else is far
 pub record IsStarted (goals : List Bool) (count : ℕ) (found : List ℕ) (front : List (Reverse (ℕ × ℕ))) : Type 0 where
@@ -142,16 +148,15 @@ pub record Takes (step : Step) (cost : ℕ) (found : List ℕ) (front : List (Re
       ⊎ ((step.weight + cost < cost_at found step.to) × (found' ≡ slice_set found step.to (step.weight + cost)) × IsPermutation (entry (step.weight + cost) step.to ∷ front) front')
   pub falls : potential found' len' ≤ potential found len
 
-pub record Spreads (row : List Step) (cost : ℕ) (found : List ℕ) (front : List (Reverse (ℕ × ℕ))) (len : ℕ) (found' : List ℕ) (front' : List (Reverse (ℕ × ℕ))) (len' : ℕ) : Type 0 where
+pub record Spreads (edges : List PathEdge) (x cost : ℕ) (found : List ℕ) (front : List (Reverse (ℕ × ℕ))) (len : ℕ) (found' : List ℕ) (front' : List (Reverse (ℕ × ℕ))) (len' : ℕ) : Type 0 where
   pub long : length found' ≡ length found
   pub inside : AreInside front (length found) → AreInside front' (length found)
   pub falls : potential found' len' ≤ potential found len
-  pub settles : (edges : List PathEdge) (goals : List Bool) (x : ℕ) → IsRow edges x row → x < length goals → cost_at found x ≡ cost
-      → IsSearched edges goals found front x → IsSearched edges goals found' front' (length goals)
+  pub settles : (goals : List Bool) → x < length goals → cost_at found x ≡ cost → IsSearched edges goals found front x → IsSearched edges goals found' front' (length goals)
 
--- a node that waited at a cost has left the front: where it costs just that, its row was gone through
-pub record Visits (rows : List (Vec Step)) (cost node : ℕ) (found : List ℕ) (front : List (Reverse (ℕ × ℕ))) (len : ℕ) (found' : List ℕ) (front' : List (Reverse (ℕ × ℕ))) (len' : ℕ) : Type 0 where
+-- a node that waited at a cost has left the front: where it costs just that, its steps were taken
+pub record Visits (edges : List PathEdge) (cost node : ℕ) (found : List ℕ) (front : List (Reverse (ℕ × ℕ))) (len : ℕ) (found' : List ℕ) (front' : List (Reverse (ℕ × ℕ))) (len' : ℕ) : Type 0 where
   pub long : length found' ≡ length found
   pub inside : AreInside front (length found) → AreInside front' (length found)
   pub falls : potential found' len' ≤ potential found len
-  pub keeps : (edges : List PathEdge) (goals : List Bool) → AreRows edges rows → IsSearched edges goals found (entry cost node ∷ front) (length goals) → IsSearched edges goals found' front' (length goals)
+  pub keeps : (goals : List Bool) → IsSearched edges goals found (entry cost node ∷ front) (length goals) → IsSearched edges goals found' front' (length goals)

@@ -1,14 +1,13 @@
 //! The path of least measure from a node to a goal.
 #![tactic(auto)]
 
-ghost use Rattle.std.specs.Prelude.{◌≡◌, ◌≢◌, ℕ, ◌+◌, ◌*◌, ◌-◌, ◌<◌, ◌≤◌, ◌^◌, ◌↔◌, [], ◌∷◌, ◌++◌, length, IfOk, OnOk, IfSome, IfNone, IsTrue, not, List, Bool, sum, slice_set, All, MatchOption, slice_get, Some, None, map};
-ghost use Rattle.std.specs.List.{Contains};
+ghost use Rattle.std.specs.Prelude.{◌≡◌, ℕ, ◌+◌, ◌<◌, ◌↔◌, ◌∷◌, length, IfOk, OnOk, IfSome, IfNone, IsTrue, not, List, Bool, slice_set, slice_get, Some};
 ghost use Rattle.std.specs.List.Sorted.{IsPermutation};
-ghost use Rattle.std.specs.BinaryHeap.{heap_items, heap_len};
+ghost use Rattle.std.specs.BinaryHeap.{heap_items, heap_len, IsHeap};
+ghost use Rattle.std.proofs.Props.{props};
 ghost use Rattle.grid_paths.specs.declared.PathEdge.{PathEdge};
-ghost use Rattle.grid_paths.specs.declared.Step.{Step};
 ghost use Rattle.grid_paths.specs.Routes.{EndsBelow, IsLeastRoute, is_route, is_goal};
-ghost use Rattle.grid_paths.specs.Search.{weight_of_lem, Leads, row_at, AreRows, AreRowsTo, Appends, StepsBelow, IsTight, IsBest, entry, IsSearched, AreInside, SettlesBy, IsRow, IsStarted, AreLeastCosts, Walks, cost_at, far, Takes, Spreads, Visits};
+ghost use Rattle.grid_paths.specs.Search.{weight_of_lem, AreChains, AreChainsTo, IsLed, Passes, IsTight, IsBestFrom, entry, IsStarted, AreLeastCosts, Walks, cost_at, far, Takes, Spreads, Visits, entry_cmp, WaitFrom};
 ghost use Rattle.grid_paths.specs.Laws.{EqualMeasureIsEqualPath};
 
 use grid_ids::{Memory, Seq};
@@ -60,15 +59,6 @@ fn weight_of(way: Way) -> Option<u64>
     }
 }
 
-/// Puts a step last in a node's row.
-fn add_step(rows: &mut Vec<Vec<Step>>, node: u32, step: Step) -> Result<(), Memory>
-    requires { node < length rows.old.items }
-    ensures { OnOk result (Appends rows.old.items rows.new.items node step) }
-{
-    rows[node as usize].push(step)?;
-    Ok(())
-}
-
 /// Whether the step costs just what was found at its start.
 fn is_tight(step: Step, found: &[u64], here: u64) -> bool
     requires { step.to < length found.now }
@@ -78,126 +68,115 @@ fn is_tight(step: Step, found: &[u64], here: u64) -> bool
     beyond <= here && here - beyond == step.weight
 }
 
-/// The better of the best so far and a step, if the step costs just what was found at its start.
+/// For each node the edges that leave it and aren't barred, as a chain from the last place to the first. A link is one
+/// more than the place of an edge, or 0 where the chain ends.
+#[derive(Drop)]
+struct Chains {
+    /// For each node the link to its last edge.
+    firsts: Vec<u32>,
+    /// For each edge the links to those before it at its ends `a` and `b`.
+    nexts: Vec<(u32, u32)>,
+}
+
+impl Chains {
+    /// Puts the edge at the next place into the chains of its ends, unless it is barred.
+    fn add(&mut self, place: u32, edge: PathEdge) -> Result<(), Memory>
+        requires few { place < 4294967295 }
+        requires a { edge.a < length self.old.firsts.items }
+        requires b { edge.b < length self.old.firsts.items }
+        ensures long { OnOk result (length self.new.firsts.items ≡ length self.old.firsts.items) }
+        ensures chains { OnOk result ((edges : List PathEdge) → slice_get edges place ≡ Some edge
+            → AreChainsTo edges place self.old.firsts.items self.old.nexts.items
+            → AreChainsTo edges (place + 1) self.new.firsts.items self.new.nexts.items) }
+    {
+        let a = edge.a as usize;
+        let b = edge.b as usize;
+        self.nexts.push((self.firsts[a], self.firsts[b]))?;
+        if weight_of(edge.way).is_some() {
+            self.firsts[a] = place + 1;
+            self.firsts[b] = place + 1;
+        }
+        Ok(())
+    }
+
+    /// The step at a link of a node's chain, and the link that follows.
+    fn pass(&self, edges: &[PathEdge], node: u32, link: u32) -> (Step, u32)
+        requires chains { AreChains edges.now self.now.firsts.items self.now.nexts.items }
+        requires some { 0 < link }
+        requires here { IsLed edges.now node link }
+        ensures { Passes edges.now node link result.0 result.1 }
+    {
+        let place = link - 1;
+        let edge = edges[place as usize];
+        let next = self.nexts[place as usize];
+        let weight = weight_of(edge.way).unwrap_or(FAR);
+        if edge.a == node {
+            let to = edge.b;
+            (Step { place, to, weight }, next.0)
+        } else {
+            let to = edge.a;
+            (Step { place, to, weight }, next.1)
+        }
+    }
+}
+
+/// The chains of edges among so many nodes.
+fn chains_of(alloc: Global, nodes: usize, edges: &[PathEdge]) -> Result<Chains, Memory>
+    requires ends { EndsBelow edges.now nodes }
+    requires few { length edges.now < 4294967296 }
+    ensures long { IfOk result (λ chains. length chains.firsts.items ≡ nodes) }
+    ensures chains { IfOk result (λ chains. AreChains edges.now chains.firsts.items
+        chains.nexts.items) }
+{
+    let mut chains = Chains {
+        firsts: vec![in alloc; 0; nodes]?,
+        nexts: Vec::with_capacity(alloc, edges.len())?,
+    };
+    for (place, edge) in edges.iter().enumerate() {
+        chains.add(place as u32, *edge)?;
+    }
+    Ok(chains)
+}
+
+/// The better of the best so far and a step of lesser place: the step, if it costs just what was found at its start.
 fn better_of(best: Option<Step>, step: Step, found: &[u64], here: u64) -> Option<Step>
     requires { step.to < length found.now }
-    ensures { (steps : List Step) → IsBest found.now here steps best
-        → IsBest found.now here (steps ++ step ∷ []) result }
+    ensures { (edges : List PathEdge) (u link next : ℕ) → Passes edges u link step next
+        → IsBestFrom edges found.now u here link best
+        → IsBestFrom edges found.now u here next result }
 {
-    if !is_tight(step, found, here) {
-        return best;
-    }
-    match best {
-        Some(b) => {
-            if step.place < b.place {
-                Some(step)
-            } else {
-                Some(b)
-            }
-        }
-        None => Some(step),
+    if is_tight(step, found, here) {
+        Some(step)
+    } else {
+        best
     }
 }
 
 /// Of the steps that cost just what was found at their start, the one of least place.
-fn best_step(row: &[Step], found: &[u64], here: u64) -> Option<Step>
-    requires { (s : Step) → Contains row.now s → s.to < length found.now }
-    ensures { IsBest found.now here row.now result }
+fn best_step(edges: &[PathEdge], chains: &Chains, found: &[u64], node: u32) -> Option<Step>
+    requires chains { AreChains edges.now chains.now.firsts.items chains.now.nexts.items }
+    requires ends { EndsBelow edges.now (length found.now) }
+    requires long { length chains.now.firsts.items ≡ length found.now }
+    requires node { node < length found.now }
+    ensures { IsBestFrom edges.now found.now node (cost_at found.now node) 0 result }
 {
-    let mut best: Option<Step> = None;
-    for step in row {
-        best = better_of(best, *step, found, here);
+    let here = found[node as usize];
+    let mut best = None;
+    let mut link = chains.firsts[node as usize];
+    while link > 0 {
+        let (step, next) = chains.pass(edges, node, link);
+        best = better_of(best, step, found, here);
+        link = next;
     }
     best
 }
 
-/// Puts the edge at a place into the rows of its ends, unless it is barred.
-fn add_edge(rows: &mut Vec<Vec<Step>>, place: u32, edge: PathEdge) -> Result<(), Memory>
-    requires a { edge.a < length rows.old.items }
-    requires b { edge.b < length rows.old.items }
-    ensures long { OnOk result (length rows.new.items ≡ length rows.old.items) }
-    ensures rows { OnOk result ((edges : List PathEdge) → slice_get edges place ≡ Some edge
-        → AreRowsTo edges place rows.old.items → AreRowsTo edges (place + 1) rows.new.items) }
-{
-    match weight_of(edge.way) {
-        Some(weight) => {
-            add_step(
-                rows,
-                edge.a,
-                Step {
-                    place,
-                    to: edge.b,
-                    weight,
-                },
-            )?;
-            add_step(
-                rows,
-                edge.b,
-                Step {
-                    place,
-                    to: edge.a,
-                    weight,
-                },
-            )
-        }
-        None => Ok(()),
-    }
-}
-
-/// One more at a node.
-fn count_one(counts: &mut Vec<u32>, node: u32)
-    requires { node < length counts.old.items }
-    ensures { length counts.new.items ≡ length counts.old.items }
-{
-    let count = counts[node as usize];
-    counts[node as usize] = count.saturating_add(1);
-}
-
-/// For each node how many edges end there: what its row is to hold at most.
-fn degrees(alloc: Global, nodes: usize, edges: &[PathEdge]) -> Result<Vec<u32>, Memory>
-    requires { EndsBelow edges.now nodes }
-    ensures { IfOk result (λ counts. length counts.items ≡ nodes) }
-{
-    let mut counts = vec![in alloc; 0; nodes]?;
-    for edge in edges {
-        count_one(&mut counts, edge.a);
-        count_one(&mut counts, edge.b);
-    }
-    Ok(counts)
-}
-
-/// An empty row for each count, with room for that many steps.
-fn empty_rows(alloc: Global, counts: &[u32]) -> Result<Vec<Vec<Step>>, Memory>
-    ensures long { IfOk result (λ rows. length rows.items ≡ length counts.now) }
-    ensures empty { IfOk result (λ rows. (u : ℕ) → row_at rows.items u ≡ []) }
-{
-    let mut rows: Vec<Vec<Step>> = Vec::with_capacity(alloc, counts.len())?;
-    for count in counts {
-        rows.push(Vec::with_capacity(alloc, *count as usize)?)?;
-    }
-    Ok(rows)
-}
-
-/// For each node the steps that leave it.
-fn rows_of(alloc: Global, nodes: usize, edges: &[PathEdge]) -> Result<Vec<Vec<Step>>, Memory>
-    requires ends { EndsBelow edges.now nodes }
-    requires few { length edges.now < 4294967296 }
-    ensures long { IfOk result (λ rows. length rows.items ≡ nodes) }
-    ensures rows { IfOk result (λ rows. AreRows edges.now rows.items) }
-{
-    let counts = degrees(alloc, nodes, edges)?;
-    let mut rows = empty_rows(alloc, counts.as_slice())?;
-    for (place, edge) in edges.iter().enumerate() {
-        add_edge(&mut rows, place as u32, *edge)?;
-    }
-    Ok(rows)
-}
-
-/// What was found so far, and the nodes from which the search goes on.
+/// What was found so far, and the nodes from which the search goes on, those of least cost first.
 #[derive(Drop)]
 struct Search {
     found: Vec<u64>,
     front: BinaryHeap<Reverse<(u64, u32)>>,
+    ghost ordered: { IsHeap entry_cmp (heap_items front) } by { Prim.hlevel props },
 }
 
 impl Search {
@@ -208,7 +187,7 @@ impl Search {
             (heap_items search.front)) }
     {
         let mut search = Search {
-            found: Vec::new(alloc),
+            found: Vec::with_capacity(alloc, goals.len())?,
             front: BinaryHeap::new(alloc),
         };
         for (node, goal) in goals.iter().enumerate() {
@@ -260,64 +239,118 @@ impl Search {
         }
     }
 
-    /// The steps of a row, from a node that costs this much.
-    fn spread(&mut self, row: &[Step], cost: u64) -> Result<(), Memory>
-        requires { (s : Step) → Contains row.now s → s.to < length self.old.found.items }
-        ensures { OnOk result (Spreads row.now cost self.old.found.items (heap_items self.old.front)
-            (heap_len self.old.front) self.new.found.items (heap_items self.new.front)
-            (heap_len self.new.front)) }
+    /// The steps from a node that costs this much.
+    fn spread(
+        &mut self,
+        edges: &[PathEdge],
+        chains: &Chains,
+        node: u32,
+        cost: u64,
+    ) -> Result<(), Memory>
+        requires chains { AreChains edges.now chains.now.firsts.items chains.now.nexts.items }
+        requires ends { EndsBelow edges.now (length self.old.found.items) }
+        requires node { node < length chains.now.firsts.items }
+        ensures { OnOk result (Spreads edges.now node cost self.old.found.items
+            (heap_items self.old.front) (heap_len self.old.front) self.new.found.items
+            (heap_items self.new.front) (heap_len self.new.front)) }
     {
-        for step in row {
-            self.take(*step, cost)?;
+        let mut link = chains.firsts[node as usize];
+        while link > 0 {
+            let (step, next) = chains.pass(edges, node, link);
+            self.take(step, cost)?;
+            link = next;
         }
         Ok(())
     }
 
-    /// A node that waited at this cost: its row is gone through, unless it was found at a lesser one since.
-    fn visit(&mut self, rows: &[Vec<Step>], cost: u64, node: u32) -> Result<(), Memory>
-        requires long { length rows.now ≡ length self.old.found.items }
-        requires below { StepsBelow rows.now (length rows.now) }
-        requires node { node < length rows.now }
-        ensures { OnOk result (Visits rows.now cost node self.old.found.items
+    /// A node that waited at this cost: its steps are taken, unless it was found at a lesser one since.
+    fn visit(
+        &mut self,
+        edges: &[PathEdge],
+        chains: &Chains,
+        cost: u64,
+        node: u32,
+    ) -> Result<(), Memory>
+        requires chains { AreChains edges.now chains.now.firsts.items chains.now.nexts.items }
+        requires ends { EndsBelow edges.now (length self.old.found.items) }
+        requires long { length chains.now.firsts.items ≡ length self.old.found.items }
+        requires node { node < length self.old.found.items }
+        ensures { OnOk result (Visits edges.now cost node self.old.found.items
             (heap_items self.old.front) (heap_len self.old.front) self.new.found.items
             (heap_items self.new.front) (heap_len self.new.front)) }
     {
         if self.found[node as usize] != cost {
             return Ok(());
         }
-        self.spread(rows[node as usize].as_slice(), cost)
+        self.spread(edges, chains, node, cost)
+    }
+
+    /// The next node to visit, with the cost at which it waited. None once no node waits at a lesser cost than was
+    /// found at `from`.
+    fn next(&mut self, from: u32) -> Option<(u64, u32)>
+        requires { from < length self.old.found.items }
+        ensures found { self.new.found.items ≡ self.old.found.items }
+        ensures some { IfSome result (λ next. IsPermutation (heap_items self.old.front)
+            (entry next.0 next.1 ∷ heap_items self.new.front)) }
+        ensures len { IfSome result (λ next. heap_len self.old.front
+            ≡ heap_len self.new.front + 1) }
+        ensures none { IfNone result (WaitFrom (heap_items self.old.front)
+            (cost_at self.old.found.items from)) }
+    {
+        let (cost, node) = self.front.pop()?.0;
+        let limit = self.found[from as usize];
+        if cost < limit {
+            Some((cost, node))
+        } else {
+            None
+        }
     }
 }
 
-/// For each node the least cost of a route to a goal, as far as there is one.
-fn least_costs(alloc: Global, rows: &[Vec<Step>], goals: &[bool]) -> Result<Vec<u64>, Memory>
-    requires long { length rows.now ≡ length goals.now }
-    requires below { StepsBelow rows.now (length goals.now) }
+/// For each node the least cost of a route to a goal, as far as that is no more than the least cost from `from`: what
+/// costs more isn't looked for.
+fn least_costs(
+    alloc: Global,
+    edges: &[PathEdge],
+    chains: &Chains,
+    from: u32,
+    goals: &[bool],
+) -> Result<Vec<u64>, Memory>
+    requires chains { AreChains edges.now chains.now.firsts.items chains.now.nexts.items }
+    requires ends { EndsBelow edges.now (length goals.now) }
+    requires long { length chains.now.firsts.items ≡ length goals.now }
     requires few { length goals.now < 4294967296 }
-    ensures { IfOk result (λ found. (edges : List PathEdge) → AreRows edges rows.now
-        → AreLeastCosts edges goals.now found.items) }
+    requires from { from < length goals.now }
+    ensures { IfOk result (λ found. AreLeastCosts edges.now goals.now found.items
+        (cost_at found.items from)) }
 {
     let mut search = Search::start(alloc, goals)?;
-    while let Some(next) = search.front.pop() {
-        search.visit(rows, next.0.0, next.0.1)?;
+    while let Some((cost, node)) = search.next(from) {
+        search.visit(edges, chains, cost, node)?;
     }
     Ok(search.found)
 }
 
 /// Walks down the costs to a goal, each time by the least place.
-fn walk(alloc: Global, rows: &[Vec<Step>], found: &[u64], from: u32) -> Result<Places, Memory>
-    requires long { length found.now ≡ length rows.now }
-    requires below { StepsBelow rows.now (length rows.now) }
-    requires from { from < length rows.now }
-    ensures { IfOk result (λ path. (edges : List PathEdge) (goals : List Bool)
-        → AreRows edges rows.now
-        → AreLeastCosts edges goals found.now
+fn walk(
+    alloc: Global,
+    edges: &[PathEdge],
+    chains: &Chains,
+    found: &[u64],
+    from: u32,
+) -> Result<Places, Memory>
+    requires chains { AreChains edges.now chains.now.firsts.items chains.now.nexts.items }
+    requires ends { EndsBelow edges.now (length found.now) }
+    requires long { length chains.now.firsts.items ≡ length found.now }
+    requires from { from < length found.now }
+    ensures { IfOk result (λ path. (goals : List Bool)
+        → AreLeastCosts edges.now goals found.now (cost_at found.now from)
         → cost_at found.now from < far
-        → Walks edges goals found.now from path) }
+        → Walks edges.now goals found.now from path) }
 {
     let mut path = Places::empty(alloc);
     let mut node = from;
-    while let Some(step) = best_step(rows[node as usize].as_slice(), found, found[node as usize]) {
+    while let Some(step) = best_step(edges, chains, found, node) {
         path.push(step.place)?;
         node = step.to;
     }
@@ -344,10 +377,10 @@ pub fn least_path(
     ensures none { IfOk result (λ answer. IfNone answer ((path : List ℕ) → IsTrue (not (is_route
         edges.now goals.now from path)))) }
 {
-    let rows = rows_of(alloc, nodes as usize, edges)?;
-    let found = least_costs(alloc, rows.as_slice(), goals)?;
+    let chains = chains_of(alloc, nodes as usize, edges)?;
+    let found = least_costs(alloc, edges, &chains, from, goals)?;
     if found[from as usize] < FAR {
-        Ok(Some(walk(alloc, rows.as_slice(), found.as_slice(), from)?))
+        Ok(Some(walk(alloc, edges, &chains, found.as_slice(), from)?))
     } else {
         Ok(None)
     }

@@ -41,10 +41,13 @@ fn least_paths(rt: HostRuntime) -> Result<(), Fail> {
         edge(1, 0, Way::Barred),
         edge(5, 1, Way::Free),
         edge(1, 5, Way::Free),
+        edge(2, 5, Way::Free),
     ];
-    let cases: [([bool; 6], Option<&[u32]>); 4] = [
+    let cases: [([bool; 6], Option<&[u32]>); 5] = [
         ([true, false, false, false, false, false], Some(&[4, 3, 2])),
         ([false, false, false, false, false, true], Some(&[6])),
+        // Found over the one that has to be closed before it is found over two that haven't.
+        ([false, false, true, false, false, false], Some(&[6, 8])),
         ([true, true, false, false, false, false], Some(&[])),
         ([false; 6], None),
     ];

@@ -1,36 +1,45 @@
-use Rattle.std.proofs.Common.{List, arith, subst, take, sym}
+use Rattle.std.proofs.Common.{length, arith}
 use Rattle.std.specs.BinaryHeap.{heap_items, heap_len}
-use Rattle.std.proofs.lemmas.List.{take_more, take_all}
-use Rattle.std.proofs.lemmas.List.Elements.{Contains-get_or}
-use Rattle.grid_paths.specs.declared.Step.{Step}
-use Rattle.grid_paths.proofs.Searching.{SpreadsTo, spreads_more, spreads_all}
+use Rattle.grid_paths.specs.Search.{IsLink}
+use Rattle.grid_paths.proofs.Routing.{Leads_below}
+use Rattle.grid_paths.proofs.Rows.{first_link}
+use Rattle.grid_paths.proofs.Searching.{spreads_none, spreads_more, spreads_all}
 use Rattle.grid_paths.proofs.Search.spread.Goals as goal
 
-no_step : Step
-no_step = record { place = 0; to = 0; weight = 0 }
+pub loop-link-init : goal.loop-link-init
+loop-link-init c =
+    let before = c.args.self.now in
+    let link = c.index-link.result.now in
+    let first : IsLink c.args.edges.now c.args.node (length c.args.edges.now) link =
+    first_link c.args.edges.now c.args.chains.now.firsts.items c.args.chains.now.nexts.items c.args.node link c.requires.chains c.requires.node c.index-link.ensures in
+    record {
+      led = first.led;
+      spread = spreads_none c.args.edges.now c.args.node link c.args.cost before.found.items (heap_items before.front) (heap_len before.front) first;
+    }
 
 pub take-requires : goal.take-requires
-unfolding no_step
 take-requires c =
-    let h = c.requires _ (Contains-get_or c.args.row.now c.loop-step.step-index no_step c.loop-step-test.true) in
-    omega (arith, h, c.loop-step.invariant.long)
+    let step = c.pass-next.result.0 in
+    let below = Leads_below c.args.edges.now (length c.args.self.now.found.items) c.args.node step.place step.to step.weight c.requires.ends c.pass-next.ensures.leads in
+    omega (arith, below, c.loop-link.invariant.spread.long)
 
-pub loop-step-preserved : goal.loop-step-preserved
-unfolding no_step
-loop-step-preserved c =
-    let has = Contains-get_or c.args.row.now c.loop-step.step-index no_step c.loop-step-test.true in
-    let h = c.requires _ has in
-    let P : List Step → Type 0 = λ steps. SpreadsTo c.args.row.now steps c.args.cost c.args.self.now.found.items (heap_items c.args.self.now.front) (heap_len c.args.self.now.front)
-    c.take.new.self.found.items (heap_items c.take.new.self.front) (heap_len c.take.new.self.front) in
-    subst P (sym (take_more c.args.row.now c.loop-step.step-index no_step c.loop-step-test.true))
-    (spreads_more c.args.row.now (take c.loop-step.step-index c.args.row.now) c.args.cost c.args.self.now.found.items (heap_items c.args.self.now.front) (heap_len c.args.self.now.front)
-    c.loop-step.self.found.items (heap_items c.loop-step.self.front) (heap_len c.loop-step.self.front) _
-    c.take.new.self.found.items (heap_items c.take.new.self.front) (heap_len c.take.new.self.front) has (omega (arith, h, c.loop-step.invariant.long)) c.in_ok-take.ensures c.loop-step.invariant)
+pub loop-link-preserved : goal.loop-link-preserved
+loop-link-preserved c =
+    let before = c.args.self.now in
+    let here = c.loop-link.self in
+    let after = c.take.new.self in
+    let step = c.pass-next.result.0 in
+    let below = Leads_below c.args.edges.now (length before.found.items) c.args.node step.place step.to step.weight c.requires.ends c.pass-next.ensures.leads in
+    record {
+      led = c.pass-next.ensures.follows.led;
+      spread = spreads_more c.args.edges.now c.args.node c.loop-link.link c.args.cost before.found.items (heap_items before.front) (heap_len before.front)
+          here.found.items (heap_items here.front) (heap_len here.front) step c.pass-next.result.1 after.found.items (heap_items after.front) (heap_len after.front)
+          c.pass-next.ensures (omega (arith, below, c.loop-link.invariant.spread.long)) c.in_ok-take.ensures c.loop-link.invariant.spread;
+    }
 
 pub returns : goal.returns
 returns c =
-    let P : List Step → Type 0 = λ steps. SpreadsTo c.args.row.now steps c.args.cost c.args.self.now.found.items (heap_items c.args.self.now.front) (heap_len c.args.self.now.front)
-    c.loop-step.self.found.items (heap_items c.loop-step.self.front) (heap_len c.loop-step.self.front) in
-    spreads_all c.args.row.now c.args.cost c.args.self.now.found.items (heap_items c.args.self.now.front) (heap_len c.args.self.now.front)
-    c.loop-step.self.found.items (heap_items c.loop-step.self.front) (heap_len c.loop-step.self.front)
-    (subst P (take_all c.loop-step.step-index c.args.row.now c.loop-step-test.false) c.loop-step.invariant)
+    let before = c.args.self.now in
+    let after = c.loop-link.self in
+    spreads_all c.args.edges.now c.args.node c.loop-link.link c.args.cost before.found.items (heap_items before.front) (heap_len before.front)
+    after.found.items (heap_items after.front) (heap_len after.front) (omega (arith, c.loop-link-test.false)) c.loop-link.invariant.spread
