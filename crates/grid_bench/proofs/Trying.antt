@@ -1,4 +1,4 @@
--- What tests assert at run time, and what it tells.
+-- What a change of one switch of a worked level costs.
 use Rattle.std.proofs.Common.{◌≡◌, refl, sym, ap, ◌∙◌, ℕ, ◌*◌, ◌≤◌, ◌&&◌, not, cond, Bool, List, [], ◌∷◌, length, arith}
 use Rattle.std.specs.Bool.{beq}
 use Rattle.std.specs.List.{sum_by}

@@ -10,7 +10,7 @@ use Rattle.grid_json.specs.declared.format.Format.TheVariants.{Four}
 use Rattle.grid_json.specs.declared.kinds.InjectionKind.{InjectionKind}
 use Rattle.grid_json.specs.declared.whole.JobFault.{JobFault}
 use Rattle.grid_json.specs.declared.whole.JobFault.TheVariants.{BadJson}
-use Rattle.grid_json.specs.Bytes.{reading}
+use Rattle.grid_value.specs.Bytes.{reading}
 use Rattle.grid_json.specs.Reading.{◌>>=◌, here, under, whole_at, flag_at, id_at, array_at, member_at, member_or, optional_at, only_at, object_at, word_at}
 use Rattle.grid_json.specs.Kinds.{injection_kind_at}
 use Rattle.grid_json.specs.Network.{two_at, item_names, item_at}

@@ -1,13 +1,13 @@
 // Commands on networks with configured buses from JSON.
 ghost use Rattle.std.specs.Prelude.{◌≡◌};
-ghost use Rattle.serde_json.specs.View.{view};
+ghost use Rattle.grid_value.specs.View.{view};
 ghost use Rattle.grid_json.specs.Reading.{Gives, texts};
 ghost use Rattle.grid_configured.specs.Jobs.{command_names, sided_at, clone_at, request_at};
 
 use crate::lists::{PlainId, Reader, read_array, read_member};
 use grid_core::{Request, Script};
 use grid_json::{Format, FromJson, ReadError, Reason, member, member_otherwise, object, only};
-use serde_json::Value;
+use grid_value::Value;
 use std::alloc::Global;
 
 /// What a command asks for.

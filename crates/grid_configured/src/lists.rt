@@ -1,7 +1,7 @@
 // Members and lists by ways of reading them.
 ghost use Rattle.std.specs.Prelude.{◌≡◌, Result, IfOk, length};
 ghost use Rattle.serde_json.specs.Data.{Data};
-ghost use Rattle.serde_json.specs.View.{view, items_view};
+ghost use Rattle.grid_value.specs.View.{view, items_view};
 ghost use Rattle.grid_json.specs.declared.fault.Fault.{Fault as FaultAt};
 ghost use Rattle.grid_json.specs.Reading.{Gives, member_at, array_at, items_at};
 ghost use Rattle.grid_configured.specs.Jobs.{plain_at};
@@ -9,7 +9,7 @@ ghost use Rattle.grid_configured.specs.Jobs.{plain_at};
 use crate::plain::read_plain;
 use grid_ids::{Id, Ids, Seq};
 use grid_json::{ReadError, Reason};
-use serde_json::Value;
+use grid_value::Value;
 use std::alloc::Global;
 
 /// A way of reading a JSON value.

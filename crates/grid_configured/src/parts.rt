@@ -6,7 +6,7 @@ ghost use Rattle.grid_configured.specs.Jobs.{injection_names};
 use crate::lists::{PlainId, PlainIds, read_member};
 use crate::network::{BusEnd, BusSwitch, ConfiguredLevel, ConfiguredLine, ConfiguredNetwork, Item};
 use grid_json::{Format, FromJson, InjectionKind, ReadError, Two, item_of, member, object, only};
-use serde_json::Value;
+use grid_value::Value;
 use std::alloc::Global;
 
 impl FromJson for BusSwitch {

@@ -1,7 +1,7 @@
 // Plain ids.
 ghost use Rattle.std.specs.Prelude.{◌≡◌};
 ghost use Rattle.std.specs.List.{list_any};
-ghost use Rattle.serde_json.specs.View.{view};
+ghost use Rattle.grid_value.specs.View.{view};
 ghost use Rattle.grid_json.specs.Reading.{Gives};
 ghost use Rattle.grid_configured.specs.Names as names;
 ghost use Rattle.grid_configured.specs.Names.{is_mark};
@@ -9,7 +9,7 @@ ghost use Rattle.grid_configured.specs.Jobs.{plain_at};
 
 use grid_ids::Id;
 use grid_json::{Format, FromJson, ReadError, Reason};
-use serde_json::Value;
+use grid_value::Value;
 use std::alloc::Global;
 
 /// The most bytes that a plain id has.

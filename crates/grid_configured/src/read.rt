@@ -1,6 +1,6 @@
 // Jobs with configured buses from JSON.
 ghost use Rattle.std.specs.Prelude.{◌≤◌, [], All, IfOk, codes, length};
-ghost use Rattle.serde_json.specs.View.{view};
+ghost use Rattle.grid_value.specs.View.{view};
 ghost use Rattle.grid_json.specs.Job.{command_total, few_at, max_commands, max_workers};
 ghost use Rattle.grid_json.specs.Reading.{Gives, array_at, member_or, under};
 ghost use Rattle.grid_json.specs.Whole.{JobGives};
@@ -14,10 +14,10 @@ use crate::lists::{Reader, read_each, read_member};
 use crate::network::{ConfiguredJob, ConfiguredNetwork};
 use grid_core::Scripts;
 use grid_json::{
-    ByteFault, Format, FromJson, JobFault, MOST_WORKERS, ReadError, Reason, are_too_many, member,
-    only, optional_order, value_of,
+    Format, FromJson, JobFault, MOST_WORKERS, ReadError, Reason, are_too_many, member, only,
+    optional_order,
 };
-use serde_json::Value;
+use grid_value::{ByteFault, Scratch, Value};
 use std::alloc::Global;
 
 /// Reads the format of a job, which must be the first.
@@ -136,7 +136,8 @@ pub fn read_configured(alloc: Global, bytes: &[u8]) -> Result<ConfiguredJob, Job
     ensures few { IfOk result (λ job. length job.scripts ≤ max_workers) }
     ensures total { IfOk result (λ job. command_total job.scripts ≤ max_commands) }
 {
-    let value = match value_of(alloc, bytes) {
+    let mut scratch = Scratch::new(alloc);
+    let value = match Value::from_slice(alloc, bytes, &mut scratch) {
         Ok(value) => value,
         Err(ByteFault::NotJson) => return Err(JobFault::BadJson),
         Err(ByteFault::Memory) => return Err(JobFault::Memory),

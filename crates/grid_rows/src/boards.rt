@@ -2,6 +2,7 @@ ghost use Rattle.std.specs.Prelude.{◌≡◌, ◌<◌};
 ghost use Rattle.grid_bench.specs.Answers.{IsTaskOf};
 
 use crate::jobs::duo_with;
+use crate::replies::expect;
 use grid_bench::{Answer, Base, Bench, Task};
 use grid_board::{Board, CommitFault};
 use grid_core::{Reply, Request, Script, World};
@@ -34,25 +35,34 @@ fn answered<L: Ledger>(
 
 /// A board of two workers with a bench, and a world that makes the same steps.
 #[derive(Drop)]
-struct Both {
+pub(crate) struct Both {
     board: Board,
-    bench: Bench,
+    pub(crate) bench: Bench,
     world: World,
     ghost on_board: { board.workers ≡ 2 },
     ghost in_world: { world.workers ≡ 2 },
 }
 
 impl Both {
-    fn start(alloc: Global, network: Structure) -> Result<Both, Fail> {
+    pub(crate) fn start(alloc: Global, network: Structure) -> Result<Both, Fail> {
+        Both::with_bench(alloc, network, Bench::empty(alloc))
+    }
+
+    /// With a bench that may keep something already.
+    pub(crate) fn with_bench(
+        alloc: Global,
+        network: Structure,
+        bench: Bench,
+    ) -> Result<Both, Fail> {
         Ok(Both {
             board: Board::start(alloc, network.copy()?, 2)?,
-            bench: Bench::empty(alloc),
+            bench,
             world: World::start(alloc, network, 2)?,
         })
     }
 
     /// The bench's answer on the present base, where the request has a task.
-    fn ask(&mut self, worker: u32, request: &Request) -> Result<Option<Answer>, Fail>
+    pub(crate) fn ask(&mut self, worker: u32, request: &Request) -> Result<Option<Answer>, Fail>
         requires { worker < 2 }
     {
         match self.board.snapshot(worker, request)? {
@@ -66,7 +76,7 @@ impl Both {
         }
     }
 
-    fn commit(
+    pub(crate) fn commit(
         &mut self,
         worker: u32,
         request: &Request,
@@ -88,7 +98,7 @@ impl Both {
     }
 
     /// A step of the board, with the bench's answer where the request has a task.
-    fn put(&mut self, worker: u32, request: &Request) -> Result<Reply, Fail>
+    pub(crate) fn put(&mut self, worker: u32, request: &Request) -> Result<Reply, Fail>
         requires { worker < 2 }
     {
         match self.board.snapshot(worker, request)? {
@@ -100,13 +110,59 @@ impl Both {
         }
     }
 
+    /// A step of the world, and whether it replies like this.
+    pub(crate) fn follows(
+        &mut self,
+        worker: u32,
+        request: &Request,
+        reply: &Reply,
+    ) -> Result<bool, Fail>
+        requires { worker < 2 }
+    {
+        let told = self.world.step(worker, request)?;
+        Ok(reply.same(&told))
+    }
+
     /// A step of both, and whether they reply alike.
-    fn agree(&mut self, worker: u32, request: &Request) -> Result<bool, Fail>
+    pub(crate) fn agree(&mut self, worker: u32, request: &Request) -> Result<bool, Fail>
         requires { worker < 2 }
     {
         let reply = self.put(worker, request)?;
-        let told = self.world.step(worker, request)?;
-        Ok(reply.same(&told))
+        self.follows(worker, request, &reply)
+    }
+
+    /// Makes a step of both, and asserts that both reply this.
+    fn expect_step(
+        &mut self,
+        rt: &impl Abort,
+        alloc: Global,
+        worker: u32,
+        request: &Request,
+        wanted: &str,
+    ) -> Result<(), Fail>
+        requires { worker < 2 }
+    {
+        let reply = self.put(worker, request)?;
+        assert!(rt; self.follows(worker, request, &reply)?);
+        expect(rt, alloc, &reply, wanted)
+    }
+
+    /// The same with all steps of a script.
+    pub(crate) fn expect_all(
+        &mut self,
+        rt: &impl Abort,
+        alloc: Global,
+        worker: u32,
+        script: &Script,
+        wanted: &[&str],
+    ) -> Result<(), Fail>
+        requires { worker < 2 }
+    {
+        assert_eq!(rt; script.len(), wanted.len());
+        for (request, wanted) in script.slice().iter().zip(wanted) {
+            self.expect_step(rt, alloc, worker, request, wanted)?;
+        }
+        Ok(())
     }
 }
 

@@ -1,38 +1,61 @@
 ghost use Rattle.std.specs.Prelude.{◌≡◌};
 
+use crate::between::{CASES, Case, Parts, parts_of};
 use crate::boards::read;
 use crate::jobs::FOUR;
+use crate::replies::expect;
 use grid_bench::Bench;
 use grid_core::{Journal, Reply, Request, Script};
-use grid_ids::Memory;
+use grid_ids::{Duplicate, Memory};
 use grid_manager::{Blank, Gate, Manager, Named, Seat};
+use grid_structure::Structure;
 use std::alloc::Global;
 use std::marker::Brand;
+use std::process::Abort;
 use std::sync::Wait;
 use std::sync::atomic::{AtomicBool, Ordering};
 use std::test::Fail;
 use std::thread;
 use std::thread::Threads;
 
-/// Holds worker 0 at work until worker 1 is done, for at most this many turns.
+/// Holds a worker at work until the other is done, who begins once it is at work. Each waits for at most so many turns.
 #[derive(Drop)]
 struct Hold {
+    held: u32,
+    begun: AtomicBool,
     done: AtomicBool,
     used_up: AtomicBool,
 }
 
-impl Gate for Hold {
-    fn at_work(&self, worker: u32, _bench: &Bench) {
-        if worker != 0 {
-            return;
+impl Hold {
+    /// It holds this worker, or, where it is open from the start, none.
+    fn new(held: u32, open: bool) -> Hold {
+        Hold {
+            held,
+            begun: AtomicBool::new(open),
+            done: AtomicBool::new(open),
+            used_up: AtomicBool::new(false),
         }
+    }
+
+    /// Waits for a flag.
+    fn wait_for(&self, flag: &AtomicBool) {
         for _ in 0..1_000_000u32 {
-            if self.done.load(Ordering::SeqCst) {
+            if flag.load(Ordering::SeqCst) {
                 return;
             }
             thread::yield_now();
         }
         self.used_up.store(true, Ordering::SeqCst);
+    }
+}
+
+impl Gate for Hold {
+    fn at_work(&self, worker: u32, _bench: &Bench) {
+        if worker == self.held {
+            self.begun.store(true, Ordering::SeqCst);
+            self.wait_for(&self.done);
+        }
     }
 }
 
@@ -59,7 +82,7 @@ impl<N: Named> Caller<N> for Manager<N> {
     }
 }
 
-/// All calls of a script, whose replies do not matter.
+/// All calls of a script. The journal tells their replies.
 fn all_calls<R: Wait, N: Named, M: Caller<N>>(
     rt: &R,
     manager: &M,
@@ -73,50 +96,79 @@ fn all_calls<R: Wait, N: Named, M: Caller<N>>(
     seat
 }
 
-/// The same, after which the gate opens.
-fn last_calls<R: Wait, N: Named, M: Caller<N>>(
+/// The same once the other worker is at work, after which the gate opens.
+fn calls_between<R: Wait, N: Named, M: Caller<N>>(
     rt: &R,
     manager: &M,
     seat: Seat<N>,
     script: &Script,
     gate: &Hold,
 ) -> Seat<N> {
+    gate.wait_for(&gate.begun);
     let seat = all_calls(rt, manager, seat, script, gate);
     gate.done.store(true, Ordering::SeqCst);
     seat
 }
 
 /// Two scripts on threads of their own.
-fn both_scripts<R: Threads + Wait + Sync, N: Named + Send + Sync, M: Caller<N> + Sync>(
+fn at_once<R: Threads + Wait + Sync, N: Named + Send + Sync, M: Caller<N> + Sync>(
     rt: &R,
     manager: &M,
-    first: Seat<N>,
-    looks: &Script,
-    second: Seat<N>,
-    turns: &Script,
+    held: Seat<N>,
+    asked: &Script,
+    free: Seat<N>,
+    between: &Script,
     gate: &Hold,
 ) -> (Seat<N>, Seat<N>) {
     thread::join(
         rt,
-        move || all_calls(rt, manager, first, looks, gate),
-        move || last_calls(rt, manager, second, turns, gate),
+        move || all_calls(rt, manager, held, asked, gate),
+        move || calls_between(rt, manager, free, between, gate),
     )
 }
 
-/// What two callers leave, and how many steps each was told of once both had ended.
+/// The seat of the worker that a gate holds, and the other.
+fn held_first<N: Named>(first: Seat<N>, second: Seat<N>, gate: &Hold) -> (Seat<N>, Seat<N>) {
+    if gate.held == 0 {
+        (first, second)
+    } else {
+        (second, first)
+    }
+}
+
+/// The scripts of a case: those before, one after the other; what is asked and what comes between, at once; and a look by
+/// the worker that was held, then by the other.
+fn both_scripts<R: Threads + Wait + Sync, N: Named + Send + Sync, M: Caller<N> + Sync>(
+    rt: &R,
+    manager: &M,
+    first: Seat<N>,
+    second: Seat<N>,
+    parts: &Parts<'_>,
+    gate: &Hold,
+) -> (Seat<N>, Seat<N>) {
+    let first = all_calls(rt, manager, first, parts.before_by_0, gate);
+    let second = all_calls(rt, manager, second, parts.before_by_1, gate);
+    let (held, free) = held_first(first, second, gate);
+    let (held, free) = at_once(rt, manager, held, parts.asked, free, parts.between, gate);
+    let held = all_calls(rt, manager, held, parts.look, gate);
+    let free = all_calls(rt, manager, free, parts.look, gate);
+    (held, free)
+}
+
+/// What two callers leave, and how many steps each was told of once both had ended, and once they had met.
 #[derive(Drop)]
 struct Left {
-    counts: (u64, u64),
+    ended: (u64, u64),
+    met: (u64, u64),
     journal: Journal,
 }
 
-/// Worker 0 makes one script's calls while worker 1 makes the other's; then they meet.
+/// The scripts of a case by two callers, who then meet.
 fn pair<R: Threads + Wait + Sync, N: Named + Send + Sync>(
     rt: &R,
     alloc: Global,
     blank: Blank,
-    looks: &Script,
-    turns: &Script,
+    parts: &Parts<'_>,
     gate: &Hold,
 ) -> Result<Left, Memory>
     requires { (blank.table ≡ N.table) × (blank.workers ≡ N.workers) }
@@ -125,19 +177,36 @@ fn pair<R: Threads + Wait + Sync, N: Named + Send + Sync>(
     let (Some(first), Some(second)) = (seats.take(), seats.take()) else {
         return Err(Memory);
     };
-    let (mut first, mut second) = both_scripts(rt, &manager, first, looks, second, turns, gate);
-    let counts = (
+    let (mut first, mut second) = both_scripts(rt, &manager, first, second, parts, gate);
+    let ended = (
         manager.committed(&mut first),
         manager.committed(&mut second),
     );
     manager.meet(rt, &mut first, &mut second);
+    let met = (
+        manager.committed(&mut first),
+        manager.committed(&mut second),
+    );
     let (Ok(()), Ok(())) = (seats.push(first), seats.push(second)) else {
         return Err(Memory);
     };
     Ok(Left {
-        counts,
+        ended,
+        met,
         journal: manager.close(seats).into_journal(),
     })
+}
+
+/// What the scripts of a case on a network leave.
+fn left_of<R: Threads + Wait + Sync>(
+    rt: &R,
+    alloc: Global,
+    network: Structure,
+    parts: &Parts<'_>,
+    gate: &Hold,
+) -> Result<Left, Fail> {
+    let blank = Blank::make(alloc, network, 2)?;
+    Ok(pair::<R, Brand>(rt, alloc, blank, parts, gate)?)
 }
 
 // A busbar section and a load with a breaker between them: one bus, and none once the breaker is open. One worker looks, the
@@ -145,19 +214,23 @@ fn pair<R: Threads + Wait + Sync, N: Named + Send + Sync>(
 const LOOK_AND_OPEN: &str =
     r#"{"format":1,"network":{"id":"N","substations":[{"id":"S","levels":[{"id":"VL","nominal_v":225000,"busbars":[{"id":"BBS","node":0}],"switches":[{"id":"BC","kind":"BREAKER","node1":0,"node2":1}],"injections":[{"kind":"LOAD","id":"L1","node":1,"p0":5,"q0":0}]}]}]},"workers":[[{"do":"bus_view","level":"VL"}],[{"do":"open","switch":"BC"}]]}"#;
 
-/// What the first two workers of a job leave. The gate holds worker 0 at work, unless it is open from the start.
-fn left_of<R: Threads + Wait + Sync>(
+/// What the first two workers of a job leave, of whom the gate may hold the first.
+fn left_of_two<R: Threads + Wait + Sync>(
     rt: &R,
     alloc: Global,
     text: &str,
     gate: &Hold,
 ) -> Result<Left, Fail> {
     let job = read(alloc, text.as_bytes())?;
-    let blank = Blank::make(alloc, job.network, 2)?;
     let none = Script::empty(alloc);
-    let first = job.scripts.get(0).unwrap_or(&none);
-    let second = job.scripts.get(1).unwrap_or(&none);
-    Ok(pair::<R, Brand>(rt, alloc, blank, first, second, gate)?)
+    let parts = Parts {
+        before_by_0: &none,
+        before_by_1: &none,
+        between: job.scripts.get(1).unwrap_or(&none),
+        asked: job.scripts.get(0).unwrap_or(&none),
+        look: &none,
+    };
+    left_of(rt, alloc, job.network.copy()?, &parts, gate)
 }
 
 /// Whose step stands at a place of a journal, and how many buses it tells, where it tells any.
@@ -171,11 +244,8 @@ fn told_at(journal: &Journal, place: usize) -> Option<(u32, Option<usize>)> {
 
 #[test]
 fn a_held_step_comes_last(rt: HostRuntime) -> Result<(), Fail> {
-    let gate = Hold {
-        done: AtomicBool::new(false),
-        used_up: AtomicBool::new(false),
-    };
-    let left = left_of(&rt, rt.alloc(), LOOK_AND_OPEN, &gate)?;
+    let gate = Hold::new(0, false);
+    let left = left_of_two(&rt, rt.alloc(), LOOK_AND_OPEN, &gate)?;
     assert!(rt; !gate.used_up.load(Ordering::SeqCst));
     assert_eq!(rt; left.journal.len(), 2);
     assert_eq!(rt; told_at(&left.journal, 0), Some((1, None)));
@@ -185,12 +255,51 @@ fn a_held_step_comes_last(rt: HostRuntime) -> Result<(), Fail> {
 
 #[test]
 fn each_is_told_of_all_steps(rt: HostRuntime) -> Result<(), Fail> {
-    let gate = Hold {
-        done: AtomicBool::new(true),
-        used_up: AtomicBool::new(false),
-    };
-    let left = left_of(&rt, rt.alloc(), FOUR, &gate)?;
-    assert_eq!(rt; left.counts, (8, 8));
+    let gate = Hold::new(0, true);
+    let left = left_of_two(&rt, rt.alloc(), FOUR, &gate)?;
+    assert_eq!(rt; left.ended, (8, 8));
+    assert_eq!(rt; left.met, (8, 8));
     assert_eq!(rt; left.journal.len(), 8);
+    Ok(())
+}
+
+/// Asserts how a journal ends: with a step of worker 0, then what worker 1 asked, and what both saw then.
+fn expect_end(rt: &impl Abort, alloc: Global, journal: &Journal, case: &Case) -> Result<(), Fail> {
+    let [.., between, asked, second, first] = journal.slice() else {
+        return Ok(assert!(rt; false));
+    };
+    assert_eq!(rt; (between.worker, asked.worker), (0, 1));
+    expect(rt, alloc, &asked.reply, case.reply)?;
+    assert_eq!(rt; (first.worker, second.worker), (0, 1));
+    expect(rt, alloc, &first.reply, case.seen_by_0)?;
+    expect(rt, alloc, &second.reply, case.seen_by_1)
+}
+
+/// A case by two callers, of whom the gate holds worker 1 at work until worker 0's calls between have returned.
+fn by_callers<R: Threads + Wait + Sync + Abort>(
+    rt: &R,
+    alloc: Global,
+    case: &Case,
+) -> Result<(), Fail> {
+    let job = case.job(alloc)?;
+    let Some(parts) = parts_of(job.scripts.slice()) else {
+        return Ok(assert!(rt; false));
+    };
+    let gate = Hold::new(1, false);
+    let left = left_of(rt, alloc, job.network.copy()?, &parts, &gate)?;
+    assert!(rt; !gate.used_up.load(Ordering::SeqCst));
+    let steps = left.journal.len() as u64;
+    assert_eq!(rt; left.met, (steps, steps));
+    expect_end(rt, alloc, &left.journal, case)
+}
+
+#[test]
+fn a_step_that_was_held_sees_what_came_between(rt: HostRuntime) -> Result<(), Fail> {
+    let alloc = rt.alloc();
+    for case in CASES {
+        if case.by_callers {
+            by_callers(&rt, alloc, &case)?;
+        }
+    }
     Ok(())
 }

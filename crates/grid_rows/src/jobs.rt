@@ -5,8 +5,15 @@ use std::alloc::Global;
 use std::test::Fail;
 
 // A level of two busbar sections with a coupler between them, up to its script, and what stands behind the script.
-const HEAD: &str =
+pub(crate) const HEAD: &str =
     r#"{"format":1,"network":{"id":"DUO","substations":[{"id":"S","levels":[{"id":"VL","nominal_v":225000,"busbars":[{"id":"BBS1","node":0},{"id":"BBS2","node":1}],"switches":[{"id":"D1","kind":"DISCONNECTOR","node1":0,"node2":2,"open":false,"retained":false,"fictitious":false},{"id":"D2","kind":"DISCONNECTOR","node1":1,"node2":2,"open":true,"retained":false,"fictitious":false},{"id":"B","kind":"BREAKER","node1":2,"node2":3,"open":false,"retained":false,"fictitious":false},{"id":"BC","kind":"BREAKER","node1":0,"node2":1,"retained":true,"open":false,"fictitious":false},{"id":"BG","kind":"BREAKER","node1":1,"node2":5,"open":false,"retained":false,"fictitious":false}],"internal":[{"node1":3,"node2":4}],"injections":[{"kind":"LOAD","id":"LD","node":4,"p0":50000000,"q0":0},{"kind":"GENERATOR","id":"G","node":5,"target_p":60000000,"target_v":225000,"min_p":0,"max_p":100000000}]}]}]},"workers":[["#;
+
+// What the bus view shows of the level: with its coupler closed, and open.
+pub(crate) const ONE_BUS: &str =
+    "1 buses\n  bus VL_0 | 0 1 2 3 4 5 | BBS1.1 BBS2.1 LD.1 G.1 | load 50000000 | generation 60000000\n";
+
+pub(crate) const TWO_BUSES: &str =
+    "2 buses\n  bus VL_0 | 0 2 3 4 | BBS1.1 LD.1 | load 50000000 | generation 0\n  bus VL_1 | 1 5 | BBS2.1 G.1 | load 0 | generation 60000000\n";
 
 const TAIL: &str = r#"]]}"#;
 
@@ -15,6 +22,16 @@ pub(crate) fn duo_with(alloc: Global, scripts: &str, tail: &str) -> Result<Vec<u
     let mut job = String::from_str(alloc, HEAD)?;
     job.push_str(scripts)?;
     job.push_str(tail)?;
+    Ok(job.into_bytes())
+}
+
+/// The job of another job's network with these scripts.
+pub(crate) fn with_scripts(alloc: Global, other: &str, scripts: &str) -> Result<Vec<u8>, Fail> {
+    let (front, _scripts) = other.split_once("\"workers\"").unwrap_or(("", ""));
+    let mut job = String::from_str(alloc, front)?;
+    job.push_str("\"workers\":[")?;
+    job.push_str(scripts)?;
+    job.push_str("]}")?;
     Ok(job.into_bytes())
 }
 

@@ -1,4 +1,4 @@
-use crate::jobs::{FOUR, FOUR_REPORT, named, told, words};
+use crate::jobs::{FOUR, FOUR_REPORT, named, told, with_scripts, words};
 use grid_bench::Bench;
 use grid_cli::grid;
 use grid_ids::Id;
@@ -184,13 +184,13 @@ fn a_bench_is_kept_from_step_to_step(rt: HostRuntime) -> Result<(), Fail> {
         kept_one: AtomicBool::new(false),
         kept_both: AtomicBool::new(false),
     };
-    let (front, _scripts) = FOUR.split_once(",\"workers\"").unwrap_or(("", ""));
-    let mut job = String::from_str(alloc, front)?;
     // A refusal between the two leaves the bench as it is.
-    job.push_str(
-        r#","workers":[[{"do":"bus_view","level":"A"},{"do":"bus_view","level":"ZZ"},{"do":"bus_view","level":"D"}]]}"#,
+    let job = with_scripts(
+        alloc,
+        FOUR,
+        r#"[{"do":"bus_view","level":"A"},{"do":"bus_view","level":"ZZ"},{"do":"bus_view","level":"D"}]"#,
     )?;
-    let (status, _report) = ran(&rt, alloc, &["run"], job.into_bytes(), &gate)?;
+    let (status, _report) = ran(&rt, alloc, &["run"], job, &gate)?;
     assert_eq!(rt; status.as_str(), "Done");
     assert!(rt; gate.kept_one.load(Ordering::SeqCst));
     assert!(rt; gate.kept_both.load(Ordering::SeqCst));

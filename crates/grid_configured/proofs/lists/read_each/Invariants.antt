@@ -1,5 +1,5 @@
 use Rattle.std.proofs.Common.{◌≡◌, drop, length}
-use Rattle.serde_json.specs.View.{items_view}
+use Rattle.grid_value.specs.View.{items_view}
 use Rattle.grid_json.specs.Reading.{items_at}
 use Rattle.grid_json.proofs.Items.{with_front}
 use Rattle.grid_configured.proofs.lists.read_each.Given as goal

@@ -1,4 +1,4 @@
-use Rattle.serde_json.specs.View.{view}
+use Rattle.grid_value.specs.View.{view}
 use Rattle.grid_configured.proofs.Readings.{all_configured, translatable}
 use Rattle.grid_configured.proofs.read.read_root.Goals as goal
 

@@ -1,0 +1,248 @@
+// Benches on worked levels: at what cost labels follow, what they then show, and what is kept for each task.
+ghost use Rattle.std.specs.Prelude.{◌≡◌, ◌+◌, ◌<◌, ◌≤◌, IfOk, OnOk, Some, length};
+ghost use Rattle.grid_level.specs.Passing.{nodes};
+ghost use Rattle.grid_bench.specs.Contents.{content};
+ghost use Rattle.grid_bench.specs.Stores.{kept_for};
+
+use crate::boards::{Both, read};
+use crate::jobs::{FOUR, ONE_BUS, TWO_BUSES, duo, with_scripts};
+use grid_bench::Bench;
+use grid_core::{Request, Script};
+use grid_ids::{Duplicate, Id, Memory};
+use grid_level::SharedLevel;
+use grid_queue::Steps;
+use grid_structure::Structure;
+use std::alloc::Global;
+use std::marker::Brand;
+use std::process::Abort;
+use std::sync::ledger::{Blank, Ledger};
+use std::test::Fail;
+
+const CLOSED: [bool; 5] = [false, true, false, false, false];
+
+const PARTED: [bool; 5] = [false, true, false, true, false];
+
+const RETAINED: [bool; 5] = [false, false, false, true, false];
+
+// What the bus/breaker view shows of the level, whether its coupler is open or not.
+const GROUPS: &str = "2 buses\n  bus VL_0 | 0 2 3 4 | BBS1.1 LD.1\n  bus VL_1 | 1 5 | BBS2.1 G.1\n";
+
+/// The first level of a network.
+fn first_level(alloc: Global, network: &Structure) -> Result<Option<SharedLevel>, Fail> {
+    if network.level_count() == 0 {
+        return Ok(None);
+    }
+    let level = network.level(0).copy()?;
+    Ok(Some(SharedLevel::new(alloc, level)?))
+}
+
+/// A bench that keeps the level with its coupler closed.
+fn closed_bench<L: Ledger>(
+    alloc: Global,
+    level: &SharedLevel,
+    steps: &mut Steps<L>,
+) -> Result<Bench, Memory>
+    requires { length level.now.switches ≡ 5 }
+    ensures { IfOk result (λ bench. kept_for bench level.now.id
+        ≡ Some (content level.now CLOSED RETAINED)) }
+{
+    let mut bench = Bench::empty(alloc);
+    bench.refresh(level, &CLOSED, &RETAINED, steps)?;
+    Ok(bench)
+}
+
+/// The same level with the same flags again costs no visit.
+fn refresh_again<L: Ledger>(
+    bench: &mut Bench,
+    level: &SharedLevel,
+    steps: &mut Steps<L>,
+) -> Result<(), Memory>
+    requires switches { length level.now.switches ≡ 5 }
+    requires kept { kept_for bench.old level.now.id ≡ Some (content level.now CLOSED RETAINED) }
+    ensures kept { OnOk result (kept_for bench.new level.now.id
+        ≡ Some (content level.now CLOSED RETAINED)) }
+    ensures cost { steps.new ≡ steps.old }
+{
+    bench.refresh(level, &CLOSED, &RETAINED, steps)
+}
+
+/// The coupler opens: under either rule all nodes are touched at most.
+fn open_coupler<L: Ledger>(
+    bench: &mut Bench,
+    level: &SharedLevel,
+    steps: &mut Steps<L>,
+) -> Result<(), Memory>
+    requires switches { length level.now.switches ≡ 5 }
+    requires nodes { length (nodes level.now) ≡ 6 }
+    requires kept { kept_for bench.old level.now.id ≡ Some (content level.now CLOSED RETAINED) }
+    ensures { steps.new ≤ steps.old + 12 }
+{
+    bench.refresh(level, &PARTED, &RETAINED, steps)
+}
+
+/// A bench that kept the level with its coupler closed, twice, and then open.
+fn follow_coupler<L: Ledger>(
+    rt: &impl Abort,
+    alloc: Global,
+    level: SharedLevel,
+    blank: Blank,
+) -> Result<Bench, Fail>
+    requires name { blank.name ≡ L.name }
+    requires parts { blank.parts ≡ L.parts }
+    requires some { 0 < blank.parts }
+{
+    let mut steps: Steps<L> = Steps::begin(blank);
+    assert_eq!(rt; level.level().switch_count(), 5);
+    assert_eq!(rt; level.level().node_count(), 6);
+    let mut bench = closed_bench(alloc, &level, &mut steps)?;
+    refresh_again(&mut bench, &level, &mut steps)?;
+    open_coupler(&mut bench, &level, &mut steps)?;
+    Ok(bench)
+}
+
+#[test]
+fn labels_follow_the_coupler(rt: HostRuntime) -> Result<(), Fail> {
+    let alloc = rt.alloc();
+    let script =
+        r#"{"do":"open","switch":"BC"},{"do":"bus_view","level":"VL"},{"do":"bus_breaker_view","level":"VL"}"#;
+    let job = read(alloc, duo(alloc, script)?.as_slice())?;
+    let (Some(level), Some(script)) = (first_level(alloc, &job.network)?, job.scripts.get(0)) else {
+        return Ok(assert!(rt; false));
+    };
+    let bench = follow_coupler::<Brand>(&rt, alloc, level, Blank::new(1))?;
+    let mut both = Both::with_bench(alloc, job.network.copy()?, bench)?;
+    both.expect_all(&rt, alloc, 0, script, &["done", TWO_BUSES, GROUPS])
+}
+
+/// Makes a script's steps on a board with an empty bench beside a world, and asserts these replies.
+fn expect_replies(rt: &impl Abort, alloc: Global, job: &[u8], wanted: &[&str]) -> Result<(), Fail> {
+    let job = read(alloc, job)?;
+    let mut both = Both::start(alloc, job.network)?;
+    match job.scripts.get(0) {
+        Some(script) => both.expect_all(rt, alloc, 0, script, wanted),
+        None => Ok(assert!(rt; false)),
+    }
+}
+
+#[test]
+fn views_follow_the_coupler(rt: HostRuntime) -> Result<(), Fail> {
+    let alloc = rt.alloc();
+    let job = duo(
+        alloc,
+        r#"{"do":"bus_view","level":"VL"},{"do":"bus_breaker_view","level":"VL"},{"do":"open","switch":"BC"},{"do":"bus_view","level":"VL"},{"do":"bus_breaker_view","level":"VL"}"#,
+    )?;
+    expect_replies(
+        &rt,
+        alloc,
+        job.as_slice(),
+        &[ONE_BUS, GROUPS, "done", TWO_BUSES, GROUPS],
+    )
+}
+
+// The level with one more load, at a node that it has; then with one more switch, around the open coupler.
+const LADEN: &str =
+    "2 buses\n  bus VL_0 | 0 2 3 4 | BBS1.1 LE.1 LD.1 | load 50000007 | generation 0\n  bus VL_1 | 1 5 | BBS2.1 G.1 | load 0 | generation 60000000\n";
+
+const LADEN_GROUPS: &str =
+    "2 buses\n  bus VL_0 | 0 2 3 4 | BBS1.1 LE.1 LD.1\n  bus VL_1 | 1 5 | BBS2.1 G.1\n";
+
+const BRIDGED: &str =
+    "1 buses\n  bus VL_0 | 0 1 2 3 4 5 | BBS1.1 BBS2.1 LE.1 LD.1 G.1 | load 50000007 | generation 60000000\n";
+
+const BRIDGED_GROUPS: &str = "1 buses\n  bus VL_0 | 0 1 2 3 4 5 | BBS1.1 BBS2.1 LE.1 LD.1 G.1\n";
+
+#[test]
+fn labels_follow_other_content(rt: HostRuntime) -> Result<(), Fail> {
+    let alloc = rt.alloc();
+    let job = duo(
+        alloc,
+        r#"{"do":"bus_view","level":"VL"},{"do":"add_injection","kind":"LOAD","id":"LE","level":"VL","node":2,"p0":7,"q0":0},{"do":"open","switch":"BC"},{"do":"bus_view","level":"VL"},{"do":"bus_breaker_view","level":"VL"},{"do":"add_switch","id":"BX","level":"VL","kind":"BREAKER","node1":1,"node2":4},{"do":"bus_view","level":"VL"},{"do":"bus_breaker_view","level":"VL"}"#,
+    )?;
+    expect_replies(
+        &rt,
+        alloc,
+        job.as_slice(),
+        &[
+            ONE_BUS,
+            "done",
+            "done",
+            LADEN,
+            LADEN_GROUPS,
+            "done",
+            BRIDGED,
+            BRIDGED_GROUPS,
+        ],
+    )
+}
+
+/// Asserts which of two levels a new bench keeps after the task of a request.
+fn expect_kept(
+    rt: &impl Abort,
+    alloc: Global,
+    network: &Structure,
+    request: &Request,
+    wanted: (bool, bool),
+) -> Result<(), Fail> {
+    let mut both = Both::start(alloc, network.copy()?)?;
+    assert!(rt; both.ask(0, request)?.is_some());
+    assert_eq!(rt; both.bench.keeps(&Id::new(alloc, "A")?), wanted.0);
+    assert_eq!(rt; both.bench.keeps(&Id::new(alloc, "C")?), wanted.1);
+    Ok(())
+}
+
+/// The same for each request of a script.
+fn expect_each_kept(
+    rt: &impl Abort,
+    alloc: Global,
+    network: &Structure,
+    script: &Script,
+    wanted: &[(bool, bool)],
+) -> Result<(), Fail> {
+    assert_eq!(rt; script.len(), wanted.len());
+    for (request, wanted) in script.slice().iter().zip(wanted) {
+        expect_kept(rt, alloc, network, request, *wanted)?;
+    }
+    Ok(())
+}
+
+#[test]
+fn tasks_keep_what_they_need(rt: HostRuntime) -> Result<(), Fail> {
+    let alloc = rt.alloc();
+    let bytes = with_scripts(
+        alloc,
+        FOUR,
+        r#"[{"do":"connect","equipment":"LC"},{"do":"disconnect","equipment":"LC"},{"do":"bus_breaker_view","level":"C"},{"do":"bus_view","level":"A"},{"do":"components","level":"A"}]"#,
+    )?;
+    let job = read(alloc, bytes.as_slice())?;
+    let Some(script) = job.scripts.get(0) else {
+        return Ok(assert!(rt; false));
+    };
+    let wanted = [
+        (false, false),
+        (false, false),
+        (false, true),
+        (true, false),
+        (true, true),
+    ];
+    expect_each_kept(&rt, alloc, &job.network, script, &wanted)
+}
+
+#[test]
+fn components_follow_a_line(rt: HostRuntime) -> Result<(), Fail> {
+    let alloc = rt.alloc();
+    let job = with_scripts(
+        alloc,
+        FOUR,
+        r#"[{"do":"components","level":"C"},{"do":"disconnect","equipment":"L1","side":1},{"do":"components","level":"C"}]"#,
+    )?;
+    expect_replies(
+        &rt,
+        alloc,
+        job.as_slice(),
+        &[
+            "1 buses\n  0 component 0 of 4 buses\n",
+            "opened A1",
+            "1 buses\n  0 component 1 of 2 buses\n",
+        ],
+    )
+}
