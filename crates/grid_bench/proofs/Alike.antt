@@ -1,5 +1,5 @@
 -- Levels with the same ends have the same nets.
-use Rattle.std.proofs.Common.{◌≡◌, refl, sym, ap, ◌∙◌, subst, ℕ, Bool, List, [], ◌∷◌, ◌++◌, length}
+use Rattle.std.proofs.Common.{◌≡◌, refl, sym, ap, ◌∙◌, subst, ℕ, Bool, List, [], ◌∷◌, ◌++◌, Option, length}
 use Rattle.std.specs.Prelude.{map}
 use Rattle.std.proofs.lemmas.List.{length-map}
 use Rattle.grid_level.specs.declared.Switch.{Switch}
@@ -11,7 +11,8 @@ use Rattle.grid_queue.specs.Net.{NetShape, shape}
 use Rattle.grid_busbreaker.specs.Labelled.{passing_flags}
 use Rattle.grid_bench.specs.Nets.{switch_net_edge, internal_net_edge, switch_net_edges, net_edges, net_where, closed_flags}
 use Rattle.grid_bench.specs.Ends.{switch_ends, SameEnds}
-use Rattle.grid_bench.specs.Contents.{content, IsKept}
+use Rattle.grid_bench.specs.declared.shown.Shown.{Shown}
+use Rattle.grid_bench.specs.Contents.{content, IsShownOf, IsKept}
 
 pub own_ends : (level : VoltageLevel) → SameEnds level level
 own_ends level = record { same_nodes = refl; same_switches = refl; same_internals = refl }
@@ -44,10 +45,12 @@ net_as level other passes same =
     ∙ ap (λ z. shape (length (nodes other)) (switch_net_edges (nodes other) other.switches passes ++ map (internal_net_edge (nodes other)) z)) same.same_internals
 
 -- the nets that are kept are also another level's with the same ends
-pub kept_as : (level other : VoltageLevel) (opened retained : List Bool) (bus breaker : NetShape) → SameEnds level other → IsKept (content level opened retained) bus breaker → IsKept (content other opened retained) bus breaker
-kept_as level other opened retained bus breaker same kept =
+pub kept_as : (level other : VoltageLevel) (opened retained : List Bool) (bus breaker : NetShape) (old new : Option Shown) → SameEnds level other → IsShownOf (content other opened retained) new
+    → IsKept (content level opened retained) bus breaker old → IsKept (content other opened retained) bus breaker new
+kept_as level other opened retained bus breaker old new same is kept =
     record {
       fits = record { opened = kept.fits.opened ∙ same_many level other same; retained = kept.fits.retained ∙ same_many level other same };
       bus_net = kept.bus_net ∙ net_as level other (closed_flags opened) same;
       breaker_net = kept.breaker_net ∙ net_as level other (passing_flags opened retained) same;
+      view = is;
     }
