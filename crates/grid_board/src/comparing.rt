@@ -12,7 +12,7 @@ ghost use Rattle.grid_core.specs.Solo.{state_seen};
 use crate::bases::branch_of;
 use crate::tasks::level_of;
 use grid_bench::{Base, BaseLevel, BenchBranch, Task};
-use grid_ids::{Same, same_items};
+use grid_ids::Same;
 use grid_level::{Level, Placed};
 use grid_powers::Powers;
 use grid_states::States;
@@ -32,6 +32,20 @@ fn same_watts(placed: &[Placed], powers: &Powers, watts: &[i64]) -> bool
         }
     }
     true
+}
+
+// Whether two lists of flags are equal. The loop goes to its end, so that many flags can be compared at once.
+fn same_flags(flags: &[bool], others: &[bool]) -> bool
+    ensures { IsTrue result ↔ (flags.now ≡ others.now) }
+{
+    if flags.len() != others.len() {
+        return false;
+    }
+    let mut same = true;
+    for place in 0..flags.len() {
+        same &= flags[place] == others[place];
+    }
+    same
 }
 
 // Whether two levels are equal, which may be known.
@@ -56,8 +70,8 @@ fn is_part(
     ensures { IsTrue result
         ↔ (questions.part_with powers.now.listed level.now opened.now retained.now ≡ part.now) }
 {
-    same_items(opened, part.states.slice())
-        && same_items(retained, part.retained.slice())
+    same_flags(opened, part.states.slice())
+        && same_flags(retained, part.retained.slice())
         && is_level(level, part.level.level(), known)
         && same_watts(level.placed(), powers, part.powers.slice())
 }
