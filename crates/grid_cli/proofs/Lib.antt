@@ -8,3 +8,4 @@ pub mod Numbering
 pub mod Trialled
 pub mod Threading
 pub mod Screening
+pub mod Shown

@@ -1,6 +1,6 @@
 -- The order of a job that was read: each worker as often as its script has commands, and nobody else.
 use Rattle.std.proofs.Common.{◌≡◌, refl, sym, ap, ◌∙◌, ℕ, ℤ, pos, negsuc, zero, suc, ◌+◌, ◌<◌, ◌≤◌, Bool, true, false, cond, not, List, [], ◌∷◌, length, map, get_or, subst, inl, inr, arith, Option, Some, None, Result, Ok, Err}
-use Rattle.std.specs.Prelude.{◌==◌, count_by, int_lt, nat_lt, codes, decimal, if◌then◌else◌, ◌⊎◌, ⊤, All}
+use Rattle.std.specs.Prelude.{◌==◌, count_by, int_lt, nat_lt, codes, decimal, if◌then◌else◌, ⊤, All}
 use Rattle.std.specs.List.{list_all}
 use Rattle.std.proofs.lemmas.Bool.{false≢true, and_parts, cases_lt, cases_eq, eqb-true, eq-eqb, ne_eqb, ltb-true, ltb-false}
 use Rattle.std.proofs.lemmas.Bool.Decides.{Decides-int_eq}
@@ -13,7 +13,7 @@ use Rattle.grid_events.specs.declared.filter.Filter.{Filter}
 use Rattle.grid_core.specs.declared.request.Request.{Request}
 use Rattle.grid_json.specs.declared.fault.Fault.{Fault}
 use Rattle.grid_json.specs.declared.fault.Reason.{Reason}
-use Rattle.grid_json.specs.declared.fault.Reason.TheVariants.{WrongKind, Schedule, TooManyCommands, TooManyWorkers}
+use Rattle.grid_json.specs.declared.fault.Reason.TheVariants.{WrongKind, Schedule, TooManyWorkers}
 use Rattle.grid_json.specs.declared.format.Format.{Format}
 use Rattle.grid_json.specs.declared.format.Format.TheVariants.{One}
 use Rattle.grid_json.specs.declared.job.JobDraft.{JobDraft}

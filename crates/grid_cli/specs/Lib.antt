@@ -7,3 +7,4 @@ pub mod Screen
 pub mod Configured
 pub mod Once
 pub mod Threaded
+pub mod Views

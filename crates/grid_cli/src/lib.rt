@@ -9,6 +9,7 @@ mod running;
 mod screen;
 mod threaded;
 mod trial;
+mod views;
 mod words;
 
 pub use once::{Status, grid_once};

@@ -1,16 +1,16 @@
 // Jobs, run in their order.
-ghost use Rattle.std.specs.Prelude.{◌≡◌, ◌++◌, ◌≤◌, ◌<◌, ◌^◌, All, length, map, IsTrue, IfOk, OnOk, Some, slice_get, option_map};
-ghost use Rattle.grid_core.specs.History.{live, is_live};
+ghost use Rattle.std.specs.Prelude.{◌≡◌, ◌++◌, ◌≤◌, ◌<◌, ◌^◌, All, length, map, IfOk, OnOk};
 ghost use Rattle.grid_json.specs.Job.{max_workers};
 ghost use Rattle.grid_report.specs.Histories as histories;
-ghost use Rattle.grid_report.specs.Histories.{variant_view, variant_views, history_of, outcome_of, in_turn, chosen_order, IsOrder};
+ghost use Rattle.grid_report.specs.Histories.{history_of, outcome_of, in_turn, chosen_order, IsOrder};
 ghost use Rattle.grid_cli.specs.Orders.{IsScheduled, order_of};
 
+use crate::views::variant_views;
 use grid_core::{Request, Script, World};
 use grid_events::Filters;
-use grid_ids::{Duplicate, Id, Memory, Seq};
+use grid_ids::{Memory, Seq};
 use grid_json::{Job, Order};
-use grid_report::{BusViews, Outcome, VariantView, VariantViews};
+use grid_report::Outcome;
 use grid_structure::Structure;
 use std::alloc::Global;
 
@@ -56,50 +56,6 @@ fn run(
         cursors[place] += 1;
     }
     Ok(world)
-}
-
-/// The view of each level in a live variant, by place.
-fn level_views(alloc: Global, world: &World, name: &Id) -> Result<BusViews, Memory>
-    requires { IsTrue (is_live world.now.steps name.now) }
-    ensures views { IfOk result (λ views. views
-        ≡ (variant_view world.now.origin world.now.steps name.now).views) }
-    ensures few { IfOk result (λ views. length views < 2 ^ 32) }
-{
-    let mut views = Seq::empty(alloc);
-    for level in 0..world.level_count() {
-        let view = world.view(name, level)?;
-        views.push(view)?;
-    }
-    Ok(views)
-}
-
-/// The views of the live variant at a place, by byte order of names.
-fn variant_view(alloc: Global, world: &World, place: u32) -> Result<VariantView, Memory>
-    requires { place < length (live world.now.steps) }
-    ensures view { IfOk result (λ view. option_map (variant_view world.now.origin world.now.steps)
-        (slice_get (live world.now.steps) place) ≡ Some view) }
-    ensures few { IfOk result (λ view. length view.views < 2 ^ 32) }
-{
-    let name = world.variant_name(place);
-    let views = level_views(alloc, world, name)?;
-    Ok(VariantView {
-        name: name.copy()?,
-        views,
-    })
-}
-
-/// The views of all live variants, by byte order of names.
-fn variant_views(alloc: Global, world: &World) -> Result<VariantViews, Memory>
-    ensures views { IfOk result (λ views. views ≡ variant_views world.now.origin world.now.steps) }
-    ensures few { IfOk result (λ views. length views < 2 ^ 32) }
-    ensures each { IfOk result (All (λ v. length v.views < 2 ^ 32)) }
-{
-    let mut views = Seq::empty(alloc);
-    for place in 0..world.variant_count() {
-        let view = variant_view(alloc, world, place)?;
-        views.push(view)?;
-    }
-    Ok(views)
 }
 
 /// The order that is given, or else the workers in turn.

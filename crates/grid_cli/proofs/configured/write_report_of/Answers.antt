@@ -5,7 +5,7 @@ use Rattle.grid_report.specs.Histories.{IsOrder, chosen_order}
 use Rattle.grid_configured.specs.Names.{IsConfiguredRequest}
 use Rattle.grid_configured.specs.Texts.{report_of}
 use Rattle.grid_configured.specs.Reports.{history_of, report_after, configured_text}
-use Rattle.grid_cli.specs.Configured.{turns_of, configured_job_text}
+use Rattle.grid_cli.specs.Configured.{configured_job_text}
 use Rattle.grid_cli.specs.Once.{Writes, status_after}
 use Rattle.grid_cli.proofs.Written.{handed}
 use Rattle.grid_cli.proofs.configured.write_report_of.Goals as goal

@@ -1,4 +1,4 @@
-use Rattle.std.proofs.Common.{sym, ap, subst, false}
+use Rattle.std.proofs.Common.{sym, subst, false}
 use Rattle.grid_core.proofs.Making.{each_ok}
 use Rattle.grid_workers.specs.Runs.{IsRun}
 use Rattle.grid_cli.proofs.Threading.{came_of_run}

@@ -1,7 +1,7 @@
 use Rattle.std.proofs.Common.{◌≡◌, ◌<◌, ◌^◌, length, map, take, All}
 use Rattle.grid_core.specs.History.{live}
 use Rattle.grid_report.specs.Histories.{variant_view}
-use Rattle.grid_cli.proofs.running.variant_views.Given as goal
+use Rattle.grid_cli.proofs.views.variant_views.Given as goal
 
 -- the variants so far
 abbrev pub invariant-loop-place : goal.invariant-loop-place

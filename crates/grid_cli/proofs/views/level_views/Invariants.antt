@@ -3,7 +3,7 @@ use Rattle.std.specs.List.{filter_map, range_with_len}
 use Rattle.grid_structure.specs.Sites.{levels}
 use Rattle.grid_core.specs.History.{structure}
 use Rattle.grid_core.specs.Replies.{view}
-use Rattle.grid_cli.proofs.running.level_views.Given as goal
+use Rattle.grid_cli.proofs.views.level_views.Given as goal
 
 -- the views so far
 abbrev pub invariant-loop-level : goal.invariant-loop-level
