@@ -1,6 +1,7 @@
 // Sources and sinks that fail, and how much the top call reads and writes at a time.
-use crate::jobs::{duo, named, told, words};
+use crate::jobs::{named, told, words};
 use grid_cli::grid_once;
+use grid_part_rows::networks::duo;
 use grid_source::{Failed, MemorySink, MemorySource, Sink, SureSource};
 use std::alloc::Global;
 use std::test::Fail;

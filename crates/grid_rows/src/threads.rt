@@ -1,8 +1,9 @@
-use crate::jobs::{FOUR, FOUR_REPORT, named, told, with_scripts, words};
+use crate::jobs::{FOUR_REPORT, named, told, words};
 use grid_bench::Bench;
 use grid_cli::grid;
 use grid_ids::Id;
 use grid_manager::{Gate, Idle};
+use grid_part_rows::networks::{FOUR, with_scripts};
 use grid_source::{SureSink, SureSource};
 use std::alloc::Global;
 use std::sync::Wait;

@@ -2,7 +2,7 @@ ghost use Rattle.std.specs.Prelude.{◌≡◌};
 
 use crate::between::{CASES, Case, Parts, parts_of};
 use crate::boards::read;
-use crate::jobs::FOUR;
+use crate::networks::FOUR;
 use crate::replies::expect;
 use grid_bench::Bench;
 use grid_core::{Journal, Reply, Request, Script};

@@ -2,7 +2,7 @@
 ghost use Rattle.std.specs.Prelude.{◌<◌};
 
 use crate::boards::{Both, read};
-use crate::jobs::{FOUR, HEAD, ONE_BUS, TWO_BUSES, with_scripts};
+use crate::networks::{FOUR, HEAD, ONE_BUS, TWO_BUSES, with_scripts};
 use crate::replies::expect;
 use grid_bench::Answer;
 use grid_board::CommitFault;

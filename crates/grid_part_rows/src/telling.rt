@@ -1,6 +1,6 @@
 // Worlds that tell listeners what happens, and copies of what a job is made of.
 use crate::boards::read;
-use crate::jobs::{FOUR, duo_with};
+use crate::networks::{FOUR, duo_with};
 use grid_core::{Journal, Request, Script, World};
 use grid_events::{Event, Events, Filter, Listener, Subscriptions};
 use grid_ids::{Duplicate, Id, Memory, Same};

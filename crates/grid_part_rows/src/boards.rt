@@ -1,7 +1,7 @@
 ghost use Rattle.std.specs.Prelude.{◌≡◌, ◌<◌};
 ghost use Rattle.grid_bench.specs.Answers.{IsTaskOf};
 
-use crate::jobs::duo_with;
+use crate::networks::duo_with;
 use crate::replies::expect;
 use grid_bench::{Answer, Base, Bench, Task};
 use grid_board::{Board, CommitFault};

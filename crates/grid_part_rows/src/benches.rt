@@ -5,7 +5,7 @@ ghost use Rattle.grid_bench.specs.Contents.{content};
 ghost use Rattle.grid_bench.specs.Stores.{kept_for};
 
 use crate::boards::{Both, read};
-use crate::jobs::{FOUR, ONE_BUS, TWO_BUSES, duo, with_scripts};
+use crate::networks::{FOUR, ONE_BUS, TWO_BUSES, duo, with_scripts};
 use grid_bench::Bench;
 use grid_core::{Request, Script};
 use grid_ids::{Duplicate, Id, Memory};
