@@ -8,6 +8,3 @@ mod listener;
 pub use event::{Event, Events};
 pub use filter::{Filter, Filters};
 pub use listener::{Listener, Subscription, Subscriptions};
-
-#[cfg(test)]
-mod tests;
