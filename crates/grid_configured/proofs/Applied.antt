@@ -27,7 +27,7 @@ use Rattle.grid_configured.specs.declared.network.ConfiguredLevel.{ConfiguredLev
 use Rattle.grid_configured.specs.declared.network.ConfiguredNetwork.{ConfiguredNetwork}
 use Rattle.grid_configured.specs.Names.{is_plain, switch_plain, item_plain, line_plain, level_plain, network_plain}
 use Rattle.grid_configured.specs.Checks as checks
-use Rattle.grid_configured.specs.Checks.{each_check, ids_of, level_check, bus_check, switch_check, item_check, line_check, IsTranslatable}
+use Rattle.grid_configured.specs.Checks.{each_check, ids_of, level_check, bus_check, switch_check, item_check, IsTranslatable}
 use Rattle.grid_configured.specs.Places.{Joint, PlacesFit}
 use Rattle.grid_configured.specs.Levels.{bus_place, joint_of, item_outlet}
 use Rattle.grid_configured.specs.Translation.{breaker_id, substation_id, translated}

@@ -29,7 +29,7 @@ use Rattle.grid_configured.specs.declared.network.Item.{Item}
 use Rattle.grid_configured.specs.declared.network.ConfiguredLevel.{ConfiguredLevel}
 use Rattle.grid_configured.specs.declared.network.ConfiguredNetwork.{ConfiguredNetwork}
 use Rattle.grid_configured.specs.Checks as checks
-use Rattle.grid_configured.specs.Checks.{each_check, level_ids, ids_of, level_edges, level_check, level_reasons, id_reasons, bus_check, bus_reasons, switch_check, switch_reasons, buses_reasons, item_check, item_reasons, terminal_reasons, record_fault}
+use Rattle.grid_configured.specs.Checks.{level_ids, ids_of, level_edges, level_check, level_reasons, id_reasons, bus_check, bus_reasons, switch_check, switch_reasons, buses_reasons, item_check, item_reasons, terminal_reasons, record_fault}
 use Rattle.grid_configured.specs.Places.{PlacedLevel, PlacesFit}
 use Rattle.grid_configured.specs.Levels.{bus_place, joint_of, item_outlet, line_outlets, outlets, placed_level, placed_levels}
 use Rattle.grid_configured.specs.Translation.{joint_breaker, breaker_id, outlet_breaker, bus_section, outlet_placed, outlets_at, translated_level, substation_id, translated}

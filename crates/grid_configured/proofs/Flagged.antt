@@ -6,7 +6,6 @@ use Rattle.std.proofs.lemmas.List.{length-map}
 use Rattle.std.proofs.lemmas.List.Elements.{All-head, All-tail, All-cons}
 use Rattle.grid_level.specs.declared.Switch.{Switch}
 use Rattle.grid_level.specs.Passing as levels
-use Rattle.grid_level.specs.Passing.{is_busbar}
 use Rattle.grid_configured.specs.Places.{Joint, Outlet, PlacedLevel, PlacesFit, with_opened, with_connected, stood}
 use Rattle.grid_configured.specs.Translation.{joint_breaker, outlet_breaker, outlet_placed, outlets_at, translated_level}
 use Rattle.grid_configured.proofs.Nodes.{StandsWell}

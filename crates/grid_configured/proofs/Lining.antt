@@ -30,7 +30,7 @@ use Rattle.grid_configured.specs.declared.network.ConfiguredLine.{ConfiguredLine
 use Rattle.grid_configured.specs.declared.network.ConfiguredLevel.{ConfiguredLevel}
 use Rattle.grid_configured.specs.declared.network.ConfiguredNetwork.{ConfiguredNetwork}
 use Rattle.grid_configured.specs.Checks as checks
-use Rattle.grid_configured.specs.Checks.{ids_of, level_nodes, level_edges, ends_in, line_ends, level_of, id_reasons, end_reasons, end_check, line_check, terminal_reasons}
+use Rattle.grid_configured.specs.Checks.{ids_of, level_nodes, level_edges, ends_in, line_ends, level_of, id_reasons, end_reasons, end_check, line_check}
 use Rattle.grid_configured.specs.Places.{Outlet, PlacedLevel, PlacesFit}
 use Rattle.grid_configured.specs.Levels.{bus_place, joint_of, item_outlet, end_outlets, line_outlets, outlets, placed_level, placed_levels}
 use Rattle.grid_configured.specs.Sites.{is_outlet}

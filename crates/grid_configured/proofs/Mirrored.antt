@@ -11,7 +11,7 @@ use Rattle.grid_structure.specs.Sites.{levels, first_found}
 use Rattle.grid_states.specs.Rows.{row_at, with_flag}
 use Rattle.grid_core.specs.declared.reply.Reply.TheVariants as replies
 use Rattle.grid_core.specs.Solo as solo
-use Rattle.grid_core.specs.Solo.{State, record_rows, flag_at, side_of, site_of_side, level_at, positioned_at, with_all_opened, switch_names, connected_from, connected_at, disconnected_from, disconnected_at, set_from}
+use Rattle.grid_core.specs.Solo.{State, record_rows, flag_at, set_from}
 use Rattle.grid_paths.proofs.Least.{some_same, some_none}
 use Rattle.grid_structure.proofs.Places.{position_found}
 use Rattle.grid_configured.specs.declared.network.ConfiguredNetwork.{ConfiguredNetwork}

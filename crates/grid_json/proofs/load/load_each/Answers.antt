@@ -1,4 +1,4 @@
-use Rattle.std.proofs.Common.{◌≡◌, ◌+◌, length, ap, arith}
+use Rattle.std.proofs.Common.{length, ap, arith}
 use Rattle.grid_json.proofs.Loading.{goes_on, ends, is_done}
 use Rattle.grid_json.proofs.load.load_each.Goals as goal
 

@@ -1,5 +1,5 @@
-use Rattle.std.proofs.Common.{◌≡◌, [], sym, ap, ◌∙◌, arith}
-use Rattle.grid_manager.specs.Views.{caller, known, grown, newcomer}
+use Rattle.std.proofs.Common.{[], sym, ap, ◌∙◌, arith}
+use Rattle.grid_manager.specs.Views.{caller, grown, newcomer}
 use Rattle.grid_manager.proofs.Keeping.{splits_new}
 use Rattle.grid_manager.proofs.steps.witness.Goals as goal
 

@@ -3,8 +3,8 @@ use Rattle.json.specs.Token.{Token}
 use Rattle.json.specs.Json.{parse_map, after_end_array, read_key, items, members, value}
 use Rattle.json.specs.Reads.{token_of}
 use Rattle.json.proofs.Grammar.{value_is, read_key-shorter}
-use Rattle.serde_json.specs.Data.{null, boolean, number, string, array, object, no_members, put}
-use Rattle.serde_json.specs.Read.{of_json, of_items, of_members, converted}
+use Rattle.serde_json.specs.Data.{null, boolean, number, string, array, object, put}
+use Rattle.serde_json.specs.Read.{of_json, of_items, converted}
 use Rattle.grid_value.specs.View.{view, number_view, members_view}
 use Rattle.grid_value.specs.declared.value.Value.{Text, Number, Bool, Null, the_lemmas}
 use Rattle.grid_value.proofs.Growing.{view-Array, view-Object, items_before, items_before-no_items, one_more_item, unchanged, members_push}

@@ -5,7 +5,6 @@ use Rattle.json.specs.declared.token.Token.{Token as NextToken}
 use Rattle.json.specs.Lex.{tokens}
 use Rattle.json.specs.Json.{value}
 use Rattle.json.specs.Reads.{token_of}
-use Rattle.serde_json.specs.Read.{of_json, converted}
 use Rattle.grid_value.specs.View.{view}
 use Rattle.grid_value.proofs.Texts.{reading_some, reading_none}
 use Rattle.grid_value.proofs.Turns.{whole, whole_some, whole_longer, whole_none}
