@@ -7,6 +7,7 @@ use crate::replies::expect;
 use grid_bench::Answer;
 use grid_board::CommitFault;
 use grid_core::{Reply, Request, Script};
+use grid_ids::Duplicate;
 use grid_json::Job;
 use std::alloc::Global;
 use std::process::Abort;
@@ -221,18 +222,56 @@ fn commit_late(rt: &impl Abort, both: &mut Both, parts: &Parts<'_>) -> Result<(b
     Ok((stale, reply))
 }
 
-/// A case on a board beside a world.
-fn on_board(rt: &impl Abort, alloc: Global, case: &Case) -> Result<(), Fail> {
-    let job = case.job(alloc)?;
-    let mut both = Both::start(alloc, job.network)?;
+/// What both workers see once a case is over.
+fn look_after(
+    rt: &impl Abort,
+    alloc: Global,
+    both: &mut Both,
+    parts: &Parts<'_>,
+    case: &Case,
+) -> Result<(), Fail> {
+    both.expect_all(rt, alloc, 0, parts.look, &[case.seen_by_0])?;
+    both.expect_all(rt, alloc, 1, parts.look, &[case.seen_by_1])
+}
+
+/// The steps of a case up to worker 1's commit, and what comes of it.
+fn come_between(
+    rt: &impl Abort,
+    alloc: Global,
+    both: &mut Both,
+    parts: &Parts<'_>,
+    case: &Case,
+) -> Result<(), Fail> {
+    let (stale, reply) = commit_late(rt, both, parts)?;
+    assert_eq!(rt; stale, case.stale);
+    expect(rt, alloc, &reply, case.reply)
+}
+
+/// A board beside a world, on the network of a job.
+fn start_on(alloc: Global, job: &Job) -> Result<Both, Fail> {
+    Both::start(alloc, job.network.copy()?)
+}
+
+/// The case of a job on a board beside a world.
+fn on_both(
+    rt: &impl Abort,
+    alloc: Global,
+    job: &Job,
+    both: &mut Both,
+    case: &Case,
+) -> Result<(), Fail> {
     let Some(parts) = parts_of(job.scripts.slice()) else {
         panic!(rt; "the scripts of a case");
     };
-    let (stale, reply) = commit_late(rt, &mut both, &parts)?;
-    assert_eq!(rt; stale, case.stale);
-    expect(rt, alloc, &reply, case.reply)?;
-    both.expect_all(rt, alloc, 0, parts.look, &[case.seen_by_0])?;
-    both.expect_all(rt, alloc, 1, parts.look, &[case.seen_by_1])
+    come_between(rt, alloc, both, &parts, case)?;
+    look_after(rt, alloc, both, &parts, case)
+}
+
+/// A case on a board beside a world.
+fn on_board(rt: &impl Abort, alloc: Global, case: &Case) -> Result<(), Fail> {
+    let job = case.job(alloc)?;
+    let mut both = start_on(alloc, &job)?;
+    on_both(rt, alloc, &job, &mut both, case)
 }
 
 #[test]
