@@ -9,6 +9,7 @@ use crate::networks::{FOUR, ONE_BUS, TWO_BUSES, duo, with_scripts};
 use grid_bench::Bench;
 use grid_core::{Request, Script};
 use grid_ids::{Duplicate, Id, Memory};
+use grid_json::Job;
 use grid_level::SharedLevel;
 use grid_queue::Steps;
 use grid_structure::Structure;
@@ -175,8 +176,28 @@ fn labels_follow_other_content(rt: HostRuntime) -> Result<(), Fail> {
     )
 }
 
-/// Asserts which of two levels a new bench keeps after the task of a request.
+/// Whether the bench keeps the level of this id.
+fn is_kept(alloc: Global, both: &Both, level: &str) -> Result<bool, Fail> {
+    let id = Id::new(alloc, level)?;
+    Ok(both.bench.keeps(&id))
+}
+
+/// Asks the bench, and asserts whether it then keeps the levels A and C.
 fn expect_kept(
+    rt: &impl Abort,
+    alloc: Global,
+    both: &mut Both,
+    request: &Request,
+    wanted: (bool, bool),
+) -> Result<(), Fail> {
+    assert!(rt; both.ask(0, request)?.is_some());
+    assert_eq!(rt; is_kept(alloc, both, "A")?, wanted.0);
+    assert_eq!(rt; is_kept(alloc, both, "C")?, wanted.1);
+    Ok(())
+}
+
+/// The same of a bench that keeps nothing, on a board of this network.
+fn expect_kept_at_first(
     rt: &impl Abort,
     alloc: Global,
     network: &Structure,
@@ -184,10 +205,7 @@ fn expect_kept(
     wanted: (bool, bool),
 ) -> Result<(), Fail> {
     let mut both = Both::start(alloc, network.copy()?)?;
-    assert!(rt; both.ask(0, request)?.is_some());
-    assert_eq!(rt; both.bench.keeps(&Id::new(alloc, "A")?), wanted.0);
-    assert_eq!(rt; both.bench.keeps(&Id::new(alloc, "C")?), wanted.1);
-    Ok(())
+    expect_kept(rt, alloc, &mut both, request, wanted)
 }
 
 /// The same for each request of a script.
@@ -200,9 +218,22 @@ fn expect_each_kept(
 ) -> Result<(), Fail> {
     assert_eq!(rt; script.len(), wanted.len());
     for (request, wanted) in script.slice().iter().zip(wanted) {
-        expect_kept(rt, alloc, network, request, *wanted)?;
+        expect_kept_at_first(rt, alloc, network, request, *wanted)?;
     }
     Ok(())
+}
+
+/// The same for each request of a job's first script.
+fn expect_first_kept(
+    rt: &impl Abort,
+    alloc: Global,
+    job: &Job,
+    wanted: &[(bool, bool)],
+) -> Result<(), Fail> {
+    let Some(script) = job.scripts.get(0) else {
+        return Ok(assert!(rt; false));
+    };
+    expect_each_kept(rt, alloc, &job.network, script, wanted)
 }
 
 #[test]
@@ -214,17 +245,18 @@ fn tasks_keep_what_they_need(rt: HostRuntime) -> Result<(), Fail> {
         r#"[{"do":"connect","equipment":"LC"},{"do":"disconnect","equipment":"LC"},{"do":"bus_breaker_view","level":"C"},{"do":"bus_view","level":"A"},{"do":"components","level":"A"}]"#,
     )?;
     let job = read(alloc, bytes.as_slice())?;
-    let Some(script) = job.scripts.get(0) else {
-        return Ok(assert!(rt; false));
-    };
-    let wanted = [
-        (false, false),
-        (false, false),
-        (false, true),
-        (true, false),
-        (true, true),
-    ];
-    expect_each_kept(&rt, alloc, &job.network, script, &wanted)
+    expect_first_kept(
+        &rt,
+        alloc,
+        &job,
+        &[
+            (false, false),
+            (false, false),
+            (false, true),
+            (true, false),
+            (true, true),
+        ],
+    )
 }
 
 #[test]
