@@ -242,25 +242,35 @@ fn told_at(journal: &Journal, place: usize) -> Option<(u32, Option<usize>)> {
     }
 }
 
+/// Asserts that worker 1's step stands first, and tells no bus view, and that worker 0's is behind it and tells no bus.
+fn expect_held_last(rt: &impl Abort, journal: &Journal) -> Result<(), Fail> {
+    assert_eq!(rt; journal.len(), 2);
+    assert_eq!(rt; told_at(journal, 0), Some((1, None)));
+    assert_eq!(rt; told_at(journal, 1), Some((0, Some(0))));
+    Ok(())
+}
+
+/// Asserts that both callers made eight steps and were told of eight.
+fn expect_all_told(rt: &impl Abort, left: &Left) -> Result<(), Fail> {
+    assert_eq!(rt; left.ended, (8, 8));
+    assert_eq!(rt; left.met, (8, 8));
+    assert_eq!(rt; left.journal.len(), 8);
+    Ok(())
+}
+
 #[test]
 fn a_held_step_comes_last(rt: HostRuntime) -> Result<(), Fail> {
     let gate = Hold::new(0, false);
     let left = left_of_two(&rt, rt.alloc(), LOOK_AND_OPEN, &gate)?;
     assert!(rt; !gate.used_up.load(Ordering::SeqCst));
-    assert_eq!(rt; left.journal.len(), 2);
-    assert_eq!(rt; told_at(&left.journal, 0), Some((1, None)));
-    assert_eq!(rt; told_at(&left.journal, 1), Some((0, Some(0))));
-    Ok(())
+    expect_held_last(&rt, &left.journal)
 }
 
 #[test]
 fn each_is_told_of_all_steps(rt: HostRuntime) -> Result<(), Fail> {
     let gate = Hold::new(0, true);
     let left = left_of_two(&rt, rt.alloc(), FOUR, &gate)?;
-    assert_eq!(rt; left.ended, (8, 8));
-    assert_eq!(rt; left.met, (8, 8));
-    assert_eq!(rt; left.journal.len(), 8);
-    Ok(())
+    expect_all_told(&rt, &left)
 }
 
 /// Asserts how a journal ends: with a step of worker 0, then what worker 1 asked, and what both saw then.
