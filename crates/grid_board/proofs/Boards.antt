@@ -5,9 +5,10 @@ use Rattle.grid_structure.specs.declared.Edit.{Edit}
 use Rattle.grid_structure.specs.Network.{Network}
 use Rattle.grid_bench.specs.declared.Task.{Task}
 use Rattle.grid_bench.specs.Bases.{Basis}
-use Rattle.grid_core.specs.declared.request.Request.{Request}
-use Rattle.grid_core.specs.declared.request.Request.TheVariants as requests
-use Rattle.grid_core.specs.History.{History, Command, command, longer, structure, structure_after}
+use Rattle.grid_requests.specs.declared.request.Request.{Request}
+use Rattle.grid_requests.specs.declared.request.Request.TheVariants as requests
+use Rattle.grid_core.specs.History.{History, Command, command, longer, structure}
+use Rattle.grid_requests.specs.Changes.{structure_after}
 use Rattle.grid_core.specs.Worlds.{begun, worker_state}
 use Rattle.grid_board.specs.Boards.{IsBoard}
 use Rattle.grid_board.specs.Copied.{Copied, AreCopies}

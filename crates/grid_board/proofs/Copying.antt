@@ -13,9 +13,9 @@ use Rattle.grid_structure.specs.declared.Edit.{Edit}
 use Rattle.grid_structure.specs.Network.{Network}
 use Rattle.grid_structure.specs.Sites.{levels}
 use Rattle.grid_bench.specs.declared.Task.{Task}
-use Rattle.grid_core.specs.declared.request.Request.{Request}
-use Rattle.grid_core.specs.declared.request.Request.TheVariants as requests
-use Rattle.grid_core.specs.History.{structure_after}
+use Rattle.grid_requests.specs.declared.request.Request.{Request}
+use Rattle.grid_requests.specs.declared.request.Request.TheVariants as requests
+use Rattle.grid_requests.specs.Changes.{structure_after}
 use Rattle.grid_board.specs.Questions.{task_of}
 use Rattle.grid_board.specs.Copied.{Copied, copy_at, with_copy, AreCopies}
 

@@ -13,9 +13,10 @@ use Rattle.grid_bench.specs.declared.Task.{Task}
 use Rattle.grid_bench.specs.declared.Task.TheVariants as tasks
 use Rattle.grid_bench.specs.Bases.{Basis, basis}
 use Rattle.grid_bench.specs.Tasks.{level_of}
-use Rattle.grid_core.specs.declared.request.Request.{Request}
-use Rattle.grid_core.specs.declared.request.Request.TheVariants as requests
-use Rattle.grid_core.specs.History.{History, Command, structure, structure_after, working}
+use Rattle.grid_requests.specs.declared.request.Request.{Request}
+use Rattle.grid_requests.specs.declared.request.Request.TheVariants as requests
+use Rattle.grid_core.specs.History.{History, Command, structure, working}
+use Rattle.grid_requests.specs.Changes.{structure_after}
 use Rattle.grid_core.specs.Replies.{state_of}
 use Rattle.grid_core.specs.Solo.{State, level_at}
 use Rattle.grid_core.specs.Worlds.{worker_live, worker_state}

@@ -5,8 +5,8 @@ use Rattle.grid_structure.specs.Sites.{levels}
 use Rattle.grid_bench.specs.declared.base.BaseLevel.{BaseLevel}
 use Rattle.grid_bench.specs.declared.Task.{Task}
 use Rattle.grid_bench.specs.Bases.{Basis}
-use Rattle.grid_core.specs.declared.request.Request.{Request}
-use Rattle.grid_core.specs.declared.request.Request.TheVariants as requests
+use Rattle.grid_requests.specs.declared.request.Request.{Request}
+use Rattle.grid_requests.specs.declared.request.Request.TheVariants as requests
 use Rattle.grid_core.specs.History.{History, Command, IsPrefix}
 use Rattle.grid_core.specs.Solo.{State}
 use Rattle.grid_board.specs.Questions.{task_of, base_of, whole, present}

@@ -3,7 +3,7 @@ ghost use Rattle.std.specs.Prelude.{◌≡◌, ◌<◌, [], length, slice_get, S
 ghost use Rattle.std.specs.Option.{option_copied};
 ghost use Rattle.grid_structure.specs.Network.{Network};
 ghost use Rattle.grid_structure.specs.Sites.{levels};
-ghost use Rattle.grid_core.specs.History.{structure_after};
+ghost use Rattle.grid_requests.specs.Changes.{structure_after};
 ghost use Rattle.grid_board.specs.Copied.{AreCopies, copy_at, with_copy};
 
 use grid_core::Request;

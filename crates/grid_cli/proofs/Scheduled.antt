@@ -10,7 +10,7 @@ use Rattle.serde_json.specs.Data.{Data, Items, no_items, item}
 use Rattle.serde_json.specs.Find.{get, as_array}
 use Rattle.grid_structure.specs.Network.{Network}
 use Rattle.grid_events.specs.declared.filter.Filter.{Filter}
-use Rattle.grid_core.specs.declared.request.Request.{Request}
+use Rattle.grid_requests.specs.declared.request.Request.{Request}
 use Rattle.grid_json.specs.declared.fault.Fault.{Fault}
 use Rattle.grid_json.specs.declared.fault.Reason.{Reason}
 use Rattle.grid_json.specs.declared.fault.Reason.TheVariants.{WrongKind, Schedule, TooManyWorkers}

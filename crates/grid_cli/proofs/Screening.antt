@@ -6,8 +6,8 @@ use Rattle.std.proofs.lemmas.Bool.{and_parts, false≢true, true≢false}
 use Rattle.std.proofs.lemmas.Slice.Eq.{bytes_eq-Decides}
 use Rattle.grid_ids.specs.Name.{same_id, has_id, id_below}
 use Rattle.grid_slots.specs.Names.{initial_state, with_name, without_name, may_clone, may_remove}
-use Rattle.grid_core.specs.declared.request.Request.{Request}
-use Rattle.grid_core.specs.declared.request.Request.TheVariants as requests
+use Rattle.grid_requests.specs.declared.request.Request.{Request}
+use Rattle.grid_requests.specs.declared.request.Request.TheVariants as requests
 use Rattle.grid_core.specs.declared.case.Case.{Case}
 use Rattle.grid_core.specs.Cases.{case_of, case_seen}
 use Rattle.grid_core.specs.History.{History, Command, live_after, live, is_live}

@@ -5,7 +5,7 @@ use Rattle.std.specs.List.{list_any}
 use Rattle.std.proofs.lemmas.List.{drop_all}
 use Rattle.std.proofs.lemmas.Slice.Eq.{bytes_eq-Decides}
 use Rattle.grid_ids.specs.Name.{same_id, has_id}
-use Rattle.grid_core.specs.declared.request.Request.{Request}
+use Rattle.grid_requests.specs.declared.request.Request.{Request}
 use Rattle.grid_core.specs.declared.journal.Entry.{Entry}
 use Rattle.grid_core.specs.History.{History}
 use Rattle.grid_core.specs.Journals.{journal_of}

@@ -5,7 +5,7 @@ use Rattle.std.specs.Io.KnownBytes.{Appends}
 use Rattle.std.proofs.lemmas.List.{length-reverse}
 use Rattle.grid_source.specs.Whole.{IsBegun}
 use Rattle.grid_structure.specs.Network.{Network}
-use Rattle.grid_core.specs.declared.request.Request.{Request}
+use Rattle.grid_requests.specs.declared.request.Request.{Request}
 use Rattle.grid_core.specs.History.{History, Command, asked_by}
 use Rattle.grid_json.specs.declared.whole.Job.{Job}
 use Rattle.grid_report.specs.declared.pieces.ReportFault.{ReportFault}

@@ -4,7 +4,7 @@ use Rattle.std.specs.Prelude.{Some, None, option_map, slice_get}
 use Rattle.grid_level.specs.Passing.{positioned}
 use Rattle.grid_states.specs.Rows.{row_at}
 use Rattle.grid_busview.specs.Views.{record_watts, bus_view_of}
-use Rattle.grid_core.specs.declared.request.Request.TheVariants as requests
+use Rattle.grid_requests.specs.declared.request.Request.TheVariants as requests
 use Rattle.grid_core.specs.declared.reply.Refusal.TheVariants as refusals
 use Rattle.grid_core.specs.Solo.{State, positioned_at}
 use Rattle.grid_core.specs.History.{Command, is_live, working}

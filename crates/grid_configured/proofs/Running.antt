@@ -15,8 +15,8 @@ use Rattle.grid_structure.specs.declared.Site.{Site}
 use Rattle.grid_structure.specs.Network.{Network}
 use Rattle.grid_structure.specs.Sites as sites
 use Rattle.grid_structure.specs.Sites.{levels, terminal_spot}
-use Rattle.grid_core.specs.declared.request.Request.{Request}
-use Rattle.grid_core.specs.declared.request.Request.TheVariants as requests
+use Rattle.grid_requests.specs.declared.request.Request.{Request}
+use Rattle.grid_requests.specs.declared.request.Request.TheVariants as requests
 use Rattle.grid_core.specs.declared.reply.Reply.{Reply}
 use Rattle.grid_core.specs.declared.reply.Refusal.TheVariants as refusals
 use Rattle.grid_core.specs.Solo.{State}
@@ -24,7 +24,8 @@ use Rattle.grid_core.specs.Fitting.{StateFits, RowsFit}
 use Rattle.grid_core.specs.Worlds.{worker_live, worker_state}
 use Rattle.grid_core.specs.Replies as answers
 use Rattle.grid_core.specs.History as histories
-use Rattle.grid_core.specs.History.{History, Command, command, is_live, working, structure, structure_after}
+use Rattle.grid_core.specs.History.{History, Command, command, is_live, working, structure}
+use Rattle.grid_requests.specs.Changes.{structure_after}
 use Rattle.grid_core.specs.Replies.{state_of}
 use Rattle.grid_paths.proofs.Least.{some_same, some_none}
 use Rattle.grid_configured.specs.declared.network.ConfiguredLevel.{ConfiguredLevel}

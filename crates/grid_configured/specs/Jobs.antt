@@ -2,8 +2,8 @@
 use Rattle.std.specs.Prelude.{◌≡◌, ℕ, ℤ, pos, true, false, length, map, List, [], ◌∷◌, Option, Some, None, Result, Ok, Err, codes, if◌then◌else◌, ⊤}
 use Rattle.std.specs.Ordering.{int_eq}
 use Rattle.serde_json.specs.Data.{Data}
-use Rattle.grid_core.specs.declared.request.Request.{Request}
-use Rattle.grid_core.specs.declared.request.Request.TheVariants as requests
+use Rattle.grid_requests.specs.declared.request.Request.{Request}
+use Rattle.grid_requests.specs.declared.request.Request.TheVariants as requests
 use Rattle.grid_json.specs.declared.fault.Fault.{Fault}
 use Rattle.grid_json.specs.declared.fault.Reason.TheVariants.{Unknown, Reserved, TooManyWorkers}
 use Rattle.grid_json.specs.declared.format.Format.TheVariants.{Four}

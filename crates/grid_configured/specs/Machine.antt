@@ -4,8 +4,8 @@ use Rattle.std.specs.Prelude.{ℕ, ℤ, Bool, true, false, if◌then◌else◌, 
 use Rattle.std.specs.Bool.{beq}
 use Rattle.grid_ids.specs.Refusing.{◌>>=◌, found_or}
 use Rattle.grid_states.specs.Rows.{row_at, with_flag}
-use Rattle.grid_core.specs.declared.request.Request.{Request}
-use Rattle.grid_core.specs.declared.request.Request.TheVariants as requests
+use Rattle.grid_requests.specs.declared.request.Request.{Request}
+use Rattle.grid_requests.specs.declared.request.Request.TheVariants as requests
 use Rattle.grid_core.specs.declared.reply.Refusal.{Refusal}
 use Rattle.grid_core.specs.declared.reply.Refusal.TheVariants as refusals
 use Rattle.grid_core.specs.Solo.{flag_at, side_of}

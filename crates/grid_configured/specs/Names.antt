@@ -1,8 +1,8 @@
 -- Plain ids: those that a job with configured buses may have. Ids of other forms are kept for what its translation adds.
 use Rattle.std.specs.Prelude.{ℕ, Bool, false, ◌&&◌, ◌==◌, not, nat_le, List, length, IsTrue}
 use Rattle.std.specs.List.{list_any, list_all}
-use Rattle.grid_core.specs.declared.request.Request.{Request}
-use Rattle.grid_core.specs.declared.request.Request.TheVariants as requests
+use Rattle.grid_requests.specs.declared.request.Request.{Request}
+use Rattle.grid_requests.specs.declared.request.Request.TheVariants as requests
 use Rattle.grid_configured.specs.declared.network.BusSwitch.{BusSwitch}
 use Rattle.grid_configured.specs.declared.network.Item.{Item}
 use Rattle.grid_configured.specs.declared.network.BusEnd.{BusEnd}

@@ -1,7 +1,7 @@
 -- The report of what came of a job with configured buses, byte for byte.
 use Rattle.std.specs.Prelude.{ℕ, ◌==◌, List, [], ◌∷◌, ◌++◌, length, filter, codes, decimal}
 use Rattle.std.specs.List.{flat_map, range_with_len}
-use Rattle.grid_core.specs.declared.request.Request.{Request}
+use Rattle.grid_requests.specs.declared.request.Request.{Request}
 use Rattle.grid_report.specs.Commands.{command_text}
 use Rattle.grid_report.specs.Lines.{bus_name, terminals_text, flows_text}
 use Rattle.grid_report.specs.Outcomes.{numbered, worker_line, variant_line}

@@ -14,8 +14,8 @@ use Rattle.grid_busbreaker.specs.Views.{bus_breaker_view_of}
 use Rattle.grid_busview.specs.Views.{bus_view_of}
 use Rattle.grid_watts.specs.Watts.{level_watts}
 use Rattle.grid_islands.specs.Islands.{level_components}
-use Rattle.grid_core.specs.declared.request.Request.{Request}
-use Rattle.grid_core.specs.declared.request.Request.TheVariants as requests
+use Rattle.grid_requests.specs.declared.request.Request.{Request}
+use Rattle.grid_requests.specs.declared.request.Request.TheVariants as requests
 use Rattle.grid_core.specs.declared.reply.Reply.{Reply}
 use Rattle.grid_core.specs.declared.reply.Reply.TheVariants as replies
 use Rattle.grid_core.specs.declared.reply.Refusal.{Refusal}

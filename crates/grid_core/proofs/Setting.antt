@@ -14,7 +14,7 @@ use Rattle.grid_watts.specs.Watts.{watts, watts_at, powered, load_total, generat
 use Rattle.grid_watts.specs.Ranges.{IsSummed, is_narrow}
 use Rattle.grid_watts.specs.Moves.{set_to}
 use Rattle.grid_watts.proofs.Keeping.{set_summed}
-use Rattle.grid_core.specs.declared.request.Request.TheVariants as requests
+use Rattle.grid_requests.specs.declared.request.Request.TheVariants as requests
 use Rattle.grid_core.specs.declared.reply.Reply.{Reply}
 use Rattle.grid_core.specs.declared.reply.Reply.TheVariants as replies
 use Rattle.grid_core.specs.declared.reply.Refusal.TheVariants as refusals

@@ -2,7 +2,7 @@
 use Rattle.std.proofs.Common.{◌≡◌, refl, ℕ, Bool, true, false, cond, List, inl, inr, Option, Some, None, Result, Ok, Err}
 use Rattle.std.specs.Prelude.{◌⊎◌}
 use Rattle.serde_json.specs.Data.{Data}
-use Rattle.grid_core.specs.declared.request.Request.{Request}
+use Rattle.grid_requests.specs.declared.request.Request.{Request}
 use Rattle.grid_json.specs.declared.fault.Fault.{Fault}
 use Rattle.grid_json.specs.declared.fault.Reason.TheVariants.{TooManyCommands}
 use Rattle.grid_json.specs.Reading.{◌>>=◌, here, present, present_or, some_of, under}

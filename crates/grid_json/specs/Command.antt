@@ -6,8 +6,8 @@ use Rattle.grid_structure.specs.declared.Branch.{Branch}
 use Rattle.grid_structure.specs.declared.Branch.TheVariants as shapes
 use Rattle.grid_structure.specs.declared.Edit.{Edit}
 use Rattle.grid_structure.specs.declared.Edit.TheVariants as edits
-use Rattle.grid_core.specs.declared.request.Request.{Request}
-use Rattle.grid_core.specs.declared.request.Request.TheVariants as requests
+use Rattle.grid_requests.specs.declared.request.Request.{Request}
+use Rattle.grid_requests.specs.declared.request.Request.TheVariants as requests
 use Rattle.grid_json.specs.declared.fault.Fault.{Fault}
 use Rattle.grid_json.specs.declared.fault.Reason.TheVariants.{Unknown}
 use Rattle.grid_json.specs.declared.format.Format.{Format}

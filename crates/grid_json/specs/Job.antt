@@ -5,7 +5,7 @@ use Rattle.std.specs.Ordering.{int_eq}
 use Rattle.serde_json.specs.Data.{Data}
 use Rattle.serde_json.specs.Find.{as_array}
 use Rattle.grid_events.specs.declared.filter.Filter.{Filter}
-use Rattle.grid_core.specs.declared.request.Request.{Request}
+use Rattle.grid_requests.specs.declared.request.Request.{Request}
 use Rattle.grid_json.specs.declared.fault.Fault.{Fault}
 use Rattle.grid_json.specs.declared.fault.Reason.{Reason}
 use Rattle.grid_json.specs.declared.fault.Reason.TheVariants.{WrongKind, Unknown, Schedule, TooManyCommands, TooManyWorkers, TooManyListeners}

@@ -10,9 +10,9 @@ use crate::network::NetworkDraft;
 use crate::order::order_of;
 use crate::read::{FromJson, member, member_otherwise, only, optional, read_items};
 use crate::{ReadError, Reason};
-use grid_core::{Script, Scripts};
 use grid_events::{Filter, Filters};
 use grid_ids::Seq;
+use grid_requests::{Script, Scripts};
 use grid_value::Value;
 use std::alloc::Global;
 use std::marker::Model;
@@ -151,7 +151,7 @@ pub struct Workers {
 
 impl Model for Workers {
     ghost use Rattle.std.specs.Prelude.{List, ◌≤◌, length, sum_by};
-    ghost use Rattle.grid_core.specs.declared.request.Request.{Request};
+    ghost use Rattle.grid_requests.specs.declared.request.Request.{Request};
 
     ghost Value = { List (List Request) };
 

@@ -10,8 +10,8 @@ use crate::format::Format;
 use crate::job::Order;
 use crate::read::FromJson;
 use crate::{ReadError, Reason};
-use grid_core::Script;
 use grid_ids::{Memory, Seq};
+use grid_requests::Script;
 use grid_value::Value;
 use std::alloc::Global;
 

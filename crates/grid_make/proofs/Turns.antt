@@ -7,7 +7,7 @@ use Rattle.grid_structure.specs.declared.EditFault.{EditFault}
 use Rattle.grid_structure.specs.Network.{Network}
 use Rattle.grid_structure.specs.Editing.{apply}
 use Rattle.grid_ids.specs.Refusing.{◌>>=◌}
-use Rattle.grid_core.specs.History.{changed_or}
+use Rattle.grid_requests.specs.Changes.{changed_or}
 use Rattle.grid_make.specs.Draws.{next, later, in_turn}
 use Rattle.grid_make.specs.MadeNetwork.{network_after, unrefused}
 

@@ -1,8 +1,8 @@
 -- The made job: its network, and the scripts of its four workers.
 use Rattle.std.specs.Prelude.{ℕ, pos, ◌*◌, ◌/◌, ◌%◌, ◌==◌, false, if◌then◌else◌, None, List, [], ◌∷◌, ◌++◌, decimal, codes}
 use Rattle.grid_slots.specs.Names.{initial_state}
-use Rattle.grid_core.specs.declared.request.Request.{Request}
-use Rattle.grid_core.specs.declared.request.Request.TheVariants as requests
+use Rattle.grid_requests.specs.declared.request.Request.{Request}
+use Rattle.grid_requests.specs.declared.request.Request.TheVariants as requests
 use Rattle.grid_json.specs.declared.whole.Job.{Job}
 use Rattle.grid_make.specs.Draws.{next, later, in_turn}
 use Rattle.grid_make.specs.MadeNetwork.{level_name, part_name, injection_name, made_network}

@@ -12,7 +12,7 @@ use Rattle.grid_structure.specs.declared.Edit.TheVariants as edits
 use Rattle.grid_structure.specs.declared.EditFault.{EditFault}
 use Rattle.grid_structure.specs.Network.{Network, empty_of}
 use Rattle.grid_structure.specs.Editing.{apply}
-use Rattle.grid_core.specs.History.{changed_or}
+use Rattle.grid_requests.specs.Changes.{changed_or}
 use Rattle.grid_make.specs.Draws.{next, later, same, is_odd, in_turn}
 
 -- ---- names, each with the number of its level, and of its feeder where it has one

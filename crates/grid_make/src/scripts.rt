@@ -6,8 +6,8 @@ ghost use Rattle.grid_make.specs.MadeJob as made;
 
 use crate::draws::Draws;
 use crate::names::{feeder_injection, id_of, numbered, part};
-use grid_core::{Request, Script, Scripts};
 use grid_ids::{Memory, Seq};
+use grid_requests::{Request, Script, Scripts};
 use std::alloc::Global;
 
 /// How many workers there are.

@@ -5,7 +5,7 @@ use Rattle.grid_bench.specs.declared.Task.{Task}
 use Rattle.grid_bench.specs.Bases.{Basis}
 use Rattle.grid_board.specs.Edits.{edits_asked}
 use Rattle.grid_board.specs.Questions.{present}
-use Rattle.grid_core.specs.declared.request.Request.{Request}
+use Rattle.grid_requests.specs.declared.request.Request.{Request}
 use Rattle.grid_core.specs.History.{History}
 use Rattle.grid_manager.specs.declared.question.Witness.{Witness}
 use Rattle.grid_manager.specs.Views.{caller}

@@ -6,8 +6,8 @@ use Rattle.grid_structure.specs.declared.Branch.{Branch}
 use Rattle.grid_structure.specs.declared.Branch.TheVariants.{Line, TwoWindings, ThreeWindings}
 use Rattle.grid_structure.specs.declared.Edit.{Edit}
 use Rattle.grid_structure.specs.declared.Edit.TheVariants.{AddSubstation, AddLevel, AddBusbar, AddSwitch, RemoveSwitch, AddInternal, RemoveInternal, AddInjection, AddBranch, RemoveEquipment}
-use Rattle.grid_core.specs.declared.request.Request.{Request}
-use Rattle.grid_core.specs.declared.request.Request.TheVariants as requests
+use Rattle.grid_requests.specs.declared.request.Request.{Request}
+use Rattle.grid_requests.specs.declared.request.Request.TheVariants as requests
 use Rattle.grid_print.specs.Objects.{object_of, array_of, whole, given}
 use Rattle.grid_print.specs.Network.{switch_word, injection_word, injection_fields, end_value}
 

@@ -10,8 +10,8 @@ use Rattle.grid_structure.specs.declared.Edit.{Edit}
 use Rattle.grid_structure.specs.declared.Edit.TheVariants as edits
 use Rattle.grid_structure.specs.Network.{Network}
 use Rattle.grid_structure.specs.Sites.{levels}
-use Rattle.grid_core.specs.declared.request.Request.{Request}
-use Rattle.grid_core.specs.declared.request.Request.TheVariants as requests
+use Rattle.grid_requests.specs.declared.request.Request.{Request}
+use Rattle.grid_requests.specs.declared.request.Request.TheVariants as requests
 use Rattle.grid_json.specs.declared.format.Format.{Format}
 use Rattle.grid_json.specs.declared.format.Format.TheVariants.{One, Two, Three, Four}
 

@@ -6,9 +6,9 @@ ghost use Rattle.grid_print.specs.Command.{one_id, sided, internal_edit, add_lev
 
 use crate::level::{injection_word_of, put_item, word_of};
 use crate::object::{Members, ToJson, put, put_given, put_value, three, two};
-use grid_core::Request;
 use grid_ids::{Id, Memory};
 use grid_kinds::Injection;
+use grid_requests::Request;
 use grid_structure::{Branch, Edit, End};
 use serde_json::{Map, Value, json};
 use std::alloc::Global;

@@ -4,9 +4,9 @@ ghost use Rattle.std.specs.List.{list_any};
 ghost use Rattle.grid_print.specs.Formats as formats;
 ghost use Rattle.grid_print.specs.Formats.{least_format, needs};
 
-use grid_core::{Request, Script};
 use grid_kinds::Injection;
 use grid_level::{Level, Placed, Stand};
+use grid_requests::{Request, Script};
 use grid_structure::{Edit, Structure};
 
 /// The format that a kind of injections came with.

@@ -13,10 +13,10 @@ ghost use Rattle.grid_print.specs.Job.{kinds_value, job_value, line_of, job_text
 
 use crate::formats::format_of;
 use crate::object::{ToJson, array_of, put, put_given, put_value};
-use grid_core::Script;
 use grid_events::Filter;
 use grid_ids::{Memory, Seq};
 use grid_json::{Job, Order};
+use grid_requests::Script;
 use grid_structure::Structure;
 use serde_json::{Map, Value};
 use std::alloc::Global;

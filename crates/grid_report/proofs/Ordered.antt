@@ -7,7 +7,7 @@ use Rattle.std.proofs.lemmas.List.{reverse-append, length-reverse, take-append-l
 use Rattle.std.proofs.Math.Seq.{take-append_seam}
 use Rattle.std.proofs.lemmas.List.Elements.{filter_map-append}
 use Rattle.std.proofs.lemmas.List.Sums.{sum_by-append}
-use Rattle.grid_core.specs.declared.request.Request.{Request}
+use Rattle.grid_requests.specs.declared.request.Request.{Request}
 use Rattle.grid_core.specs.History.{Command, command, asked_by}
 use Rattle.grid_report.specs.Histories.{next_of, step_at, steps_of, told_order, script_of, OrderTellsSteps}
 use Rattle.grid_report.proofs.Planned.{range_last}

@@ -2,8 +2,8 @@
 use Rattle.std.specs.Prelude.{ℕ, Bool, true, false, List, [], ◌++◌, codes}
 use Rattle.grid_structure.specs.declared.Edit.{Edit}
 use Rattle.grid_structure.specs.declared.Edit.TheVariants as edits
-use Rattle.grid_core.specs.declared.request.Request.{Request}
-use Rattle.grid_core.specs.declared.request.Request.TheVariants as requests
+use Rattle.grid_requests.specs.declared.request.Request.{Request}
+use Rattle.grid_requests.specs.declared.request.Request.TheVariants as requests
 use Rattle.grid_report.specs.Words.{behind}
 
 -- an edit, by its word and the id of what it adds or removes; an internal connection has no id

@@ -4,7 +4,7 @@ use Rattle.std.specs.List.{flat_map, filter_map, count_by, range_with_len}
 use Rattle.grid_structure.specs.Network.{Network}
 use Rattle.grid_structure.specs.Sites.{levels}
 use Rattle.grid_events.specs.declared.filter.Filter.{Filter}
-use Rattle.grid_core.specs.declared.request.Request.{Request}
+use Rattle.grid_requests.specs.declared.request.Request.{Request}
 use Rattle.grid_core.specs.History.{Command, History, IsHistory, command, live, structure, asked_by}
 use Rattle.grid_core.specs.Replies.{view, heard}
 use Rattle.grid_core.specs.Journals.{journal_of}

@@ -5,8 +5,8 @@ use Rattle.grid_busbreaker.specs.declared.Bus.{Bus}
 use Rattle.grid_busbreaker.specs.declared.ViewSwitch.{ViewSwitch}
 use Rattle.grid_busbreaker.specs.declared.BusBreakerView.{BusBreakerView}
 use Rattle.grid_islands.specs.declared.BusComponent.{BusComponent}
-use Rattle.grid_core.specs.declared.request.Request.{Request}
-use Rattle.grid_core.specs.declared.request.Request.TheVariants as requests
+use Rattle.grid_requests.specs.declared.request.Request.{Request}
+use Rattle.grid_requests.specs.declared.request.Request.TheVariants as requests
 use Rattle.grid_core.specs.declared.reply.Reply.{Reply}
 use Rattle.grid_core.specs.declared.reply.Reply.TheVariants as replies
 use Rattle.grid_report.specs.Lines.{bus_name, bus_text, bus_lines, count_text}

@@ -28,7 +28,7 @@ use Rattle.grid_structure.proofs.Soundly.{apply_sound}
 use Rattle.grid_busview.specs.Views.{bus_view_of}
 use Rattle.grid_watts.specs.Watts.{level_watts, watts_at, watts_for}
 use Rattle.grid_watts.specs.Shares.{listed_after}
-use Rattle.grid_core.specs.declared.request.Request.TheVariants.{OpenSwitch, Change}
+use Rattle.grid_requests.specs.declared.request.Request.TheVariants.{OpenSwitch, Change}
 use Rattle.grid_core.specs.Solo.{State, solo, edited, changed_state, refused, rows_after, set_from, flag_at, with_opened, bus_view_at, positioned_at}
 use Rattle.grid_core.proofs.Asking.{open_found}
 use Rattle.grid_core.proofs.Planned.{bus_view-positioned}

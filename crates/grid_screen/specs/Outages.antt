@@ -3,8 +3,8 @@ use Rattle.std.specs.Prelude.{ℕ, Bool, not, ◌||◌, if◌then◌else◌, Opt
 use Rattle.grid_structure.specs.declared.Edit.TheVariants.{RemoveEquipment}
 use Rattle.grid_structure.specs.Network.{Network}
 use Rattle.grid_structure.specs.Sites.{find_switch, sides}
-use Rattle.grid_core.specs.declared.request.Request.{Request}
-use Rattle.grid_core.specs.declared.request.Request.TheVariants.{OpenSwitch, Change}
+use Rattle.grid_requests.specs.declared.request.Request.{Request}
+use Rattle.grid_requests.specs.declared.request.Request.TheVariants.{OpenSwitch, Change}
 use Rattle.grid_core.specs.Solo.{State, solo}
 
 -- a switch has the id

@@ -9,7 +9,7 @@ use Rattle.std.proofs.lemmas.Option.{slice_get_past}
 use mathlib.Core.List.{IsPrefix}
 use native.Mathlib.Decide.{dec_le}
 use Rattle.grid_structure.specs.Network.{Network}
-use Rattle.grid_core.specs.declared.request.Request.{Request}
+use Rattle.grid_requests.specs.declared.request.Request.{Request}
 use Rattle.grid_core.specs.History.{History, Command, IsHistory, asked_by}
 use Rattle.grid_core.specs.Worlds.{begun}
 use Rattle.grid_manager.specs.declared.view.Known.{Known}

@@ -2,7 +2,7 @@
 use Rattle.std.specs.Prelude.{◌≡◌, ℕ, ◌<◌, Bool, true, false, List, [], length, reverse, slice_get, unwrap_or}
 use mathlib.Core.List.{IsPrefix}
 use Rattle.grid_structure.specs.Network.{Network}
-use Rattle.grid_core.specs.declared.request.Request.{Request}
+use Rattle.grid_requests.specs.declared.request.Request.{Request}
 use Rattle.grid_core.specs.History.{History, IsHistory, asked_by}
 
 -- a worker's script; a worker beyond the scripts has none

@@ -3,7 +3,7 @@ use Rattle.std.proofs.lemmas.Int.{to_z-of_z}
 use mir.Syntax.{w64}
 use Rattle.grid_level.specs.Passing.{positioned}
 use Rattle.grid_connect.specs.Plans.{connect_plan_of, disconnect_plan_of}
-use Rattle.grid_core.specs.declared.request.Request.TheVariants as requests
+use Rattle.grid_requests.specs.declared.request.Request.TheVariants as requests
 use Rattle.grid_core.specs.declared.verdict.Verdict.{Verdict}
 use Rattle.grid_core.specs.Solo.{state_seen, site_of_side, level_at}
 use Rattle.grid_core.specs.Verdicts.{IsVerdict, operating}

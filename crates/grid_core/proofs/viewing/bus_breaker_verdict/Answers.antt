@@ -3,7 +3,7 @@ use Rattle.grid_level.specs.Passing.{stood}
 use Rattle.grid_states.specs.Rows.{row_at}
 use Rattle.grid_busbreaker.specs.declared.BusBreakerView.{BusBreakerView}
 use Rattle.grid_busbreaker.specs.Views.{bus_breaker_view_of}
-use Rattle.grid_core.specs.declared.request.Request.TheVariants as requests
+use Rattle.grid_requests.specs.declared.request.Request.TheVariants as requests
 use Rattle.grid_core.specs.declared.reply.Reply.TheVariants as replies
 use Rattle.grid_core.specs.declared.verdict.Verdict.TheVariants as verdicts
 use Rattle.grid_core.specs.Solo.{state_seen, level_at}

@@ -4,7 +4,7 @@ use Rattle.grid_level.specs.Passing.{positioned}
 use Rattle.grid_busview.specs.declared.BusView.{BusView}
 use Rattle.grid_busview.specs.Views.{bus_view_of}
 use Rattle.grid_watts.specs.Watts.{level_watts}
-use Rattle.grid_core.specs.declared.request.Request.TheVariants as requests
+use Rattle.grid_requests.specs.declared.request.Request.TheVariants as requests
 use Rattle.grid_core.specs.declared.reply.Reply.TheVariants as replies
 use Rattle.grid_core.specs.declared.verdict.Verdict.TheVariants as verdicts
 use Rattle.grid_core.specs.Solo.{state_seen, level_at}

@@ -1,6 +1,6 @@
 use Rattle.std.proofs.Common.{sym, subst, List}
 use Rattle.grid_islands.specs.declared.BusComponent.{BusComponent}
-use Rattle.grid_core.specs.declared.request.Request.TheVariants as requests
+use Rattle.grid_requests.specs.declared.request.Request.TheVariants as requests
 use Rattle.grid_core.specs.declared.reply.Reply.TheVariants as replies
 use Rattle.grid_core.specs.declared.verdict.Verdict.TheVariants as verdicts
 use Rattle.grid_core.specs.Solo.{state_seen, level_at}

@@ -6,7 +6,7 @@ use Rattle.grid_core.specs.declared.reply.Reply.TheVariants.{Totals}
 use Rattle.grid_core.specs.Made.{made_of}
 use Rattle.grid_core.proofs.Making.{each_ok}
 use Rattle.grid_core.proofs.Flagging.{of_variant, powers_within, dead_made}
-use Rattle.grid_core.specs.declared.request.Request.TheVariants as requests
+use Rattle.grid_requests.specs.declared.request.Request.TheVariants as requests
 use Rattle.grid_core.proofs.Setting.{totals_made}
 use Rattle.grid_core.proofs.machine.Machine.ask_totals.Goals as goal
 

@@ -9,7 +9,7 @@ use Rattle.grid_powers.specs.Listed.{PowerList}
 use Rattle.grid_watts.specs.Watts.{watts_at}
 use Rattle.grid_watts.specs.Moves.{set_to}
 use Rattle.grid_watts.specs.Ranges.{HasRoom, is_narrow}
-use Rattle.grid_core.specs.declared.request.Request.TheVariants as requests
+use Rattle.grid_requests.specs.declared.request.Request.TheVariants as requests
 use Rattle.grid_core.proofs.Making.{each_ok, any_err}
 use Rattle.grid_core.proofs.Flagging.{of_variant, powers_within, dead_made, same_get}
 use Rattle.grid_core.proofs.Moving.{all_room}
