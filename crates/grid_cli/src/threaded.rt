@@ -13,7 +13,7 @@ use crate::words::{Form, read_words};
 use grid_ids::Memory;
 use grid_json::Job;
 use grid_manager::Gate;
-use grid_report::write_report;
+use grid_report::write_report_on_threads;
 use grid_source::{Sink, Source};
 use grid_workers::run_scripts;
 use std::alloc::Global;
@@ -126,7 +126,7 @@ fn write_run<R: Threads + Wait + Sync, K: Sink, G: Gate>(
     ensures stays { result ≢ Status.WriteFault → K.faults sink.new ≡ K.faults sink.old }
 {
     match run_job_on_threads(rt, alloc, job, gate) {
-        Ok(outcome) => status_of(write_report(alloc, &outcome, sink)),
+        Ok(outcome) => status_of(write_report_on_threads(rt, alloc, &outcome, sink)),
         Err(Memory) => Status::NoMemory,
     }
 }

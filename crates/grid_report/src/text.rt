@@ -122,6 +122,14 @@ impl Shown for u16 {
     }
 }
 
+impl Shown for Text {
+    ghost shown = { λ t. t };
+
+    fn show(&self, out: &mut Text) -> Result<(), Memory> {
+        out.put(self.bytes.as_str())
+    }
+}
+
 impl Shown for Id {
     ghost shown = { λ i. i };
 
