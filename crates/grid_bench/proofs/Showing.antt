@@ -3,12 +3,13 @@ use Rattle.std.proofs.Common.{◌≡◌, refl, sym, ap, ◌∙◌, subst, ℕ, �
 use Rattle.std.specs.Prelude.{eqb, map, filter}
 use Rattle.std.specs.List.{list_any, zip}
 use Rattle.grid_graph.specs.Joined.{least_nodes, group_of}
+use Rattle.grid_graph.specs.Graph.{labels_of}
 use Rattle.grid_level.specs.declared.Placed.{Placed}
 use Rattle.grid_level.specs.declared.Switch.{Switch}
 use Rattle.grid_level.specs.VoltageLevel.{VoltageLevel}
 use Rattle.grid_level.specs.Passing.{nodes, bus, passing, positioned, placed_among, switch_edge, internal_edge, ends}
 use Rattle.grid_groups.specs.Groups.{group_under, leaders, terminals_at}
-use Rattle.grid_groups.specs.Labels.{passing_where}
+use Rattle.grid_groups.specs.Labels.{passing_where, graph_among, graph_under}
 use Rattle.grid_groups.proofs.Standing.{nodes-positioned, passing_bus}
 use Rattle.grid_busview.specs.declared.ViewBus.{ViewBus}
 use Rattle.grid_busview.specs.declared.BusView.{BusView}
@@ -51,6 +52,14 @@ passing_as level other opened e same =
 
 nodes_as : (level other : VoltageLevel) (opened : List Bool) → SameEnds level other → nodes (positioned level opened) ≡ nodes (positioned other opened)
 nodes_as level other opened same = nodes-positioned level opened ∙ same.same_nodes ∙ sym (nodes-positioned other opened)
+
+-- levels with the same ends have the same labels
+pub labels_as : (level other : VoltageLevel) (opened : List Bool) → length opened ≡ length level.switches → SameEnds level other
+    → labels_of (graph_under bus (positioned level opened)) ≡ labels_of (graph_under bus (positioned other opened))
+unfolding graph_under
+labels_as level other opened e same =
+    ap (λ z. labels_of (graph_among z (passing bus (positioned level opened)))) (nodes_as level other opened same)
+    ∙ ap (λ z. labels_of (graph_among (nodes (positioned other opened)) z)) (passing_as level other opened e same)
 
 -- ---- the view by its terminals, its nodes and the pairs that pass
 

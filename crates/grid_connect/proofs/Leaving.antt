@@ -1,24 +1,28 @@
 -- What leaves the marked nodes leaves the core.
-use Rattle.std.proofs.Common.{◌≡◌, refl, sym, ap, ◌∙◌, subst, ℕ, zero, suc, ◌+◌, ◌<◌, ◌≤◌, Bool, true, false, cond, not, ◌&&◌, ◌||◌, List, [], ◌∷◌, ◌++◌, length, arith, take, get_or, length-append}
+use Rattle.std.proofs.Common.{◌≡◌, refl, sym, ap, ◌∙◌, subst, ℕ, zero, suc, ◌+◌, ◌<◌, ◌≤◌, Bool, true, false, cond, ◌&&◌, ◌||◌, List, [], ◌∷◌, ◌++◌, length, arith, take, get_or, length-append}
 use Rattle.std.specs.Prelude.{Option, Some, None, eqb, map, filter, find}
 use Rattle.std.specs.List.{list_any, enumerate_from}
 use Rattle.std.proofs.lemmas.List.{take_more, length-take, length-map}
+use Rattle.std.proofs.lemmas.List.Folds.{list_any_at, list_any_more}
+use Rattle.grid_graph.specs.Graph.{labels_of}
 use Rattle.grid_graph.proofs.Reach.{In}
 use Rattle.grid_level.specs.declared.Switch.{Switch}
 use Rattle.grid_level.specs.declared.Placed.{Placed}
 use Rattle.grid_level.specs.VoltageLevel.{VoltageLevel}
 use Rattle.grid_level.specs.Passing.{bus, switch_edge, internal_edge, edges, nodes, positioned, with_opened, joined_under, is_connected, is_busbar, is_operable, placed_among}
 use Rattle.grid_level.specs.Kept.{KeepsLimits}
+use Rattle.grid_groups.specs.Labels.{graph_under, label_of}
 use Rattle.grid_groups.proofs.Indices.{among_In}
 use Rattle.grid_groups.proofs.Lists.{get_or_any}
 use Rattle.grid_groups.proofs.Placing.{placed_node}
 use Rattle.grid_groups.proofs.Steps.{switch_at}
+use Rattle.grid_groups.proofs.Under.{bus_stands}
 use Rattle.grid_paths.specs.Paths.{has_node}
 use Rattle.grid_paths.proofs.Least.{some_same}
 use Rattle.grid_connect.specs.Plans.{core_of, core_busbar, leaves_core, leaving, opens_or, disconnect_plan_of}
 use Rattle.grid_connect.specs.declared.DisconnectPlan.TheVariants.{Opens, AlreadyDisconnected, NoBreaker}
-use Rattle.grid_connect.specs.Indexed.{marks_where, core_flags, is_marked, marked_busbar, leaves_marked, leaving_marked}
-use Rattle.grid_connect.proofs.Marks.{bus_mark, core_mark, connected_any}
+use Rattle.grid_connect.specs.Indexed.{marks_where, core_flags, is_marked, marked_busbar, labelled_busbar, leaves_marked, leaving_marked}
+use Rattle.grid_connect.proofs.Marks.{one_label, core_mark, connected_any}
 
 -- ---- the switches that leave
 
@@ -56,32 +60,13 @@ bars_by core ns marks (p ∷ all) h =
     ∙ ap (λ z. cond (list_any (eqb p.node) core && is_busbar p.stand) (Some p) z) (bars_by core ns marks all (λ j d lt. h (suc j) d (omega arith)))
     ∙ bar_by (list_any (eqb p.node) core) p (filter (λ p. list_any (λ n. eqb p.node n) core) all)
 
-found_by : (t : Bool) (p : Placed) (rest : Option Placed) (any : Bool) → (rest ≡ None → any ≡ false) → cond t (Some p) rest ≡ None → t || any ≡ false
-found_by true p rest any h e = absurd (let k : Some p ≡ None = e in cc)
-found_by false p rest any h e = h e
-
-none_any : (test : Placed → Bool) (all : List Placed) → find test all ≡ None → list_any test all ≡ false
-none_any test [] e = refl
-none_any test (p ∷ all) e = found_by (test p) p (find test all) (list_any test all) (none_any test all) e
-
-some_by : (t : Bool) (p x : Placed) (rest : Option Placed) (any : Bool) → (rest ≡ Some x → any ≡ true) → cond t (Some p) rest ≡ Some x → t || any ≡ true
-some_by true p x rest any h e = refl
-some_by false p x rest any h e = h e
-
-some_any : (test : Placed → Bool) (all : List Placed) (x : Placed) → find test all ≡ Some x → list_any test all ≡ true
-some_any test [] x e = absurd (let k : None ≡ Some x = e in cc)
-some_any test (p ∷ all) x e = some_by (test p) p x (find test all) (list_any test all) (some_any test all x) e
-
 any_same : (p q : Placed → Bool) (all : List Placed) → ((j : ℕ) (d : Placed) → j < length all → p (get_or all j d) ≡ q (get_or all j d)) → list_any p all ≡ list_any q all
 any_same p q [] h = refl
 any_same p q (x ∷ all) h = ap (λ t. t || list_any p all) (h 0 x (omega arith)) ∙ ap (λ t. q x || t) (any_same p q all (λ j d lt. h (suc j) d (omega arith)))
 
--- the marks of the core, and of the nodes joined by closed switches
+-- the marks of the core
 abbrev pub core_marks : VoltageLevel → List Bool → ℕ → List Bool
 core_marks level flags a = marks_where level (core_flags level.switches flags) a
-
-abbrev pub bus_marks : VoltageLevel → List Bool → ℕ → List Bool
-bus_marks level flags a = marks_where level (map not flags) a
 
 module _ (level : VoltageLevel) (flags : List Bool) (a : ℕ) (keeps : KeepsLimits level) (long : length flags ≡ length level.switches) (here : In a (nodes level)) where
   pub leaving_same : leaving_marked (nodes level) (core_marks level flags a) 0 level.switches flags ≡ leaving (positioned level flags) (core_of (positioned level flags) a)
@@ -97,20 +82,15 @@ module _ (level : VoltageLevel) (flags : List Bool) (a : ℕ) (keeps : KeepsLimi
   unfolding core_busbar placed_among positioned
   bar_same = bars_by (core_of (positioned level flags) a) (nodes level) (core_marks level flags a) level.placed (λ j d lt. core_mark level flags a (get_or level.placed j d).node keeps long here (placed_node level keeps j d lt))
 
-  connected_is : is_connected (positioned level flags) a ≡ list_any (λ p. is_marked (nodes level) (bus_marks level flags a) p.node && is_busbar p.stand) level.placed
-  unfolding positioned
-  connected_is =
-      connected_any (positioned level flags) a
-      ∙ sym (any_same (λ p. is_marked (nodes level) (bus_marks level flags a) p.node && is_busbar p.stand) (λ p. joined_under bus (positioned level flags) a p.node && is_busbar p.stand) level.placed
-      (λ j d lt. ap (λ t. t && is_busbar (get_or level.placed j d).stand) (bus_mark level flags a (get_or level.placed j d).node keeps long here (placed_node level keeps j d lt))))
-
-  pub connected_some : (x : Placed) → marked_busbar (nodes level) (bus_marks level flags a) level.placed ≡ Some x → is_connected (positioned level flags) a ≡ true
-  unfolding marked_busbar
-  connected_some x e = connected_is ∙ some_any (λ p. is_marked (nodes level) (bus_marks level flags a) p.node && is_busbar p.stand) level.placed x e
-
-  pub connected_none : marked_busbar (nodes level) (bus_marks level flags a) level.placed ≡ None → is_connected (positioned level flags) a ≡ false
-  unfolding marked_busbar
-  connected_none e = connected_is ∙ none_any (λ p. is_marked (nodes level) (bus_marks level flags a) p.node && is_busbar p.stand) level.placed e
+  -- by one label per node
+  pub connected_labelled : (labels : List ℕ) → labels ≡ labels_of (graph_under bus (positioned level flags)) → labelled_busbar (nodes level) labels (label_of (nodes level) labels a) level.placed ≡ is_connected (positioned level flags) a
+  unfolding labelled_busbar positioned
+  connected_labelled labels e =
+      any_same (λ p. eqb (label_of (nodes level) labels p.node) (label_of (nodes level) labels a) && is_busbar p.stand) (λ p. joined_under bus (positioned level flags) a p.node && is_busbar p.stand) level.placed
+      (λ j d lt.
+      ap (λ t. t && is_busbar (get_or level.placed j d).stand)
+      (one_label bus level (positioned level flags) labels a (get_or level.placed j d).node keeps (bus_stands level flags keeps long) e here (placed_node level keeps j d lt)))
+      ∙ sym (connected_any (positioned level flags) a)
 
 -- ---- the loops
 
@@ -190,6 +170,26 @@ bar_on ns marks all i p t lt e n f h =
 pub bar_start : (ns : List ℕ) (marks : List Bool) (all : List Placed) → marked_busbar ns marks (take 0 all) ≡ None
 unfolding marked_busbar
 bar_start ns marks all = refl
+
+pub labelled_none : (ns labels : List ℕ) (own : ℕ) (all : List Placed) → labelled_busbar ns labels own (take 0 all) ≡ false
+unfolding labelled_busbar
+labelled_none ns labels own all = refl
+
+module _ (ns labels : List ℕ) (own : ℕ) (all : List Placed) (i : ℕ) (p : Placed) (t : Bool) (lt : i < length all) (at : p ≡ get_or all i p)
+    (test : t ≡ (eqb (label_of ns labels p.node) own && is_busbar p.stand)) where
+  labelled_at : t ≡ (eqb (label_of ns labels (get_or all i p).node) own && is_busbar (get_or all i p).stand)
+  labelled_at = let P : Placed → Type 0 = λ z. t ≡ (eqb (label_of ns labels z.node) own && is_busbar z.stand) in subst P at test
+
+  pub labelled_found : t ≡ true → labelled_busbar ns labels own all ≡ true
+  unfolding labelled_busbar
+  labelled_found h = list_any_at (λ p. eqb (label_of ns labels p.node) own && is_busbar p.stand) all i p lt (sym labelled_at ∙ h)
+
+  pub labelled_on : labelled_busbar ns labels own (take i all) ≡ false → t ≡ false → labelled_busbar ns labels own (take (i + 1) all) ≡ false
+  unfolding labelled_busbar
+  labelled_on so_far h =
+      list_any_more (λ p. eqb (label_of ns labels p.node) own && is_busbar p.stand) all i p lt
+      ∙ ap (λ z. z || (eqb (label_of ns labels (get_or all i p).node) own && is_busbar (get_or all i p).stand)) so_far
+      ∙ sym labelled_at ∙ h
 
 -- ---- the plan
 

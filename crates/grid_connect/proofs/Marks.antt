@@ -7,17 +7,19 @@ use Rattle.std.proofs.lemmas.Slice.Zip.{length-zip}
 use Rattle.std.proofs.lemmas.List.{get_or-map, length-map}
 use Rattle.grid_graph.specs.Joined.{joined}
 use Rattle.grid_graph.specs.Graph.{labels_of}
+use Rattle.grid_graph.proofs.Renamed.{EndsIn}
 use Rattle.grid_graph.proofs.Reach.{In, In_here, In_there, In_right, any_from, any_of, or_left, or_right}
 use Rattle.grid_level.specs.declared.Switch.{Switch}
 use Rattle.grid_level.specs.declared.Placed.{Placed}
 use Rattle.grid_level.specs.VoltageLevel.{VoltageLevel}
 use Rattle.grid_level.specs.Passing.{Rule, bus, core, named, nodes, passing, positioned, joined_under, is_connected, carries_busbar, is_busbar, is_operable, stands_at}
 use Rattle.grid_level.specs.Kept.{KeepsLimits}
-use Rattle.grid_groups.specs.Labels.{index_in, graph_among, label_of, labels_where, passing_where}
+use Rattle.grid_groups.specs.Labels.{index_in, graph_under, label_of, labels_where, passing_where}
 use Rattle.grid_groups.proofs.Lists.{same_test, In_filtered}
 use Rattle.grid_groups.proofs.Indices.{at_index, index_below}
 use Rattle.grid_groups.proofs.Bridge.{labels_long, same_label}
-use Rattle.grid_groups.proofs.Standing.{nodes-positioned, passing_bus, passing_core, passing_ends}
+use Rattle.grid_groups.proofs.Standing.{nodes-positioned, passing_core, passing_ends}
+use Rattle.grid_groups.proofs.Under.{Stands, labels-where, among as labelled_among}
 use Rattle.grid_paths.specs.Paths.{has_node}
 use Rattle.grid_connect.proofs.Connecting.{In_rising}
 use Rattle.grid_connect.specs.Plans.{core_of}
@@ -40,38 +42,43 @@ core_long switches states e =
     let a = length-map (zip switches states) (λ (pair : Switch × Bool). not pair.1 && not (is_operable pair.0)) in
     omega (arith, a, length-zip switches states, e)
 
--- a node is marked where it is joined
-mark_is : (level : VoltageLevel) (passes : List Bool) (rule : Rule) (now : VoltageLevel) (a u : ℕ) → KeepsLimits level → nodes now ≡ nodes level → passing rule now ≡ passing_where level passes
-    → In a (nodes level) → In u (nodes level) → is_marked (nodes level) (marks_where level passes a) u ≡ joined_under rule now a u
-unfolding marks_where labels_where label_of joined_under
-mark_is level passes rule now a u keeps same pairs i j =
+-- two nodes have one label where they are joined
+pub one_label : (rule : Rule) (level stands : VoltageLevel) (labels : List ℕ) (a u : ℕ) → KeepsLimits level → Stands rule level stands → labels ≡ labels_of (graph_under rule stands) → In a (nodes level) → In u (nodes level)
+    → eqb (label_of (nodes level) labels u) (label_of (nodes level) labels a) ≡ joined_under rule stands a u
+unfolding label_of joined_under
+one_label rule level stands labels a u keeps s e i j =
     let ns = nodes level in
-    let ps = passing_where level passes in
-    let ends = passing_ends level passes keeps.ends_are_nodes in
-    let labels = labels_of (graph_among ns ps) in
+    let ps = passing rule stands in
     let k = index_in ns u in
-    let l = index_in ns a in
-    let below = index_below u ns j in
-    let long = labels_long ns ps keeps.nodes_rise ends labels refl in
-    get_or-map (λ label. eqb label (get_or labels l 0)) labels k 0 false (omega (arith, below, long))
-    ∙ same_label ns ps keeps.nodes_rise ends labels refl l k (index_below a ns i) below
+    same_label ns ps keeps.nodes_rise s.ends_in labels (labelled_among rule level stands labels keeps s e) (index_in ns a) k (index_below a ns i) (index_below u ns j)
     ∙ ap (λ z. joined ns ps z (get_or ns k 0)) (at_index a ns i)
     ∙ ap (joined ns ps a) (at_index u ns j)
-    ∙ ap (λ z. joined ns z a u) (sym pairs)
-    ∙ ap (λ z. joined z (passing rule now) a u) (sym same)
+    ∙ ap (λ z. joined z ps a u) (sym s.same_nodes)
 
-pub bus_mark : (level : VoltageLevel) (flags : List Bool) (a u : ℕ) → KeepsLimits level → length flags ≡ length level.switches → In a (nodes level) → In u (nodes level)
-    → is_marked (nodes level) (marks_where level (map not flags) a) u ≡ joined_under bus (positioned level flags) a u
-bus_mark level flags a u keeps e i j = mark_is level (map not flags) bus (positioned level flags) a u keeps (nodes-positioned level flags) (passing_bus level flags e) i j
+core_stands : (level : VoltageLevel) (flags : List Bool) → KeepsLimits level → length flags ≡ length level.switches → Stands core level (positioned level flags)
+unfolding positioned
+core_stands level flags keeps e =
+    let P : List (ℕ × ℕ) → Type 0 = λ z. EndsIn (nodes level) z in
+    record {
+      same_nodes = nodes-positioned level flags;
+      same_placed = refl;
+      ends_in = subst P (sym (passing_core level flags e)) (passing_ends level (core_flags level.switches flags) keeps.ends_are_nodes);
+    }
 
 -- a node is marked where it is in the core
 pub core_mark : (level : VoltageLevel) (flags : List Bool) (a u : ℕ) → KeepsLimits level → length flags ≡ length level.switches → In a (nodes level) → In u (nodes level)
     → is_marked (nodes level) (marks_where level (core_flags level.switches flags) a) u ≡ has_node (core_of (positioned level flags) a) u
-unfolding core_of has_node
+unfolding marks_where label_of core_of has_node
 core_mark level flags a u keeps e i j =
     let now = positioned level flags in
+    let passes = core_flags level.switches flags in
+    let labels = labels_where level passes in
+    let k = index_in (nodes level) u in
+    let below = index_below u (nodes level) j in
+    let long = labels_full level passes labels keeps refl in
     let P : List ℕ → Type 0 = λ z. In u z in
-    mark_is level (core_flags level.switches flags) core now a u keeps (nodes-positioned level flags) (passing_core level flags e) i j
+    get_or-map (λ label. eqb label (label_of (nodes level) labels a)) labels k 0 false (omega (arith, below, long))
+    ∙ one_label core level now labels a u keeps (core_stands level flags keeps e) (labels-where core level now passes labels (nodes-positioned level flags) (passing_core level flags e) refl) i j
     ∙ sym (In_filtered (joined_under core now a) u (nodes now) (subst P (sym (nodes-positioned level flags)) j))
 
 -- ---- connected where a busbar section is marked

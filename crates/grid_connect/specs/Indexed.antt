@@ -1,6 +1,6 @@
 -- A level's nodes by their indices: its edges as edges of paths, and one mark per node.
 use Rattle.std.specs.Prelude.{◌≡◌, ℕ, ◌+◌, Bool, not, ◌&&◌, ◌||◌, ◌==◌, if◌then◌else◌, IsTrue, Option, List, [], ◌∷◌, map, find}
-use Rattle.std.specs.List.{zip}
+use Rattle.std.specs.List.{zip, list_any}
 use Rattle.grid_paths.specs.declared.Way.{Way}
 use Rattle.grid_paths.specs.declared.Way.TheVariants.{Free, Closable, Barred}
 use Rattle.grid_paths.specs.declared.PathEdge.{PathEdge}
@@ -58,6 +58,10 @@ is_marked ns marks node = is_goal marks (index_in ns node)
 -- the first busbar section at a marked node
 unfoldable pub marked_busbar : List ℕ → List Bool → List Placed → Option Placed
 marked_busbar ns marks placed = find (λ p. is_marked ns marks p.node && is_busbar p.stand) placed
+
+-- a busbar section stands at a node with this label
+unfoldable pub labelled_busbar : List ℕ → List ℕ → ℕ → List Placed → Bool
+labelled_busbar ns labels own placed = list_any (λ p. (label_of ns labels p.node == own) && is_busbar p.stand) placed
 
 -- a closed operable breaker with exactly one marked end
 abbrev pub leaves_marked : List ℕ → List Bool → Switch → Bool → Bool

@@ -1,18 +1,21 @@
 // The plan that connects a node.
 ghost use Rattle.std.specs.Prelude.{◌≡◌, ◌<◌, ◌≤◌, ◌||◌, ◌&&◌, ◌==◌, ◌∷◌, ◌++◌, ℕ, List, length, map, filter, IfOk, OnOk, IsTrue, false, slice_index_or};
+ghost use Rattle.grid_graph.specs.Graph.{labels_of};
 ghost use Rattle.grid_level.specs.Kept.{among};
 ghost use Rattle.grid_level.specs.Passing as passing;
-ghost use Rattle.grid_level.specs.Passing.{nodes, positioned};
+ghost use Rattle.grid_level.specs.Passing.{nodes, bus, positioned};
+ghost use Rattle.grid_groups.specs.Labels.{graph_under};
 ghost use Rattle.grid_paths.specs.Routes.{is_goal};
 ghost use Rattle.grid_connect.specs.Plans.{connect_plan_of};
 ghost use Rattle.grid_connect.specs.Effects.{Connects};
 ghost use Rattle.grid_connect.specs.Indexed.{way_through, switch_path_edge, internal_path_edge, switch_path_edges, path_edges_of, AreBusbars};
 
 use crate::ConnectPlan;
-use crate::joined::{is_busbar, is_connected};
+use crate::joined::{is_busbar, is_connected, is_connected_by};
 use grid_groups::{NodeIndices, index_of};
 use grid_ids::Memory;
 use grid_kinds::SwitchKind;
+use grid_labels::Labels;
 use grid_level::{Internal, Level, Switch};
 use grid_paths::{PathEdge, Places, Way, least_path};
 use std::alloc::Global;
@@ -161,6 +164,43 @@ fn open_places(alloc: Global, states: &[bool], path: &[u32]) -> Result<Places, M
     Ok(opens)
 }
 
+// The plan that connects a node, of which it is known whether it is connected.
+fn connect_unless(
+    alloc: Global,
+    level: &Level,
+    states: &[bool],
+    node: u16,
+    connected: bool,
+) -> Result<ConnectPlan, Memory>
+    requires flags { length states.now ≡ length level.now.switches }
+    requires node { IsTrue (among (nodes level.now) node) }
+    requires connected { connected ≡ passing.is_connected (positioned level.now states.now) node }
+    ensures plan { IfOk result (λ plan. plan
+        ≡ connect_plan_of (positioned level.now states.now) node) }
+    ensures connects { IfOk result (λ plan. Connects (positioned level.now states.now) node plan) }
+{
+    level.keeps();
+    if connected {
+        return Ok(ConnectPlan::AlreadyConnected);
+    }
+    let indices = NodeIndices::of(alloc, level)?;
+    let edges = path_edges(alloc, &indices, states)?;
+    let goals = busbars(alloc, level)?;
+    match least_path(
+        alloc,
+        level.node_count(),
+        edges.as_slice(),
+        index_of(level, node),
+        goals.as_slice(),
+    )? {
+        Some(path) => {
+            let opens = open_places(alloc, states, path.slice())?;
+            Ok(ConnectPlan::Close(opens))
+        }
+        None => Ok(ConnectPlan::NoPath),
+    }
+}
+
 /// What connects a node of the level, with its switches in these positions, one flag per switch, true for open. Of the
 /// paths from the node to a busbar section over internal connections, closed switches and open breakers that are not
 /// fictitious, it takes the one with the least count of open breakers, then of edges, then the least list of places.
@@ -177,24 +217,26 @@ pub fn plan_connect(
         ≡ connect_plan_of (positioned level.now states.now) node) }
     ensures connects { IfOk result (λ plan. Connects (positioned level.now states.now) node plan) }
 {
-    level.keeps();
-    let indices = NodeIndices::of(alloc, level)?;
-    if is_connected(alloc, &indices, states, node)? {
-        return Ok(ConnectPlan::AlreadyConnected);
-    }
-    let edges = path_edges(alloc, &indices, states)?;
-    let goals = busbars(alloc, level)?;
-    match least_path(
-        alloc,
-        level.node_count(),
-        edges.as_slice(),
-        index_of(level, node),
-        goals.as_slice(),
-    )? {
-        Some(path) => {
-            let opens = open_places(alloc, states, path.slice())?;
-            Ok(ConnectPlan::Close(opens))
-        }
-        None => Ok(ConnectPlan::NoPath),
-    }
+    let connected = is_connected(alloc, level, states, node)?;
+    connect_unless(alloc, level, states, node, connected)
+}
+
+/// The same plan by labels that are kept: those of the level's nodes, by index, where the closed switches pass. Where the
+/// node is connected, it searches nothing.
+pub fn plan_connect_from(
+    alloc: Global,
+    level: &Level,
+    states: &[bool],
+    node: u16,
+    labels: &Labels,
+) -> Result<ConnectPlan, Memory>
+    requires flags { length states.now ≡ length level.now.switches }
+    requires node { IsTrue (among (nodes level.now) node) }
+    requires labels { labels.now ≡ labels_of (graph_under bus (positioned level.now states.now)) }
+    ensures plan { IfOk result (λ plan. plan
+        ≡ connect_plan_of (positioned level.now states.now) node) }
+    ensures connects { IfOk result (λ plan. Connects (positioned level.now states.now) node plan) }
+{
+    let connected = is_connected_by(level, states, labels.numbers(), node);
+    connect_unless(alloc, level, states, node, connected)
 }

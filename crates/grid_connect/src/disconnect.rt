@@ -1,16 +1,20 @@
 // The plan that disconnects a node.
 ghost use Rattle.std.specs.Prelude.{◌≡◌, length, IfOk, IsTrue};
+ghost use Rattle.grid_graph.specs.Graph.{labels_of};
 ghost use Rattle.grid_level.specs.Kept.{among};
-ghost use Rattle.grid_level.specs.Passing.{nodes, positioned};
+ghost use Rattle.grid_level.specs.Passing as passing;
+ghost use Rattle.grid_level.specs.Passing.{nodes, bus, positioned};
+ghost use Rattle.grid_groups.specs.Labels.{graph_under};
 ghost use Rattle.grid_connect.specs.Plans.{disconnect_plan_of};
 ghost use Rattle.grid_connect.specs.Effects.{Disconnects};
 ghost use Rattle.grid_connect.specs.Indexed.{core_flags, leaves_marked, leaving_marked};
 
 use crate::DisconnectPlan;
 use crate::connect::is_operable;
-use crate::joined::{first_busbar, has_mark, is_connected, joined_to};
+use crate::joined::{first_busbar, has_mark, is_connected, is_connected_by, joined_to};
 use grid_groups::NodeIndices;
 use grid_ids::{Duplicate, Memory};
+use grid_labels::Labels;
 use grid_level::{Level, Switch};
 use grid_paths::Places;
 use std::alloc::Global;
@@ -65,6 +69,34 @@ fn leaving(
     Ok(places)
 }
 
+// The plan that disconnects a node, of which it is known whether it is connected.
+fn disconnect_if(
+    alloc: Global,
+    level: &Level,
+    states: &[bool],
+    node: u16,
+    connected: bool,
+) -> Result<DisconnectPlan, Memory>
+    requires flags { length states.now ≡ length level.now.switches }
+    requires node { IsTrue (among (nodes level.now) node) }
+    requires connected { connected ≡ passing.is_connected (positioned level.now states.now) node }
+    ensures plan { IfOk result (λ plan. plan
+        ≡ disconnect_plan_of (positioned level.now states.now) node) }
+    ensures disconnects { IfOk result (Disconnects (positioned level.now states.now) node) }
+{
+    level.keeps();
+    if !connected {
+        return Ok(DisconnectPlan::AlreadyDisconnected);
+    }
+    let closed = closed_core(alloc, level, states)?;
+    let core = joined_to(alloc, level, closed.as_slice(), node)?;
+    let indices = NodeIndices::of(alloc, level)?;
+    match first_busbar(&indices, core.as_slice()) {
+        Some(placed) => Ok(DisconnectPlan::NoBreaker(placed.terminal.copy()?)),
+        None => Ok(DisconnectPlan::Opens(leaving(alloc, &indices, states, core.as_slice())?)),
+    }
+}
+
 /// What disconnects a node of the level, with its switches in these positions, one flag per switch, true for open. The
 /// core is the nodes joined to the node by internal connections and by closed switches other than breakers that are not
 /// fictitious; the plan opens each of these breakers that leaves the core. Where the core has a busbar section, no
@@ -81,15 +113,26 @@ pub fn plan_disconnect(
         ≡ disconnect_plan_of (positioned level.now states.now) node) }
     ensures disconnects { IfOk result (Disconnects (positioned level.now states.now) node) }
 {
-    level.keeps();
-    let indices = NodeIndices::of(alloc, level)?;
-    if !is_connected(alloc, &indices, states, node)? {
-        return Ok(DisconnectPlan::AlreadyDisconnected);
-    }
-    let closed = closed_core(alloc, level, states)?;
-    let core = joined_to(alloc, level, closed.as_slice(), node)?;
-    match first_busbar(&indices, core.as_slice()) {
-        Some(placed) => Ok(DisconnectPlan::NoBreaker(placed.terminal.copy()?)),
-        None => Ok(DisconnectPlan::Opens(leaving(alloc, &indices, states, core.as_slice())?)),
-    }
+    let connected = is_connected(alloc, level, states, node)?;
+    disconnect_if(alloc, level, states, node, connected)
+}
+
+/// The same plan by labels that are kept: those of the level's nodes, by index, where the closed switches pass. Where the
+/// node is not connected, it searches nothing.
+pub fn plan_disconnect_from(
+    alloc: Global,
+    level: &Level,
+    states: &[bool],
+    node: u16,
+    labels: &Labels,
+) -> Result<DisconnectPlan, Memory>
+    requires flags { length states.now ≡ length level.now.switches }
+    requires node { IsTrue (among (nodes level.now) node) }
+    requires labels { labels.now ≡ labels_of (graph_under bus (positioned level.now states.now)) }
+    ensures plan { IfOk result (λ plan. plan
+        ≡ disconnect_plan_of (positioned level.now states.now) node) }
+    ensures disconnects { IfOk result (Disconnects (positioned level.now states.now) node) }
+{
+    let connected = is_connected_by(level, states, labels.numbers(), node);
+    disconnect_if(alloc, level, states, node, connected)
 }

@@ -1,10 +1,12 @@
 // The nodes that are joined to a node, and the busbar section among them.
 ghost use Rattle.std.specs.Prelude.{◌≡◌, ◌&&◌, ◌==◌, length, map, not, IfOk, IsTrue};
 ghost use Rattle.std.specs.Option.{option_copied};
+ghost use Rattle.grid_graph.specs.Graph.{labels_of};
 ghost use Rattle.grid_level.specs.Kept.{among};
 ghost use Rattle.grid_level.specs.Passing as passing;
-ghost use Rattle.grid_level.specs.Passing.{nodes, positioned};
-ghost use Rattle.grid_connect.specs.Indexed.{marks_where, is_marked, marked_busbar};
+ghost use Rattle.grid_level.specs.Passing.{nodes, bus, positioned};
+ghost use Rattle.grid_groups.specs.Labels.{graph_under, label_of};
+ghost use Rattle.grid_connect.specs.Indexed.{marks_where, is_marked, marked_busbar, labelled_busbar};
 
 use grid_groups::{NodeIndices, index_of, labels};
 use grid_ids::Memory;
@@ -37,6 +39,15 @@ fn equal_to(alloc: Global, labels: &[u32], own: u32) -> Result<Vec<bool>, Memory
     Ok(labels.iter().map(|label| *label == own).collect(alloc)?)
 }
 
+// The label of a node.
+fn label_at(level: &Level, labels: &[u32], node: u16) -> u32
+    requires node { IsTrue (among (nodes level.now) node) }
+    requires long { length labels.now ≡ length (nodes level.now) }
+    ensures { result ≡ label_of (nodes level.now) labels.now node }
+{
+    labels[index_of(level, node) as usize]
+}
+
 // Which nodes are joined to this one, where the switches whose flag is set pass.
 pub(crate) fn joined_to(
     alloc: Global,
@@ -51,7 +62,7 @@ pub(crate) fn joined_to(
 {
     level.keeps();
     let labels = labels(alloc, level, passes)?;
-    let own = labels[index_of(level, node) as usize];
+    let own = label_at(level, labels.as_slice(), node);
     equal_to(alloc, labels.as_slice(), own)
 }
 
@@ -91,21 +102,56 @@ pub(crate) fn first_busbar<'a>(indices: &NodeIndices<'a>, marks: &[bool]) -> Opt
     None
 }
 
-// Whether the node is joined to a busbar section over internal connections and closed switches.
+// Whether this is a busbar section at a node with this label.
+fn is_labelled_busbar(level: &Level, labels: &[u32], own: u32, placed: &Placed) -> bool
+    requires node { IsTrue (among (nodes level.now) placed.now.node) }
+    requires long { length labels.now ≡ length (nodes level.now) }
+    ensures { result
+        ≡ ((label_of (nodes level.now) labels.now placed.now.node == own) && passing.is_busbar
+        placed.now.stand) }
+{
+    is_busbar(&placed.stand) && label_at(level, labels, placed.node) == own
+}
+
+// Whether a busbar section stands at a node with this label.
+fn has_busbar(level: &Level, labels: &[u32], own: u32) -> bool
+    requires { length labels.now ≡ length (nodes level.now) }
+    ensures { result ≡ labelled_busbar (nodes level.now) labels.now own level.now.placed }
+{
+    level.keeps();
+    for placed in level.placed() {
+        if is_labelled_busbar(level, labels, own, placed) {
+            return true;
+        }
+    }
+    false
+}
+
+// Whether the node is joined to a busbar section over internal connections and closed switches, by labels of the level's
+// nodes, by index, where the closed switches pass.
+pub(crate) fn is_connected_by(level: &Level, states: &[bool], labels: &[u32], node: u16) -> bool
+    requires flags { length states.now ≡ length level.now.switches }
+    requires node { IsTrue (among (nodes level.now) node) }
+    requires labels { labels.now ≡ labels_of (graph_under bus (positioned level.now states.now)) }
+    ensures { result ≡ passing.is_connected (positioned level.now states.now) node }
+{
+    level.keeps();
+    has_busbar(level, labels, label_at(level, labels, node))
+}
+
+// The same, by labels that are made of the level.
 pub(crate) fn is_connected(
     alloc: Global,
-    indices: &NodeIndices,
+    level: &Level,
     states: &[bool],
     node: u16,
 ) -> Result<bool, Memory>
-    requires flags { length states.now ≡ length indices.now.switches }
-    requires node { IsTrue (among (nodes indices.now) node) }
+    requires flags { length states.now ≡ length level.now.switches }
+    requires node { IsTrue (among (nodes level.now) node) }
     ensures { IfOk result (λ connected. connected
-        ≡ passing.is_connected (positioned indices.now states.now) node) }
+        ≡ passing.is_connected (positioned level.now states.now) node) }
 {
-    let level = indices.level();
-    level.keeps();
     let closed = closed(alloc, states)?;
-    let joined = joined_to(alloc, level, closed.as_slice(), node)?;
-    Ok(first_busbar(indices, joined.as_slice()).is_some())
+    let labels = labels(alloc, level, closed.as_slice())?;
+    Ok(is_connected_by(level, states, labels.as_slice(), node))
 }

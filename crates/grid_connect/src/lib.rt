@@ -8,8 +8,8 @@ mod disconnect;
 mod joined;
 mod parts;
 
-pub use connect::plan_connect;
-pub use disconnect::plan_disconnect;
+pub use connect::{plan_connect, plan_connect_from};
+pub use disconnect::{plan_disconnect, plan_disconnect_from};
 use grid_level::Terminal;
 use grid_paths::Places;
 

@@ -1,7 +1,7 @@
 use Rattle.std.proofs.Common.{◌≡◌, sym, ap, ◌∙◌, subst, length}
 use Rattle.std.specs.Option.{option_copied}
 use Rattle.grid_level.specs.VoltageLevel.{VoltageLevel}
-use Rattle.grid_level.specs.Passing.{nodes, positioned, is_connected}
+use Rattle.grid_level.specs.Passing.{nodes, positioned}
 use Rattle.grid_groups.proofs.Indices.{among_In}
 use Rattle.grid_connect.specs.Plans.{core_of, core_busbar, leaving, opens_or, disconnect_plan_of}
 use Rattle.grid_connect.specs.Indexed.{marks_where, marked_busbar, leaving_marked}
@@ -12,15 +12,11 @@ use Rattle.grid_connect.proofs.Planned.{node_positioned}
 use Rattle.grid_connect.proofs.Marks.{core_long}
 use Rattle.grid_connect.proofs.Leaving.{leaving_same, bar_same, disconnect_yes, disconnect_no, breaks, opens, core_marks}
 use Rattle.grid_connect.proofs.Parting.{disconnect_plan-Disconnects}
-use Rattle.grid_connect.proofs.disconnect.plan_disconnect.Goals as goal
-use Rattle.grid_connect.proofs.disconnect.plan_disconnect.Goals.{After-first_busbar, In_ok-is_connected, In_ok-leaving-in-None}
+use Rattle.grid_connect.proofs.disconnect.disconnect_if.Goals as goal
+use Rattle.grid_connect.proofs.disconnect.disconnect_if.Goals.{After-first_busbar, In_ok-leaving-in-None}
 
 pub joined_to-requires-clause-flags : goal.joined_to-requires-clause-flags
 joined_to-requires-clause-flags c = ap (λ z. length z) (c.as_slice.ensures.value ∙ c.in_ok-closed.ensures) ∙ core_long c.args.level.now.switches c.args.states.now c.requires.flags
-
--- whether the node is connected, of the level in its place
-answer : (c : In_ok-is_connected) → c.in_ok-is_connected.field-0 ≡ is_connected (positioned c.args.level.now c.args.states.now) c.args.node
-answer c = c.in_ok-is_connected.ensures ∙ ap (λ l. is_connected (positioned l c.args.states.now) c.args.node) c.in_ok-indices.ensures
 
 core_cells : (c : After-first_busbar) → c.as_slice-2.result.now ≡ core_marks c.args.level.now c.args.states.now c.args.node
 core_cells c = c.as_slice-2.ensures.value ∙ c.in_ok-core.ensures.marks ∙ ap (λ z. marks_where c.args.level.now z c.args.node) (c.as_slice.ensures.value ∙ c.in_ok-closed.ensures)
@@ -38,11 +34,11 @@ planned : (c : After-first_busbar) → (plan : DisconnectPlan)
     → (let now = positioned c.args.level.now c.args.states.now in opens_or (leaving now (core_of now c.args.node)) (core_busbar now (core_of now c.args.node)) ≡ plan)
     → plan ≡ disconnect_plan_of (positioned c.args.level.now c.args.states.now) c.args.node
 planned c plan h =
-    sym (disconnect_yes (positioned c.args.level.now c.args.states.now) c.args.node (sym (answer (goal.at.After-first_busbar c).In_ok-is_connected) ∙ c.if-not-branch.false) ∙ h)
+    sym (disconnect_yes (positioned c.args.level.now c.args.states.now) c.args.node (sym c.requires.connected ∙ c.if-not-connected.false) ∙ h)
 
-pub returns-then-not-branch-clause-plan : goal.returns-then-not-branch-clause-plan
-returns-then-not-branch-clause-plan c =
-    sym (disconnect_no (positioned c.args.level.now c.args.states.now) c.args.node (sym (answer (goal.at.returns-then-not-branch-clause-plan c).In_ok-is_connected) ∙ c.if-not-branch.true))
+pub returns-then-not-connected-clause-plan : goal.returns-then-not-connected-clause-plan
+returns-then-not-connected-clause-plan c =
+    sym (disconnect_no (positioned c.args.level.now c.args.states.now) c.args.node (sym c.requires.connected ∙ c.if-not-connected.true))
 
 pub returns-in-Some-clause-plan : goal.returns-in-Some-clause-plan
 returns-in-Some-clause-plan c =

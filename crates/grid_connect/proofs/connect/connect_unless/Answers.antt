@@ -1,7 +1,7 @@
 use Rattle.std.proofs.Common.{◌≡◌, ℕ, List, Bool, false, arith, sym, ◌∙◌, ap, subst}
 use Rattle.std.specs.Prelude.{filter, IsTrue, not}
 use Rattle.std.specs.List.{slice_index_or}
-use Rattle.grid_level.specs.Passing.{nodes, positioned, is_connected}
+use Rattle.grid_level.specs.Passing.{nodes, positioned}
 use Rattle.grid_groups.proofs.Indices.{among_In, index_below}
 use Rattle.grid_paths.specs.Routes.{EndsBelow, IsLeastRoute, is_route}
 use Rattle.grid_connect.specs.Plans.{connect_plan_of}
@@ -12,8 +12,8 @@ use Rattle.grid_connect.specs.declared.ConnectPlan.TheVariants.{Close}
 use Rattle.grid_connect.proofs.Planning.{plan_with}
 use Rattle.grid_connect.proofs.Planned.{planned, planned_none, plan_connected, plan_closes}
 use Rattle.grid_connect.proofs.Lists.{ends_below, few_edges}
-use Rattle.grid_connect.proofs.connect.plan_connect.Goals as goal
-use Rattle.grid_connect.proofs.connect.plan_connect.Goals.{After-drop-indices-inside-in-Some, After-as_slice-2, In_ok-is_connected}
+use Rattle.grid_connect.proofs.connect.connect_unless.Goals as goal
+use Rattle.grid_connect.proofs.connect.connect_unless.Goals.{After-drop-indices-inside-in-Some, After-as_slice-2}
 
 made : (c : After-as_slice-2) → c.as_slice.result.now ≡ path_edges_of (positioned c.args.level.now c.args.states.now)
 made c = c.as_slice.ensures.value ∙ c.in_ok-edges.ensures ∙ ap (λ l. path_edges_of (positioned l c.args.states.now)) c.in_ok-indices.ensures
@@ -36,10 +36,6 @@ least_path-requires-clause-from c =
     let low = index_below c.args.node (nodes c.args.level.now) (among_In c.args.node (nodes c.args.level.now) c.requires.node) in
     omega (arith, low, c.index_of.ensures, c.node_count.ensures)
 
--- whether the node is connected, of the level in its place
-answer : (c : In_ok-is_connected) → c.in_ok-is_connected.field-0 ≡ is_connected (positioned c.args.level.now c.args.states.now) c.args.node
-answer c = c.in_ok-is_connected.ensures ∙ ap (λ l. is_connected (positioned l c.args.states.now) c.args.node) c.in_ok-indices.ensures
-
 both : (c : After-drop-indices-inside-in-Some) → (connect_plan_of (positioned c.args.level.now c.args.states.now) c.args.node ≡ plan_with c.in_ok-opens-in-Some.opens)
     × Connects (positioned c.args.level.now c.args.states.now) c.args.node (plan_with c.in_ok-opens-in-Some.opens)
 both c =
@@ -53,11 +49,11 @@ both c =
 closes : (c : After-drop-indices-inside-in-Some) → plan_with c.in_ok-opens-in-Some.opens ≡ Close c.in_ok-opens-in-Some.opens
 closes c =
     plan_closes (positioned c.args.level.now c.args.states.now) c.args.node c.in_ok-opens-in-Some.opens
-    (sym (answer (goal.at.After-drop-indices-inside-in-Some c).In_ok-is_connected) ∙ c.if-branch.false) (both c).0
+    (sym c.requires.connected ∙ c.if-connected.false) (both c).0
 
-pub returns-then-branch-clause-plan : goal.returns-then-branch-clause-plan
-returns-then-branch-clause-plan c =
-    sym (plan_connected (positioned c.args.level.now c.args.states.now) c.args.node (sym (answer (goal.at.returns-then-branch-clause-plan c).In_ok-is_connected) ∙ c.if-branch.true))
+pub returns-then-connected-clause-plan : goal.returns-then-connected-clause-plan
+returns-then-connected-clause-plan c =
+    sym (plan_connected (positioned c.args.level.now c.args.states.now) c.args.node (sym c.requires.connected ∙ c.if-connected.true))
 
 pub returns-in-Some-clause-plan : goal.returns-in-Some-clause-plan
 returns-in-Some-clause-plan c =
