@@ -12,5 +12,5 @@ use Rattle.grid_structure.proofs.structure.Structure.level_by_key.Goals as goal
 pub returns : goal.returns
 returns c =
     IfSome_then c.place_by_key.result c.place_by_key.ensures.named (λ k named.
-        let kept : option_map (λ (l : VoltageLevel). same_id c.args.id.now l.id) (slice_get c.self.inside.levels.items k) ≡ Some true = rw (← c.as_slice.ensures.value) named in
-        rw (← c.self.view_is) (level_sure _ c.args.id.now k c.self.invariant.sound.ids (rw (kept_levels c.self.invariant) kept)))
+    let kept : option_map (λ (l : VoltageLevel). same_id c.args.id.now l.id) (slice_get c.self.inside.levels.items k) ≡ Some true = rw (← c.as_slice.ensures.value) named in
+    rw (← c.self.view_is) (level_sure _ c.args.id.now k c.self.invariant.sound.ids (rw (kept_levels c.self.invariant) kept)))
