@@ -1,5 +1,5 @@
 -- A level is found by its id wherever it stands.
-use Rattle.std.proofs.Common.{◌≡◌, refl, ap, ◌∙◌, ℕ, ◌≤◌, ◌+◌, Bool, true, false, cond, List, ◌++◌, Option, Some, None, arith}
+use Rattle.std.proofs.Common.{◌≡◌, refl, ap, ◌∙◌, ℕ, ◌≤◌, Bool, true, false, cond, List, ◌++◌, Option, Some, None, arith}
 use Rattle.std.specs.Prelude.{map, slice_get, position, is_some, Result, Err}
 use Rattle.std.specs.Option.{option_map}
 use Rattle.grid_ids.specs.Name.{same_id, ids_differ}

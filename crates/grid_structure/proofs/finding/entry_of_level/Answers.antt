@@ -1,4 +1,4 @@
-use Rattle.std.proofs.Common.{◌≡◌, ◌∙◌, sym}
+use Rattle.std.proofs.Common.{◌∙◌, sym}
 use Rattle.std.specs.Prelude.{map}
 use Rattle.grid_level.specs.VoltageLevel.{VoltageLevel}
 use Rattle.grid_structure.proofs.Counts.{differ-times}

@@ -1,10 +1,9 @@
-use Rattle.std.proofs.Common.{◌≡◌, true, Some, ℕ}
+use Rattle.std.proofs.Common.{◌≡◌, true, Some}
 use Rattle.std.specs.Prelude.{slice_get}
 use Rattle.std.specs.Option.{option_map}
 use Rattle.std.proofs.lemmas.Option.{IfSome_then}
 use Rattle.grid_ids.specs.Name.{same_id}
 use Rattle.grid_level.specs.VoltageLevel.{VoltageLevel}
-use Rattle.grid_structure.specs.Sites.{levels, find_level}
 use Rattle.grid_structure.proofs.Cutting.{kept_levels}
 use Rattle.grid_structure.proofs.Certain.{level_sure}
 use Rattle.grid_structure.proofs.structure.Structure.level_by_key.Goals as goal
