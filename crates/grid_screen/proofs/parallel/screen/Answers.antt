@@ -16,7 +16,8 @@ use Rattle.grid_screen.specs.declared.Contingency.{Contingency}
 use Rattle.grid_screen.specs.declared.Finding.{Finding}
 use Rattle.grid_screen.specs.Findings.{state_in, finding_of, IsFinding}
 use Rattle.grid_screen.specs.Outages.{state_without}
-use Rattle.grid_screen.proofs.Threaded.{all_right, weaker}
+use Rattle.grid_report.proofs.Parted.{all_right}
+use Rattle.grid_screen.proofs.Threaded.{weaker}
 use Rattle.grid_screen.proofs.parallel.screen.Goals as goal
 
 pub collect-requires : goal.collect-requires
