@@ -21,7 +21,7 @@ use Rattle.grid_core.specs.declared.reply.Refusal.TheVariants as refusals
 use Rattle.grid_core.specs.declared.machine.Machine.{Machine}
 use Rattle.grid_core.specs.declared.machine.Made.{Made}
 use Rattle.grid_core.specs.Solo.{State, powers_of, refused, with_power, power_from, power_set, totals, solo}
-use Rattle.grid_core.specs.History.{Command, command, is_live, is_switching, working}
+use Rattle.grid_core.specs.History.{command, is_live, is_switching, working}
 use Rattle.grid_core.specs.Replies.{state_of, reply_on, events_of}
 use Rattle.grid_core.specs.Made.{made_of}
 use Rattle.grid_core.specs.Machines.{StandsAt, Steps, WorksOn}

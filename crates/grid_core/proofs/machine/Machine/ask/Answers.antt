@@ -24,4 +24,4 @@ find_verdict-requires-clause-fits c =
 pub carry_out-requires-clause-decides : goal.carry_out-requires-clause-decides
 carry_out-requires-clause-decides c =
     found_decides c.args.self.now c.in-Some.slot c.args.variant.now c.requires.held c.in-Some.ensures c.states-opened.result.now c.index-retained.result.now c.index-powers.result.now c.states-opened.ensures c.index-retained.ensures c.index-powers.ensures
-    c.args.request.now c.in_ok-verdict.verdict c.in_ok-verdict.ensures
+    c.args.request.now c.in_ok-verdict.verdict c.in_ok-verdict.ensures.found

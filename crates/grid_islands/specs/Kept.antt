@@ -1,0 +1,30 @@
+-- The buses of levels, kept with the flags that they were made of.
+use Rattle.std.specs.Prelude.{◌≡◌, ℕ, ◌<◌, Bool, Some, List, slice_get}
+use Rattle.grid_level.specs.VoltageLevel.{VoltageLevel}
+use Rattle.grid_level.specs.Passing.{positioned}
+use Rattle.grid_structure.specs.Network.{Network}
+use Rattle.grid_structure.specs.Sites.{levels}
+use Rattle.grid_busview.specs.Views.{node_buses_of}
+use Rattle.grid_states.specs.Rows.{row_at}
+use Rattle.grid_islands.specs.declared.kept.KeptLevel.{KeptLevel}
+use Rattle.grid_islands.specs.declared.kept.KeptBuses.{KeptBuses}
+
+-- what is kept of a level under these flags
+unfoldable pub kept_of : VoltageLevel → List Bool → KeptLevel
+kept_of level opened = record { opened = opened; buses = node_buses_of (positioned level opened) }
+
+-- something is kept of the level at a place
+abbrev pub IsKeptAt : KeptBuses → ℕ → KeptLevel → Type 0
+IsKeptAt kept place own = slice_get kept.levels place ≡ Some own
+
+-- it is what its own flags make of the level
+abbrev pub IsMadeOf : VoltageLevel → KeptLevel → Type 0
+IsMadeOf level own = own ≡ kept_of level own.opened
+
+-- what is kept of each level of a network, where something is, is of that level
+abbrev pub AreBusesOf : Network → KeptBuses → Type 0
+AreBusesOf net kept = (place : ℕ) (level : VoltageLevel) (own : KeptLevel) → slice_get (levels net) place ≡ Some level → IsKeptAt kept place own → IsMadeOf level own
+
+-- the levels before a place are kept, under the flags of these rows
+abbrev pub AreKeptBefore : Network → List (List Bool) → ℕ → KeptBuses → Type 0
+AreKeptBefore net opened count kept = (place : ℕ) (level : VoltageLevel) → place < count → slice_get (levels net) place ≡ Some level → IsKeptAt kept place (kept_of level (row_at opened place))
