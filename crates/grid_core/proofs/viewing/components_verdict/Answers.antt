@@ -13,11 +13,11 @@ use Rattle.grid_core.proofs.viewing.components_verdict.Goals as goal
 pub returns-in-None-clause-found : goal.returns-in-None-clause-found
 returns-in-None-clause-found c retained powers = components_refused (state_seen c.args.structure.now c.args.opened.now retained powers) c.args.id.now (sym c.in-None.ensures.place)
 
-pub level_components_kept-requires-clause-rows : goal.level_components_kept-requires-clause-rows
-level_components_kept-requires-clause-rows c = rows_of_levels c.args.structure.now c.args.opened.now c.requires.rows
+pub level_components-requires-clause-rows : goal.level_components-requires-clause-rows
+level_components-requires-clause-rows c = rows_of_levels c.args.structure.now c.args.opened.now c.requires.rows
 
-pub level_components_kept-requires-clause-flags : goal.level_components_kept-requires-clause-flags
-level_components_kept-requires-clause-flags c = flags_fit c.args.structure.now c.args.opened.now c.requires.rows
+pub level_components-requires-clause-flags : goal.level_components-requires-clause-flags
+level_components-requires-clause-flags c = flags_fit c.args.structure.now c.args.opened.now c.requires.rows
 
 pub returns-clause-found : goal.returns-clause-found
 unfolding level_at
