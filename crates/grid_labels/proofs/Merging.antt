@@ -1,13 +1,13 @@
 -- Two labels that become one.
-use Rattle.std.proofs.Common.{◌≡◌, ◌≢◌, refl, sym, ap, ◌∙◌, subst, ℕ, ◌<◌, Bool, true, false, cond, List, length, get_or, map, min, max, inl, inr, ◌⊎◌, arith}
+use Rattle.std.proofs.Common.{◌≡◌, ◌≢◌, refl, sym, ap, ◌∙◌, ℕ, ◌<◌, Bool, true, false, cond, List, length, get_or, map, min, max, inl, inr, arith}
 use Rattle.std.specs.Prelude.{eqb}
 use Rattle.std.proofs.lemmas.Bool.{both_ways, cases_eq, cases_Bool, eqb-true, eq-eqb}
 use Rattle.std.proofs.lemmas.List.{get_or-map, length-map}
 use Rattle.grid_graph.specs.Graph.{Graph, joined_in, least_joined, labels_of}
-use Rattle.grid_graph.proofs.Least.{least_is_least, least_is, least_same, joined_from_least, n_symm, n_below}
+use Rattle.grid_graph.proofs.Least.{least_same, joined_from_least}
 use Rattle.grid_graph.proofs.Counts.{by_places, at_place, long_places}
-use Rattle.grid_queue.proofs.Walking.{min_cases}
-use Rattle.grid_queue.proofs.OneMore.{IsOneMore, kept_joined, near_joined, n_trans, least_apart, same_joined}
+use Rattle.grid_queue.proofs.OneMore.{IsOneMore, kept_joined, near_joined, n_trans, least_apart}
+use Rattle.grid_queue.proofs.Parents.{least_of_both}
 use Rattle.grid_labels.specs.Labels.{merged}
 
 pub merged_greater : (one other label : ℕ) → label ≡ max one other → merged one other label ≡ min one other
@@ -40,44 +40,14 @@ module _ (net more : Graph) (a b : ℕ) (s : IsOneMore net more a b) where
   first_more : a < more.nodes
   first_more = rw s.nodes s.first
 
-  -- what the pair joins to the one end was joined to one of both
-  either_joined : (y : ℕ) → joined_in more a y ≡ true → (joined_in net a y ≡ true) ⊎ (joined_in net b y ≡ true)
-  either_joined y h = elim (cases_Bool (joined_in net a y)) [
-    | inl j ↦ inl j
-    | inr j ↦ elim (cases_Bool (joined_in net b y)) [
-      | inl k ↦ inr k
-      | inr k ↦ (let inside : y < more.nodes = n_below more a y s.more_fit first_more h in
-          let not_first : joined_in net y a ≡ true → joined_in net y b ≡ true = λ t. absurd (both_ways _ j (n_symm net y a s.fit s.first t)) in
-          let not_second : joined_in net y b ≡ true → joined_in net y a ≡ true = λ t. absurd (both_ways _ k (n_symm net y b s.fit s.second t)) in
-          let back : joined_in net y a ≡ true = sym (same_joined net more a b y s (rw s.nodes at inside) not_first not_second a) ∙ n_symm more a y s.more_fit inside h in
-          absurd (both_ways _ j (n_symm net y a s.fit s.first back)))
-    ]
-  ]
-
-  least_of_both : least_joined more a ≡ min (least_joined net a) (least_joined net b)
-  least_of_both =
-      let f = least_is_least net a s.fit s.first in
-      let g = least_is_least net b s.fit s.second in
-      let P : ℕ → Type 0 = λ z. joined_in more a z ≡ true in
-      least_is more a (min (least_joined net a) (least_joined net b)) s.more_fit first_more (record {
-        reached = elim (min_cases (least_joined net a) (least_joined net b)) [
-          | inl e ↦ subst P (sym e) (kept_joined net more a b a (least_joined net a) s s.first f.reached)
-          | inr e ↦ subst P (sym e) (n_trans more a b (least_joined net b) s.more_fit first_more (near_joined net more a b s) (kept_joined net more a b b (least_joined net b) s s.second g.reached))
-        ];
-        least = λ y h. elim (either_joined y h) [
-          | inl j ↦ omega (arith, f.least y j)
-          | inr j ↦ omega (arith, g.least y j)
-        ];
-      })
-
   least_merged : (x : ℕ) → x < net.nodes → merged (least_joined net a) (least_joined net b) (least_joined net x) ≡ least_joined more x
   least_merged x lt =
       let f : ℕ → ℕ = merged (least_joined net a) (least_joined net b) in
       elim (cases_Bool (joined_in net a x)) [
-        | inl j ↦ ap f (sym (least_same net a x s.fit s.first j)) ∙ merged_first (least_joined net a) (least_joined net b) ∙ sym least_of_both
+        | inl j ↦ ap f (sym (least_same net a x s.fit s.first j)) ∙ merged_first (least_joined net a) (least_joined net b) ∙ sym (least_of_both net more a b s)
             ∙ least_same more a x s.more_fit first_more (kept_joined net more a b a x s s.first j)
         | inr j ↦ elim (cases_Bool (joined_in net b x)) [
-          | inl k ↦ ap f (sym (least_same net b x s.fit s.second k)) ∙ merged_second (least_joined net a) (least_joined net b) ∙ sym least_of_both
+          | inl k ↦ ap f (sym (least_same net b x s.fit s.second k)) ∙ merged_second (least_joined net a) (least_joined net b) ∙ sym (least_of_both net more a b s)
               ∙ least_same more a x s.more_fit first_more (n_trans more a b x s.more_fit first_more (near_joined net more a b s) (kept_joined net more a b b x s s.second k))
           | inr k ↦ (let not_first : least_joined net x ≢ least_joined net a = λ e. both_ways _ j (joined_from_least net a x s.fit s.first lt (sym e)) in
               let not_second : least_joined net x ≢ least_joined net b = λ e. both_ways _ k (joined_from_least net b x s.fit s.second lt (sym e)) in

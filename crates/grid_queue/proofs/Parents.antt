@@ -73,7 +73,7 @@ module _ (net more : Graph) (a b : ℕ) (s : IsOneMore net more a b) where
   either_joined : (y : ℕ) → joined_in more a y ≡ true → (joined_in net a y ≡ true) ⊎ (joined_in net b y ≡ true)
   either_joined y h = or_cases (joined_in net a y) (joined_in net b y) (either_along y h)
 
-least_of_both : (net more : Graph) (a b : ℕ) → IsOneMore net more a b → least_joined more a ≡ min (least_joined net a) (least_joined net b)
+pub least_of_both : (net more : Graph) (a b : ℕ) → IsOneMore net more a b → least_joined more a ≡ min (least_joined net a) (least_joined net b)
 least_of_both net more a b s =
     let f = least_is_least net a s.fit s.first in
     let g = least_is_least net b s.fit s.second in
