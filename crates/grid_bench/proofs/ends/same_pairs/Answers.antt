@@ -1,23 +1,29 @@
 use Rattle.std.proofs.Common.{◌<◌, ◌≤◌, sym, ap, ◌∙◌, ◌&&◌, length, arith}
 use Rattle.std.proofs.lemmas.Bool.{and_parts}
 use Rattle.std.proofs.lemmas.List.{take_all, length-map}
+use Rattle.grid_bench.specs.declared.shared.Ends.{Ends}
 use Rattle.grid_bench.specs.Ends.{pair_of, pairs_of}
 use Rattle.grid_bench.proofs.Made.{made_more, made_at}
 use Rattle.grid_bench.proofs.ends.same_pairs.Goals as goal
 
+-- what stands past the end
+none : Ends
+none = record { node1 = 0; node2 = 0 }
+
 pub loop-place-preserved : goal.loop-place-preserved
+unfolding none
 loop-place-preserved c =
-    let under : c.loop-place.place < length c.args.others.now = omega (arith, c.loop-place-test.true, c.if-list-others.false) in
+    let list = c.args.list.now in
+    let others = c.args.others.now in
+    let place = c.loop-place.place in
+    let under : place < length others = omega (arith, c.loop-place-test.true, c.if-list-others.false) in
     record {
       forth = λ t.
           let parts = and_parts c.loop-place.same c.same_pair-same.result t in
-          made_more pair_of c.args.list.now c.args.others.now c.loop-place.place c.index-list-place.result c.index-others-place.result
-          c.loop-place-test.true under c.index-list-place.is c.index-others-place.is (c.loop-place.invariant.forth parts.0) (c.same_pair-same.ensures.0 parts.1);
+          made_more pair_of list others place none c.loop-place-test.true under (c.loop-place.invariant.forth parts.0) (c.same_pair-same.ensures.0 parts.1);
       back = λ e.
           ap (λ z. z && c.same_pair-same.result) (c.loop-place.invariant.back e)
-          ∙ c.same_pair-same.ensures.1
-          (made_at pair_of c.args.list.now c.args.others.now c.loop-place.place c.index-list-place.result c.index-others-place.result
-          c.loop-place-test.true under c.index-list-place.is c.index-others-place.is e);
+          ∙ c.same_pair-same.ensures.1 (made_at pair_of list others place none c.loop-place-test.true under e);
     }
 
 pub returns : goal.returns
