@@ -1,10 +1,11 @@
 // Whether two levels have the same ends.
 ghost use Rattle.std.specs.Prelude.{◌≡◌, ◌↔◌, IsTrue, length};
-ghost use Rattle.grid_level.specs.Passing.{nodes, ends, switch_edge};
-ghost use Rattle.grid_bench.specs.Ends.{switch_ends, SameEnds};
+ghost use Rattle.grid_level.specs.Passing.{nodes};
+ghost use Rattle.grid_bench.specs.Ends.{pair_of, pairs_of, SameEnds};
 
+use crate::shared::{Ends, SharedLevel};
 use grid_ids::same_items;
-use grid_level::{Level, Switch};
+use grid_level::Level;
 
 // Whether both levels have the same nodes. The loop goes to its end, so that several nodes can be compared at once.
 fn same_nodes(level: &Level, other: &Level) -> bool
@@ -20,35 +21,33 @@ fn same_nodes(level: &Level, other: &Level) -> bool
     same
 }
 
-// Whether both switches stand between the same nodes. Both nodes are compared in any case, so that it has no branch.
-#[tactic(auto, unfolding(grid_level::specs::Passing::ends))]
-fn same_pair(switch: &Switch, other: &Switch) -> bool
-    ensures { IsTrue result ↔ (ends (switch_edge switch.now) ≡ ends (switch_edge other.now)) }
+// Whether both name the same two nodes. Both nodes are compared in any case, so that it has no branch.
+fn same_pair(ends: &Ends, other: &Ends) -> bool
+    ensures { IsTrue result ↔ (pair_of ends.now ≡ pair_of other.now) }
 {
-    (switch.node1 == other.node1) & (switch.node2 == other.node2)
+    (ends.node1 == other.node1) & (ends.node2 == other.node2)
 }
 
-// Whether the switches of both lists stand between the same nodes. The loop goes to its end, so that several switches can be
-// compared at once.
-fn same_switch_ends(switches: &[Switch], others: &[Switch]) -> bool
-    ensures { IsTrue result ↔ (switch_ends switches.now ≡ switch_ends others.now) }
+// Whether both lists name the same nodes. The loop goes to its end, so that several switches can be compared at once.
+fn same_pairs(list: &[Ends], others: &[Ends]) -> bool
+    ensures { IsTrue result ↔ (pairs_of list.now ≡ pairs_of others.now) }
 {
-    if switches.len() != others.len() {
+    if list.len() != others.len() {
         return false;
     }
     let mut same = true;
-    for place in 0..switches.len() {
-        same &= same_pair(&switches[place], &others[place]);
+    for place in 0..list.len() {
+        same &= same_pair(&list[place], &others[place]);
     }
     same
 }
 
-/// Whether both levels have the same nodes, and their switches and internal connections stand between the same ones. It
-/// reads each once, and takes no memory.
-pub(crate) fn same_ends(level: &Level, other: &Level) -> bool
+/// Whether both levels have the same nodes, and their switches and internal connections stand between the same ones. The
+/// switches' nodes are read from their short lists. It reads each once, and takes no memory.
+pub(crate) fn same_ends(level: &SharedLevel, other: &SharedLevel) -> bool
     ensures { IsTrue result ↔ SameEnds level.now other.now }
 {
-    same_switch_ends(level.switches(), other.switches())
-        && same_items(level.internals(), other.internals())
-        && same_nodes(level, other)
+    same_pairs(level.ends(), other.ends())
+        && same_items(level.level().internals(), other.level().internals())
+        && same_nodes(level.level(), other.level())
 }

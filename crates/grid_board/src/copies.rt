@@ -6,9 +6,9 @@ ghost use Rattle.grid_structure.specs.Sites.{levels};
 ghost use Rattle.grid_requests.specs.Changes.{structure_after};
 ghost use Rattle.grid_board.specs.Copied.{AreCopies, copy_at, with_copy};
 
+use grid_bench::SharedLevel;
 use grid_core::Request;
 use grid_ids::{Duplicate, Memory};
-use grid_level::SharedLevel;
 use grid_structure::Structure;
 use std::alloc::Global;
 use std::collections::BTreeMap;

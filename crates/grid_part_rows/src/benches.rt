@@ -6,11 +6,10 @@ ghost use Rattle.grid_bench.specs.Stores.{kept_for};
 
 use crate::boards::{Both, read};
 use crate::networks::{FOUR, ONE_BUS, TWO_BUSES, duo, with_scripts};
-use grid_bench::Bench;
+use grid_bench::{Bench, SharedLevel};
 use grid_core::{Request, Script};
 use grid_ids::{Duplicate, Id, Memory};
 use grid_json::Job;
-use grid_level::SharedLevel;
 use grid_queue::Steps;
 use grid_structure::Structure;
 use std::alloc::Global;

@@ -6,22 +6,17 @@ use Rattle.grid_bench.specs.Contents.{Content, content}
 use Rattle.grid_bench.specs.Costs.{differs_at, count_changes}
 use Rattle.grid_bench.proofs.Costing.{can_of_few, can_where_same}
 use Rattle.grid_bench.proofs.kept.Kept.changes_to.Goals as goal
-use Rattle.grid_bench.proofs.kept.Kept.changes_to.Goals.{After-level}
-
--- the level that is kept
-level_is : (c : After-level) → c.level.result.now ≡ c.args.self.now.level
-level_is c = c.level.ensures ∙ ap (λ (z : Content). z.level) c.self.view_is
 
 pub returns-then-changes-le2-clause-can : goal.returns-then-changes-le2-clause-can
 unfolding count_changes differs_at
 returns-then-changes-le2-clause-can c =
-    let at = (goal.at.returns-then-changes-le2-clause-can c).After-level in
     let now = c.args.self.now in
     let new = content c.args.level.now c.args.opened.now c.args.retained.now in
+    let here : c.self.inside.level ≡ now.level = ap (λ (z : Content). z.level) c.self.view_is in
     let P : VoltageLevel → Type 0 = λ z. SameEnds z c.args.level.now in
     let counted : c.count_changes-changes.result ≡ count_changes now new = c.count_changes-changes.ensures in
     let few : count_changes now new ≤ 2 = omega (arith, counted, c.if-changes-le2.true) in
-    (λ t. can_of_few now new (subst P (level_is at) (c.same_ends.ensures.0 c.if-not-same_ends.false)) few, λ can. refl)
+    (λ t. can_of_few now new (subst P here (c.same_ends.ensures.0 c.if-not-same_ends.false)) few, λ can. refl)
 
 pub returns-then-changes-le2-clause-changes : goal.returns-then-changes-le2-clause-changes
 unfolding count_changes differs_at
@@ -30,12 +25,13 @@ returns-then-changes-le2-clause-changes c = c.count_changes-changes.ensures
 pub returns-else-same-clause-can : goal.returns-else-same-clause-can
 unfolding count_changes differs_at
 returns-else-same-clause-can c =
-    let at = (goal.at.returns-else-same-clause-can c).After-level in
     let now = c.args.self.now in
     let new = content c.args.level.now c.args.opened.now c.args.retained.now in
+    let here : c.self.inside.level ≡ now.level = ap (λ (z : Content). z.level) c.self.view_is in
     let P : VoltageLevel → Type 0 = λ z. SameEnds z c.args.level.now in
-    let Q : VoltageLevel → Type 0 = λ z. IsTrue c.same.result ↔ (z ≡ c.args.level.now) in
+    let Q : VoltageLevel → Type 0 = λ z. IsTrue c.same.result ↔ (c.level.result.now ≡ z) in
+    let R : VoltageLevel → Type 0 = λ z. IsTrue c.same.result ↔ (z ≡ c.args.level.now) in
     let counted : c.count_changes-changes.result ≡ count_changes now new = c.count_changes-changes.ensures in
     let many : 2 < count_changes now new = omega (arith, counted, c.if-changes-le2.false) in
-    let can = can_where_same now new c.same.result (subst P (level_is at) (c.same_ends.ensures.0 c.if-not-same_ends.false)) many (subst Q (c.level-2.ensures ∙ ap (λ (z : Content). z.level) c.self.view_is) c.same.ensures) in
+    let can = can_where_same now new c.same.result (subst P here (c.same_ends.ensures.0 c.if-not-same_ends.false)) many (subst R (c.level.ensures ∙ here) (subst Q c.level-2.ensures c.same.ensures)) in
     (λ t. absurd (false≢true t), λ follows. sym c.if-same.false ∙ can.1 follows)
