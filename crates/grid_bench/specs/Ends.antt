@@ -3,18 +3,17 @@ use Rattle.std.specs.Prelude.{◌≡◌, ℕ, List, map}
 use Rattle.grid_level.specs.declared.Switch.{Switch}
 use Rattle.grid_level.specs.VoltageLevel.{VoltageLevel}
 use Rattle.grid_level.specs.Passing.{nodes, switch_edge, ends}
-use Rattle.grid_bench.specs.declared.shared.Ends.{Ends}
 
 -- the two nodes of each switch
 abbrev pub switch_ends : List Switch → List (ℕ × ℕ)
 switch_ends switches = map (λ s. ends (switch_edge s)) switches
 
--- the same of a list that names each switch's nodes alone
-abbrev pub pair_of : Ends → ℕ × ℕ
-pair_of e = (e.node1, e.node2)
+-- the node of each switch at end 1, and at end 2
+abbrev pub first_nodes : List Switch → List ℕ
+first_nodes switches = map (λ s. s.node1) switches
 
-abbrev pub pairs_of : List Ends → List (ℕ × ℕ)
-pairs_of list = map pair_of list
+abbrev pub second_nodes : List Switch → List ℕ
+second_nodes switches = map (λ s. s.node2) switches
 
 -- both levels have the same nodes, and their switches and internal connections stand between the same ones
 pub record SameEnds (level other : VoltageLevel) : Type 0 where

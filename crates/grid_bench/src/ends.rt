@@ -1,9 +1,9 @@
 // Whether two levels have the same ends.
 ghost use Rattle.std.specs.Prelude.{◌≡◌, ◌↔◌, IsTrue, length};
 ghost use Rattle.grid_level.specs.Passing.{nodes};
-ghost use Rattle.grid_bench.specs.Ends.{pair_of, pairs_of, SameEnds};
+ghost use Rattle.grid_bench.specs.Ends.{switch_ends, SameEnds};
 
-use crate::shared::{Ends, SharedLevel};
+use crate::shared::SharedLevel;
 use grid_ids::same_items;
 use grid_level::Level;
 
@@ -21,25 +21,25 @@ fn same_nodes(level: &Level, other: &Level) -> bool
     same
 }
 
-// Whether both name the same two nodes. Both nodes are compared in any case, so that it has no branch.
-fn same_pair(ends: &Ends, other: &Ends) -> bool
-    ensures { IsTrue result ↔ (pair_of ends.now ≡ pair_of other.now) }
-{
-    (ends.node1 == other.node1) & (ends.node2 == other.node2)
-}
-
-// Whether both lists name the same nodes. The loop goes to its end, so that several switches can be compared at once.
-fn same_pairs(list: &[Ends], others: &[Ends]) -> bool
-    ensures { IsTrue result ↔ (pairs_of list.now ≡ pairs_of others.now) }
+// Whether both lists have the same nodes. The loop goes to its end, so that many nodes can be compared at once.
+fn same_numbers(list: &[u16], others: &[u16]) -> bool
+    ensures { IsTrue result ↔ (list.now ≡ others.now) }
 {
     if list.len() != others.len() {
         return false;
     }
     let mut same = true;
     for place in 0..list.len() {
-        same &= same_pair(&list[place], &others[place]);
+        same &= list[place] == others[place];
     }
     same
+}
+
+// Whether the switches of both levels stand between the same nodes.
+fn same_switches(level: &SharedLevel, other: &SharedLevel) -> bool
+    ensures { IsTrue result ↔ (switch_ends level.now.switches ≡ switch_ends other.now.switches) }
+{
+    same_numbers(level.firsts(), other.firsts()) && same_numbers(level.seconds(), other.seconds())
 }
 
 /// Whether both levels have the same nodes, and their switches and internal connections stand between the same ones. The
@@ -47,7 +47,7 @@ fn same_pairs(list: &[Ends], others: &[Ends]) -> bool
 pub(crate) fn same_ends(level: &SharedLevel, other: &SharedLevel) -> bool
     ensures { IsTrue result ↔ SameEnds level.now other.now }
 {
-    same_pairs(level.ends(), other.ends())
+    same_switches(level, other)
         && same_items(level.level().internals(), other.level().internals())
         && same_nodes(level.level(), other.level())
 }

@@ -1,32 +1,23 @@
 // Levels that several owners read, with the nodes of their switches.
 ghost use Rattle.std.specs.Prelude.{◌≡◌, IfOk};
 ghost use Rattle.std.proofs.Common.{rules};
-ghost use Rattle.grid_level.specs.Passing.{ends, switch_edge};
-ghost use Rattle.grid_bench.specs.Ends.{pair_of, pairs_of, switch_ends};
+ghost use Rattle.grid_bench.specs.Ends.{first_nodes, second_nodes};
 
 use grid_ids::{Duplicate, Memory};
-use grid_level::{Level, Switch};
+use grid_level::Level;
 use std::alloc::{AllocError, Global};
 use std::marker::Model;
 use std::sync::Arc;
 
-/// The two nodes of a switch.
-#[derive(Clone, Copy)]
-pub(crate) struct Ends {
-    /// The node at end 1.
-    pub(crate) node1: u16,
-    /// The node at end 2.
-    pub(crate) node2: u16,
-}
-
-// A level with its switches' nodes in a short list of their own.
+// A level with its switches' nodes at end 1 and at end 2 in short lists of their own, so that many can be compared at once.
 #[derive(Drop)]
 struct Listed {
     level: Level,
-    ends: Vec<Ends>,
+    firsts: Vec<u16>,
+    seconds: Vec<u16>,
 }
 
-/// A level that stays as it is while several owners read it. Beside it stand its switches' nodes in a short list, made
+/// A level that stays as it is while several owners read it. Beside it stand its switches' nodes in short lists, made
 /// once. A copy is one more owner and takes no memory. It is seen as the level.
 #[derive(Drop)]
 pub struct SharedLevel {
@@ -37,36 +28,42 @@ impl Model for SharedLevel {
     ghost use Rattle.grid_level.specs.VoltageLevel.{VoltageLevel};
     ghost use Rattle.std.specs.Arc.{arc_value};
     ghost use Rattle.std.specs.Prelude.{◌≡◌};
-    ghost use Rattle.grid_bench.specs.Ends.{pairs_of, switch_ends};
+    ghost use Rattle.grid_bench.specs.Ends.{first_nodes, second_nodes};
 
     ghost Value = { VoltageLevel };
 
     ghost view = { λ shared. (arc_value shared.listed).level };
 
-    ghost invariant = { λ shared. pairs_of (arc_value shared.listed).ends.items
-        ≡ switch_ends (arc_value shared.listed).level.switches };
+    ghost invariant = { λ shared. ((arc_value shared.listed).firsts.items
+        ≡ first_nodes (arc_value shared.listed).level.switches)
+        × ((arc_value shared.listed).seconds.items
+        ≡ second_nodes (arc_value shared.listed).level.switches) };
 }
 
-// The two nodes of a switch.
-#[tactic(auto, unfolding(grid_level::specs::Passing::ends))]
-fn ends_of(switch: &Switch) -> Ends
-    ensures { pair_of result ≡ ends (switch_edge switch.now) }
+// The node of each switch of a level at end 1.
+fn firsts_of(alloc: Global, level: &Level) -> Result<Vec<u16>, Memory>
+    ensures { IfOk result (λ list. list.items ≡ first_nodes level.now.switches) }
 {
-    Ends {
-        node1: switch.node1,
-        node2: switch.node2,
-    }
+    Ok(
+        level
+            .switches()
+            .iter()
+            .map(|switch| switch.node1)
+            .collect(alloc)?,
+    )
 }
 
-// The nodes of each switch of a level.
-fn ends_listed(alloc: Global, level: &Level) -> Result<Vec<Ends>, Memory>
-    ensures { IfOk result (λ list. pairs_of list.items ≡ switch_ends level.now.switches) }
+// The node of each switch of a level at end 2.
+fn seconds_of(alloc: Global, level: &Level) -> Result<Vec<u16>, Memory>
+    ensures { IfOk result (λ list. list.items ≡ second_nodes level.now.switches) }
 {
-    let mut list = Vec::with_capacity(alloc, level.switches().len())?;
-    for switch in level.switches() {
-        list.push(ends_of(switch))?;
-    }
-    Ok(list)
+    Ok(
+        level
+            .switches()
+            .iter()
+            .map(|switch| switch.node2)
+            .collect(alloc)?,
+    )
 }
 
 impl SharedLevel {
@@ -74,9 +71,15 @@ impl SharedLevel {
     pub fn new(alloc: Global, level: Level) -> Result<SharedLevel, Memory>
         ensures { IfOk result (λ shared. shared ≡ level) }
     {
-        let ends = ends_listed(alloc, &level)?;
+        let firsts = firsts_of(alloc, &level)?;
+        let seconds = seconds_of(alloc, &level)?;
+        let listed = Listed {
+            level,
+            firsts,
+            seconds,
+        };
         Ok(SharedLevel {
-            listed: Arc::new(alloc, Listed { level, ends })?,
+            listed: Arc::new(alloc, listed)?,
         })
     }
 
@@ -87,11 +90,18 @@ impl SharedLevel {
         &self.listed.level
     }
 
-    /// The nodes of each switch. It takes no memory.
-    pub(crate) fn ends(&self) -> &[Ends]
-        ensures { pairs_of result.now ≡ switch_ends self.now.switches }
+    /// The node of each switch at end 1. It takes no memory.
+    pub(crate) fn firsts(&self) -> &[u16]
+        ensures { result.now ≡ first_nodes self.now.switches }
     {
-        self.listed.ends.as_slice()
+        self.listed.firsts.as_slice()
+    }
+
+    /// The node of each switch at end 2. It takes no memory.
+    pub(crate) fn seconds(&self) -> &[u16]
+        ensures { result.now ≡ second_nodes self.now.switches }
+    {
+        self.listed.seconds.as_slice()
     }
 }
 
