@@ -5,7 +5,7 @@ use crate::networks::duo_with;
 use crate::replies::expect;
 use grid_bench::{Answer, Base, Bench, Task};
 use grid_board::{Board, CommitFault};
-use grid_core::{Reply, Request, Script, World};
+use grid_core::{Reply, Request, Script, Scripts, World};
 use grid_ids::{Duplicate, Id, Memory, Same};
 use grid_json::{Job, read_job};
 use grid_level::Flags;
@@ -215,31 +215,49 @@ const RUNS: [(&str, &str); 3] = [
     ),
 ];
 
-/// Makes the steps of a job on a board and in a world, in this order.
-fn make(rt: &impl Abort, alloc: Global, scripts: &str, order: &str) -> Result<(), Fail> {
-    let job = job_of(alloc, scripts)?;
-    let mut both = Both::start(alloc, job.network)?;
+/// Makes the steps of two scripts on a board and in a world, in this order, each with the same reply.
+fn make_turns(
+    rt: &impl Abort,
+    both: &mut Both,
+    scripts: &Scripts,
+    order: &str,
+) -> Result<(), Fail> {
     let mut first = 0usize;
     let mut second = 0usize;
     for turn in order.bytes() {
         let worker = u32::from(turn == b'1');
         let request = if worker == 0 {
-            next(job.scripts.get(0), &mut first)
+            next(scripts.get(0), &mut first)
         } else {
-            next(job.scripts.get(1), &mut second)
+            next(scripts.get(1), &mut second)
         };
         let Some(request) = request else {
             return Ok(assert!(rt; false));
         };
         assert!(rt; both.agree(worker, request)?);
     }
-    for name in ["InitialState", "VA"] {
-        let Ok(name) = Id::new(alloc, name) else {
-            return Ok(assert!(rt; false));
-        };
-        assert!(rt; stands_alike(&both, &name)?);
-    }
     Ok(())
+}
+
+/// Asserts that a variant stands alike on a board and in a world.
+fn expect_alike(rt: &impl Abort, alloc: Global, both: &Both, name: &str) -> Result<(), Fail> {
+    let Ok(name) = Id::new(alloc, name) else {
+        return Ok(assert!(rt; false));
+    };
+    Ok(assert!(rt; stands_alike(both, &name)?))
+}
+
+/// Makes the steps of scripts on a board and in a world that begin with the level, in this order.
+fn make(rt: &impl Abort, alloc: Global, scripts: &str, order: &str) -> Result<(), Fail> {
+    let Job {
+        network,
+        scripts,
+        ..
+    } = job_of(alloc, scripts)?;
+    let mut both = Both::start(alloc, network)?;
+    make_turns(rt, &mut both, &scripts, order)?;
+    expect_alike(rt, alloc, &both, "InitialState")?;
+    expect_alike(rt, alloc, &both, "VA")
 }
 
 #[test]
@@ -263,35 +281,87 @@ fn put_all(both: &mut Both, script: &[Request]) -> Result<(), Fail> {
     Ok(())
 }
 
+/// Asserts the positions in the first level of what a worker's request rests on.
+fn expect_positions(
+    rt: &impl Abort,
+    alloc: Global,
+    both: &mut Both,
+    worker: u32,
+    request: &Request,
+    wanted: &[bool],
+) -> Result<(), Fail>
+    requires { worker < 2 }
+{
+    let positions = both.positions(alloc, worker, request)?;
+    Ok(assert_eq!(rt; positions.slice(), wanted))
+}
+
+/// Asserts that the second worker's answer to one request is Stale for another.
+fn expect_other(
+    rt: &impl Abort,
+    both: &mut Both,
+    asked: &Request,
+    other: &Request,
+) -> Result<(), Fail> {
+    let Some(answer) = both.ask(1, asked)? else {
+        return Ok(assert!(rt; false));
+    };
+    Ok(assert!(rt; matches!(both.commit(1, other, answer), Err(CommitFault::Stale))))
+}
+
+/// Asserts that the second worker's answer is Stale after these steps of the first.
+fn expect_late(
+    rt: &impl Abort,
+    both: &mut Both,
+    asked: &Request,
+    between: &[Request],
+) -> Result<(), Fail> {
+    let Some(answer) = both.ask(1, asked)? else {
+        return Ok(assert!(rt; false));
+    };
+    put_all(both, between)?;
+    Ok(assert!(rt; matches!(both.commit(1, asked, answer), Err(CommitFault::Stale))))
+}
+
+/// The same of both, by the scripts of the two workers.
+fn make_late(
+    rt: &impl Abort,
+    alloc: Global,
+    both: &mut Both,
+    scripts: &Scripts,
+) -> Result<(), Fail> {
+    let (Some(before), Some(asked)) = (scripts.get(0), scripts.get(1)) else {
+        return Ok(assert!(rt; false));
+    };
+    let ([clone, use_clone, open, between @ ..], [view, connect]) = (before.slice(), asked.slice())
+    else {
+        return Ok(assert!(rt; false));
+    };
+    both.put(0, clone)?;
+    both.put(0, use_clone)?;
+    both.put(0, open)?;
+    expect_positions(rt, alloc, both, 0, view, &[false, true, false, true, false])?;
+    expect_positions(
+        rt,
+        alloc,
+        both,
+        1,
+        view,
+        &[false, true, false, false, false],
+    )?;
+    expect_other(rt, both, view, connect)?;
+    expect_late(rt, both, view, between)?;
+    Ok(assert_eq!(rt; both.board.length(), 5))
+}
+
 #[test]
 fn an_answer_that_is_out_of_date_is_stale(rt: HostRuntime) -> Result<(), Fail> {
     let alloc = rt.alloc();
-    let job = job_of(alloc, OUT_OF_DATE)?;
-    let mut both = Both::start(alloc, job.network)?;
-    let (Some(before), Some(asked)) = (job.scripts.get(0), job.scripts.get(1)) else {
-        return Ok(assert!(rt; false));
-    };
-    let ([use_clone @ .., back, open], [view, connect]) = (before.slice(), asked.slice()) else {
-        return Ok(assert!(rt; false));
-    };
-    put_all(&mut both, use_clone)?;
-    let opened = both.positions(alloc, 0, view)?;
-    assert_eq!(rt;
-        opened.slice(),
-        [false, true, false, true, false].as_slice()
-    );
-    let closed = both.positions(alloc, 1, view)?;
-    assert_eq!(rt;
-        closed.slice(),
-        [false, true, false, false, false].as_slice()
-    );
-    let (Some(seen), Some(other)) = (both.ask(1, view)?, both.ask(1, view)?) else {
-        return Ok(assert!(rt; false));
-    };
-    assert!(rt; matches!(both.commit(1, connect, other), Err(CommitFault::Stale)));
-    both.put(0, back)?;
-    both.put(0, open)?;
-    assert!(rt; matches!(both.commit(1, view, seen), Err(CommitFault::Stale)));
-    assert_eq!(rt; both.board.length(), 5);
-    Ok(())
+    let Job {
+        network,
+        scripts,
+        ..
+    } = job_of(alloc, OUT_OF_DATE)?;
+    let mut both = Both::start(alloc, network)?;
+    make_late(&rt, alloc, &mut both, &scripts)
 }
