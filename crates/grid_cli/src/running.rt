@@ -52,7 +52,7 @@ fn run(
     for worker in order {
         let place = *worker as usize;
         let request = &scripts[place][cursors[place]];
-        let _reply = world.step(*worker, request)?;
+        world.enter(*worker, request)?;
         cursors[place] += 1;
     }
     Ok(world)

@@ -10,8 +10,7 @@ use grid_level::Level;
 use std::alloc::Global;
 use std::marker::Model;
 
-/// A level whose nodes' indices stand in a table, where the nodes are not counted without a gap and there are edges enough
-/// to pay for one. It is seen as the level.
+/// A level whose nodes' indices stand in a table, where there are edges enough to pay for one. It is seen as the level.
 #[derive(Drop)]
 pub struct NodeIndices<'a> {
     level: &'a Level,
@@ -30,15 +29,14 @@ impl<'a> Model for NodeIndices<'a> {
     ghost invariant = { λ i. HoldsIndices (nodes i.level.now) i.table.items };
 }
 
-// How long a table is worth its while: up to the last node, if that is little against the edges. Nodes that are counted
-// from 0 without a gap are their own indices and need none.
+// How long a table is worth its while: up to the last node, if that is little against the edges.
 fn table_len(level: &Level) -> usize {
     let count = level.node_count();
     if count == 0 {
         return 0;
     }
     let len = level.node_at(count - 1) as usize + 1;
-    if len == count as usize || len > 256 * level.edge_count() as usize {
+    if len > 256 * level.edge_count() as usize {
         return 0;
     }
     len

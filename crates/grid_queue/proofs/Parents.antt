@@ -4,7 +4,7 @@ use Rattle.std.specs.Prelude.{eqb}
 use Rattle.std.specs.List.{flat_map}
 use Rattle.std.proofs.lemmas.Bool.{false≢true, cases_eq, cases_Bool, eqb-true, eq-eqb, or_cases}
 use Rattle.std.proofs.lemmas.Grind.{flat_map-append}
-use Rattle.std.proofs.lemmas.List.{append-nil}
+use Rattle.std.proofs.lemmas.List.{append-nil, set-get_or}
 use Rattle.std.proofs.lemmas.List.Elements.{All-append, All-cons, All-nil}
 use Rattle.grid_graph.specs.Joined.{end_across, neighbours}
 use Rattle.grid_graph.specs.Graph.{Graph, graph, EndsBelow, joined_in, least_joined, labels_of}
@@ -329,3 +329,16 @@ linked_at net parents a b first second low high s lt less f g l h =
     let eh : high ≡ max (least_joined net a) (least_joined net b) = omega (arith, f, g, h) in
     let el : low ≡ min (least_joined net a) (least_joined net b) = omega (arith, f, g, l) in
     rw (eh, el) (linked net parents a b s lt less)
+
+-- two nodes that point to one are joined already
+pub alike : (net : Graph) (parents : List ℕ) (a b : ℕ) → AreParents net parents → a < net.nodes → b < net.nodes → get_or parents a 0 ≡ get_or parents b 0 → AreParents (with_pair net a b) parents
+alike net parents a b s lt less e =
+    let fit = pairs_below net.nodes net.pairs s.ends in
+    let first : ℕ = least_joined net a in
+    let up : ℕ = get_or parents first 0 in
+    let both : least_joined net b ≡ first = sym (s.same b less) ∙ ap (least_joined net) (sym e) ∙ s.same a lt in
+    let below : first < net.nodes = least_below net a fit lt in
+    let top : least_joined net first ≡ first = sym (least_same net a first fit lt (least_is_least net a fit lt).reached) in
+    let stays : up ≡ first = omega (arith, s.down first below, s.same first below, top, least_le net up fit (up_below net parents s first below)) in
+    let P : List ℕ → Type 0 = λ z. AreParents (with_pair net a b) z in
+    subst P (ap (set parents first) (sym stays) ∙ set-get_or parents first 0) (linked_at net parents a b first first first first s lt less refl (sym both) (omega arith) (omega arith))

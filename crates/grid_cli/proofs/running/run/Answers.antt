@@ -23,8 +23,8 @@ index-request-requires c =
     let at = cursor_is c.args.scripts.now c.args.order.now c.loop-worker.worker-index c.loop-worker-test.true c.loop-worker.cursors.items c.index.result.now c.requires.order c.loop-worker.invariant.cursors c.index.ensures in
     left c.args.scripts.now c.args.order.now c.loop-worker.worker-index c.loop-worker-test.true c.index-scripts-place.result c.index.result.now c.requires.order c.index-scripts-place.is at
 
-pub step-requires : goal.step-requires
-step-requires c =
+pub enter-requires : goal.enter-requires
+enter-requires c =
     let below = known c.args.scripts.now c.args.order.now c.loop-worker.worker-index c.loop-worker-test.true c.requires.order in
     rw c.loop-worker.invariant.world below
 
@@ -51,7 +51,7 @@ loop-worker-preserved c =
     let step = found scripts order k lt c.index-scripts-place.result c.index.result.now c.index-request.result.now c.requires.order c.index-scripts-place.is at c.index-request.ensures in
     record {
       within = omega (arith, lt);
-      world = grown c.args.network scripts order k (command worker c.index-request.result.now) c.loop-worker.world c.step.new.self step c.loop-worker.invariant.world c.in_ok-_reply.ensures.ok;
+      world = grown c.args.network scripts order k (command worker c.index-request.result.now) c.loop-worker.world c.enter.new.self step c.loop-worker.invariant.world c.in_ok-enter.ensures.ok;
       cursors = moved scripts order k lt c.loop-worker.cursors.items c.index_mut.result.now c.requires.order c.loop-worker.invariant.cursors at_mut;
     }
 
