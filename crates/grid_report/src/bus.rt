@@ -2,7 +2,7 @@
 ghost use Rattle.std.specs.Prelude.{◌≡◌, ◌++◌, OnOk, OnErr, []};
 ghost use Rattle.grid_report.specs.Lines.{bus_name, terminals_text, bus_text, flows_text, bus_line, bus_lines, count_text, level_text};
 
-use crate::text::{Shown, Text, put_spaced};
+use crate::text::{Shown, Text, put_numbers, put_spaced};
 use grid_busview::{BusView, ViewBus};
 use grid_ids::{Id, Memory};
 use grid_level::Terminal;
@@ -69,7 +69,7 @@ pub(crate) fn put_bus(
     out.put("  bus ")?;
     put_bus_name(out, level, least)?;
     out.put(" |")?;
-    put_spaced(out, nodes)?;
+    put_numbers(out, nodes)?;
     out.put(" |")?;
     put_terminals(out, terminals)
 }

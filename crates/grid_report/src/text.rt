@@ -1,23 +1,23 @@
 // Text that grows, and what is shown of values.
-ghost use Rattle.std.specs.Prelude.{◌≡◌, [], ◌∷◌, ◌++◌, List as Seq, ℕ, string_bytes, OnOk, decimal, OnErr};
+ghost use Rattle.std.specs.Prelude.{◌≡◌, [], ◌∷◌, ◌++◌, List as Seq, ℕ, OnOk, decimal, OnErr, ◌≤◌, length};
 ghost use Rattle.std.specs.List.{flat_map};
 ghost use Rattle.grid_report.specs.Words.{signed, behind};
 
 use grid_ids::{Id, Memory};
-use itoa::Buffer;
+use itoa::{Buffer, write_digits};
 use std::alloc::Global;
 use std::marker::Model;
 
 /// Text that grows at its end, seen as its bytes. A call that takes memory leaves no text where memory is wanting.
 #[derive(Drop)]
 pub struct Text {
-    bytes: String,
+    bytes: Vec<u8>,
 }
 
 impl Model for Text {
     ghost Value = { Seq ℕ };
 
-    ghost view = { λ t. string_bytes t.bytes };
+    ghost view = { λ t. t.bytes.items };
 }
 
 impl Text {
@@ -26,7 +26,7 @@ impl Text {
         ensures { result ≡ [] }
     {
         Text {
-            bytes: String::new(alloc),
+            bytes: Vec::new(alloc),
         }
     }
 
@@ -41,7 +41,7 @@ impl Text {
     pub fn as_bytes(&self) -> &[u8]
         ensures { result.now ≡ self.now }
     {
-        self.bytes.as_bytes()
+        self.bytes.as_slice()
     }
 
     /// Puts a text last.
@@ -49,7 +49,15 @@ impl Text {
         ensures ok { OnOk result (self.new ≡ self.old ++ text.now) }
         ensures err { OnErr result (self.new ≡ []) }
     {
-        match self.bytes.push_str(text) {
+        self.put_bytes(text.as_bytes())
+    }
+
+    /// Puts bytes last.
+    fn put_bytes(&mut self, bytes: &[u8]) -> Result<(), Memory>
+        ensures ok { OnOk result (self.new ≡ self.old ++ bytes.now) }
+        ensures err { OnErr result (self.new ≡ []) }
+    {
+        match self.bytes.extend_from_slice(bytes) {
             Ok(()) => Ok(()),
             Err(_) => {
                 self.bytes.clear();
@@ -63,7 +71,9 @@ impl Text {
         ensures ok { OnOk result (self.new ≡ self.old ++ decimal number) }
         ensures err { OnErr result (self.new ≡ []) }
     {
-        self.put(Buffer::new().format(number))
+        let mut bytes = [0; 20];
+        let start = write_digits(number, &mut bytes, 20);
+        self.put_bytes(&bytes[start..])
     }
 
     /// Puts a total last, in decimal digits without a leading zero.
@@ -126,7 +136,7 @@ impl Shown for Text {
     ghost shown = { λ t. t };
 
     fn show(&self, out: &mut Text) -> Result<(), Memory> {
-        out.put(self.bytes.as_str())
+        out.put_bytes(self.as_bytes())
     }
 }
 
@@ -148,6 +158,31 @@ pub fn put_spaced<T: Shown>(out: &mut Text, items: &[T]) -> Result<(), Memory>
         item.show(out)?;
     }
     Ok(())
+}
+
+/// Puts each number behind a space. Where memory is wanting, the text is empty.
+pub(crate) fn put_numbers(out: &mut Text, numbers: &[u16]) -> Result<(), Memory>
+    ensures ok { OnOk result (out.new ≡ out.old ++ flat_map (λ n. 32 ∷ decimal n) numbers.now) }
+    ensures err { OnErr result (out.new ≡ []) }
+{
+    for few in numbers.chunks(16) {
+        put_few(out, few)?;
+    }
+    Ok(())
+}
+
+/// Puts each of at most 16 numbers behind a space. They are written from the last to the first, at most six bytes each, and put at once.
+fn put_few(out: &mut Text, few: &[u16]) -> Result<(), Memory>
+    requires { length few.now ≤ 16 }
+    ensures ok { OnOk result (out.new ≡ out.old ++ flat_map (λ n. 32 ∷ decimal n) few.now) }
+    ensures err { OnErr result (out.new ≡ []) }
+{
+    let mut bytes = [b' '; 96];
+    let mut start = bytes.len();
+    for at in (0..few.len()).rev() {
+        start = write_digits(u64::from(few[at]), &mut bytes, start) - 1;
+    }
+    out.put_bytes(&bytes[start..])
 }
 
 /// Puts words and a value behind them. Where memory is wanting, the text is empty.
