@@ -4,8 +4,8 @@ ghost use Rattle.std.specs.Vec.{vec_len, vec_capacity};
 ghost use Rattle.grid_core.specs.Journals.{entry_made};
 ghost use Rattle.grid_core.specs.Machines.{WorksOn};
 
-use crate::machine::{Machine, Made};
-use crate::{Entry, Reply, Request};
+use crate::machine::{Entered, Machine};
+use crate::{Entry, Request};
 use grid_ids::{Duplicate, Id, Memory};
 
 /// What an entry of the journal has before its step.
@@ -34,25 +34,19 @@ pub(crate) fn begin(
     Ok(Begun { variant, asked })
 }
 
-/// Puts the entry of a step that was made last, without memory, and hands out its reply.
-pub(crate) fn enter(journal: &mut Vec<Entry>, worker: u32, begun: Begun, made: Made) -> Reply
+/// Puts the entry of a step that was made last, without memory.
+pub(crate) fn enter(journal: &mut Vec<Entry>, worker: u32, begun: Begun, entered: Entered)
     requires { vec_len journal.old < vec_capacity journal.old }
-    ensures reply { result ≡ made.reply }
-    ensures entry { journal.new.items
-        ≡ journal.old.items ++ entry_made worker begun.variant begun.asked made ∷ [] }
+    ensures { journal.new.items
+        ≡ journal.old.items ++ entry_made worker begun.variant begun.asked entered ∷ [] }
 {
     let Begun { variant, asked } = begun;
-    let Made {
-        reply,
-        copy,
-        events,
-    } = made;
+    let Entered { reply, events } = entered;
     journal.push_reserved(Entry {
         worker,
         variant,
         request: asked,
-        reply: copy,
+        reply,
         events,
     });
-    reply
 }

@@ -1,27 +1,12 @@
-use Rattle.std.proofs.Common.{arith}
+use Rattle.std.proofs.Common.{subst}
+use Rattle.std.specs.Prelude.{MatchOption}
+use Rattle.grid_core.specs.Machines.{IsDead}
+use Rattle.grid_core.specs.Verdicts.{Decides}
 use Rattle.grid_core.proofs.Making.{each_ok}
-use Rattle.grid_core.proofs.Flagging.{stands_slot, flagged, slot_within, powers_within, dead_made}
-use Rattle.grid_core.proofs.Carrying.{asks_variant, seen_fits, found_decides}
+use Rattle.grid_core.proofs.Flagging.{dead_made}
+use Rattle.grid_core.proofs.Carrying.{asks_variant}
 use Rattle.grid_core.proofs.machine.Machine.ask.Goals as goal
 
 pub returns-in-None-clause-made : goal.returns-in-None-clause-made
 returns-in-None-clause-made c =
-    each_ok c.answer.result c.answer.ensures (λ made is. dead_made c.args.self.now c.args.worker c.args.variant.now c.args.request.now made (asks_variant c.args.request.now c.requires.asks) c.requires.works c.in-None.ensures is)
-
-pub states-opened-requires : goal.states-opened-requires
-states-opened-requires c = stands_slot c.args.self.now c.args.variant.now c.in-Some.slot c.in-Some.ensures
-
-pub index-retained-requires : goal.index-retained-requires
-index-retained-requires c = let below = slot_within c.args.self.now c.in-Some.slot (flagged c.args.self.now c.args.variant.now c.in-Some.slot c.requires.held c.in-Some.ensures) in omega (arith, below, c.args.self.now.retained.ok.0)
-
-pub index-powers-requires : goal.index-powers-requires
-index-powers-requires c = let below = powers_within c.args.self.now c.args.variant.now c.in-Some.slot c.requires.held c.in-Some.ensures in omega (arith, below, c.args.self.now.powers.ok.0)
-
-pub find_verdict-requires-clause-fits : goal.find_verdict-requires-clause-fits
-find_verdict-requires-clause-fits c =
-    seen_fits c.args.self.now c.in-Some.slot c.args.variant.now c.requires.held c.in-Some.ensures c.states-opened.result.now c.index-retained.result.now c.index-powers.result.now c.states-opened.ensures c.index-retained.ensures c.index-powers.ensures
-
-pub carry_out-requires-clause-decides : goal.carry_out-requires-clause-decides
-carry_out-requires-clause-decides c =
-    found_decides c.args.self.now c.in-Some.slot c.args.variant.now c.requires.held c.in-Some.ensures c.states-opened.result.now c.index-retained.result.now c.index-powers.result.now c.states-opened.ensures c.index-retained.ensures c.index-powers.ensures
-    c.args.request.now c.in_ok-verdict.verdict c.in_ok-verdict.ensures.found
+    each_ok c.answer.result c.answer.ensures (λ made is. dead_made c.args.self.now c.args.worker c.args.variant.now c.args.request.now made (asks_variant c.args.request.now c.requires.asks) c.requires.works (subst (λ o. MatchOption o (IsDead c.args.self.now c.args.variant.now) (Decides c.args.self.now c.args.variant.now c.args.request.now)) c.in-None.is c.in_ok-verdict.ensures.decided) is)
