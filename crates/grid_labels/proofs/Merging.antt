@@ -68,3 +68,10 @@ module _ (net more : Graph) (a b : ℕ) (s : IsOneMore net more a b) where
       (λ x lt. let less : x < net.nodes = (rw s.nodes at lt) in
       ap (λ xs. get_or xs x 0) made ∙ get_or-map (merged one other) old x 0 0 (omega (arith, less, long)) ∙ ap (merged one other) (at_place net.nodes L old x was less)
       ∙ ap (λ n. merged n other (L x)) first_is ∙ ap (λ n. merged (L a) n (L x)) second_is ∙ least_merged x less)
+
+-- the labels are the same, by whatever pair more the ends are joined
+pub one_labels : (net more other : Graph) (a b : ℕ) → IsOneMore net more a b → IsOneMore net other a b → labels_of more ≡ labels_of other
+one_labels net more other a b s t =
+    let old = labels_of net in
+    let new = map (merged (get_or old a 0) (get_or old b 0)) old in
+    sym (closed_merged net more a b s old new (get_or old a 0) (get_or old b 0) refl refl refl refl) ∙ closed_merged net other a b t old new (get_or old a 0) (get_or old b 0) refl refl refl refl
