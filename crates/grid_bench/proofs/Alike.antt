@@ -10,6 +10,7 @@ use Rattle.grid_queue.specs.declared.net.NetEdge.{NetEdge}
 use Rattle.grid_queue.specs.Net.{NetShape, shape}
 use Rattle.grid_busbreaker.specs.Labelled.{passing_flags}
 use Rattle.grid_bench.specs.Nets.{switch_net_edge, internal_net_edge, switch_net_edges, net_edges, net_where, closed_flags}
+use Rattle.grid_level.specs.Passing as passing
 use Rattle.grid_bench.specs.Ends.{switch_ends, SameEnds}
 use Rattle.grid_bench.specs.declared.shown.Shown.{Shown}
 use Rattle.grid_bench.specs.Contents.{content, IsShownOf, IsKept}
@@ -22,7 +23,7 @@ ends_of_same level other e = let P : VoltageLevel → Type 0 = λ z. SameEnds le
 
 pub same_many : (level other : VoltageLevel) → SameEnds level other → length level.switches ≡ length other.switches
 same_many level other same =
-    sym (length-map level.switches (λ s. ends (switch_edge s))) ∙ ap length same.same_switches ∙ length-map other.switches (λ s. ends (switch_edge s))
+    sym (length-map level.switches passing.switch_ends) ∙ ap length same.same_switches ∙ length-map other.switches passing.switch_ends
 
 edges_as : (ns : List ℕ) (ss ts : List Switch) (flags : List Bool) → switch_ends ss ≡ switch_ends ts → switch_net_edges ns ss flags ≡ switch_net_edges ns ts flags
 unfolding switch_net_edges ends

@@ -30,6 +30,7 @@ abbrev marked : List Switch → List Bool → List (ℕ × ℕ)
 marked ss flags = map (λ pair. ends (switch_edge pair.0)) (filter (λ pair. pair.1) (zip ss flags))
 
 marked_as : (ss ts : List Switch) (flags : List Bool) → switch_ends ss ≡ switch_ends ts → marked ss flags ≡ marked ts flags
+unfolding ends
 marked_as [] [] flags e = refl
 marked_as [] (t ∷ ts) flags e = absurd (cc)
 marked_as (s ∷ ss) [] flags e = absurd (cc)

@@ -1,9 +1,8 @@
 // Whether two levels have the same ends.
 ghost use Rattle.std.specs.Prelude.{◌≡◌, ◌↔◌, IsTrue, length};
 ghost use Rattle.grid_level.specs.Passing.{nodes};
-ghost use Rattle.grid_bench.specs.Ends.{switch_ends, SameEnds};
+ghost use Rattle.grid_bench.specs.Ends.{SameEnds};
 
-use crate::shared::SharedLevel;
 use grid_ids::same_items;
 use grid_level::Level;
 
@@ -21,8 +20,8 @@ fn same_nodes(level: &Level, other: &Level) -> bool
     same
 }
 
-// Whether both lists have the same nodes. The loop goes to its end, so that many nodes can be compared at once.
-fn same_numbers(list: &[u16], others: &[u16]) -> bool
+// Whether both lists have the same pairs of nodes. The loop goes to its end, so that many can be compared at once.
+fn same_pairs(list: &[(u16, u16)], others: &[(u16, u16)]) -> bool
     ensures { IsTrue result ↔ (list.now ≡ others.now) }
 {
     if list.len() != others.len() {
@@ -30,24 +29,20 @@ fn same_numbers(list: &[u16], others: &[u16]) -> bool
     }
     let mut same = true;
     for place in 0..list.len() {
-        same &= list[place] == others[place];
+        let (first, second) = list[place];
+        let (other_first, other_second) = others[place];
+        same &= first == other_first;
+        same &= second == other_second;
     }
     same
 }
 
-// Whether the switches of both levels stand between the same nodes.
-fn same_switches(level: &SharedLevel, other: &SharedLevel) -> bool
-    ensures { IsTrue result ↔ (switch_ends level.now.switches ≡ switch_ends other.now.switches) }
-{
-    same_numbers(level.firsts(), other.firsts()) && same_numbers(level.seconds(), other.seconds())
-}
-
 /// Whether both levels have the same nodes, and their switches and internal connections stand between the same ones. The
-/// switches' nodes are read from their short lists. It reads each once, and takes no memory.
-pub(crate) fn same_ends(level: &SharedLevel, other: &SharedLevel) -> bool
+/// switches' nodes are read from the level's list of them. It reads each once, and takes no memory.
+pub(crate) fn same_ends(level: &Level, other: &Level) -> bool
     ensures { IsTrue result ↔ SameEnds level.now other.now }
 {
-    same_switches(level, other)
-        && same_items(level.level().internals(), other.level().internals())
-        && same_nodes(level.level(), other.level())
+    same_pairs(level.switch_ends(), other.switch_ends())
+        && same_items(level.internals(), other.internals())
+        && same_nodes(level, other)
 }

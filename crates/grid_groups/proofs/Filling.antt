@@ -66,30 +66,26 @@ rank_of p (suc n) j lt =
 pub few_passed : (p : ℕ → Bool) (n : ℕ) → length (filter p (places n)) ≤ n
 few_passed p n = omega (arith, length-filter p (places n), count_all n p)
 
-passed_grows : (p : ℕ → Bool) (n : ℕ) → p n ≡ true → length (filter p (places (n + 1))) ≡ length (filter p (places n)) + 1
-passed_grows p n h = ap length (places_passed p n ∙ ap (λ t. filter p (places n) ++ cond t (n ∷ []) []) h) ∙ length-append (filter p (places n)) (n ∷ [])
-
-passed_as_before : (p : ℕ → Bool) (n : ℕ) → p n ≡ false → length (filter p (places (n + 1))) ≡ length (filter p (places n))
-passed_as_before p n h = ap length (places_passed p n ∙ ap (λ t. filter p (places n) ++ cond t (n ∷ []) []) h ∙ append-nil (filter p (places n)))
-
 -- ---- the numbers of the leaders
 
-pub numbers_push : (labels numbers : List ℕ) (i next : ℕ) → AreNumbers labels i numbers → next ≡ length (filter (λ j. eqb (get_or labels j 0) j) (places i)) → AreNumbers labels (i + 1) (numbers ++ next ∷ [])
-numbers_push labels numbers i next s e = (
-  omega (arith, s.0, length-append numbers (next ∷ [])),
-  λ k lt. elim (cases_lt k i) [
-    | inl h ↦ get_or-append numbers (next ∷ []) 0 k (omega (arith, h, s.0)) ∙ s.1 k h
-    | inr h ↦ (let last : k ≡ length numbers = omega (arith, lt, h, s.0) in
-        let at : k ≡ i = omega (arith, lt, h) in
-        ap (λ z. get_or (numbers ++ next ∷ []) z 0) last ∙ get_or-append_seam numbers next [] 0 ∙ e ∙ ap (λ z. length (filter (λ j. eqb (get_or labels j 0) j) (places z))) (sym at))
+pub numbers_set : (labels numbers : List ℕ) (i next : ℕ) → i < length labels → AreNumbers labels i numbers → next ≡ length (filter (λ j. eqb (get_or labels j 0) j) (places i)) → AreNumbers labels (i + 1) (set numbers i next)
+numbers_set labels numbers i next lt s e = (
+  length-set numbers i next ∙ s.0,
+  λ k less leads. elim (cases_lt k i) [
+    | inl h ↦ get_or-set_other numbers i k next 0 (λ g. omega (arith, g, h)) ∙ s.1 k h leads
+    | inr h ↦ (let at : k ≡ i = omega (arith, less, h) in
+        ap (λ z. get_or (set numbers i next) z 0) at ∙ get_or-set_same numbers i next 0 (omega (arith, lt, s.0)) ∙ e ∙ ap (λ z. length (filter (λ j. eqb (get_or labels j 0) j) (places z))) (sym at))
   ],
 )
 
-pub next_led : (labels : List ℕ) (i : ℕ) → get_or labels i 0 ≡ i → length (filter (λ j. eqb (get_or labels j 0) j) (places (i + 1))) ≡ length (filter (λ j. eqb (get_or labels j 0) j) (places i)) + 1
-next_led labels i e = passed_grows (λ j. eqb (get_or labels j 0) j) i (eq-eqb (get_or labels i 0) i e)
-
-pub next_same : (labels : List ℕ) (i : ℕ) → get_or labels i 0 ≢ i → length (filter (λ j. eqb (get_or labels j 0) j) (places (i + 1))) ≡ length (filter (λ j. eqb (get_or labels j 0) j) (places i))
-next_same labels i ne = passed_as_before (λ j. eqb (get_or labels j 0) j) i (ne_eqb (get_or labels i 0) i ne)
+pub numbers_past : (labels numbers : List ℕ) (i : ℕ) → AreNumbers labels i numbers → get_or labels i 0 ≢ i → AreNumbers labels (i + 1) numbers
+numbers_past labels numbers i s other = (
+  s.0,
+  λ k less leads. elim (cases_lt k i) [
+    | inl h ↦ s.1 k h leads
+    | inr h ↦ (let at : k ≡ i = omega (arith, less, h) in absurd (other (ap (λ z. get_or labels z 0) (sym at) ∙ leads ∙ at)))
+  ],
+)
 
 -- ---- groups by their leaders
 
@@ -203,13 +199,13 @@ module _ (labels numbers : List ℕ) (numbered : AreNumbers labels (length label
   number_at l lt leads =
       let p : ℕ → Bool = λ k. eqb (get_or labels k 0) k in
       let P : ℕ → Type 0 = λ z. (z < length (filter p (places (length labels)))) × (get_or (filter p (places (length labels))) z 0 ≡ l) in
-      subst P (sym (numbered.1 l lt)) (place_at p (length labels) l lt (eq-eqb (get_or labels l 0) l leads))
+      subst P (sym (numbered.1 l lt leads)) (place_at p (length labels) l lt (eq-eqb (get_or labels l 0) l leads))
 
   others : (l j : ℕ) → l < length labels → j < length (leading labels) → j ≢ get_or numbers l 0 → l ≢ get_or (leading labels) j 0
   unfolding leading
   others l j lt less ne e =
       let p : ℕ → Bool = λ k. eqb (get_or labels k 0) k in
-      ne (sym (rank_of p (length labels) j less) ∙ ap (λ z. length (filter p (places z))) (sym e) ∙ sym (numbered.1 l lt))
+      ne (sym (rank_of p (length labels) j less) ∙ ap (λ z. length (filter p (places z))) (sym e) ∙ sym (numbered.1 l lt (ap (λ z. get_or labels z 0) e ∙ leader_leads j less ∙ sym e)))
 
   apart : (label j : ℕ) → j < length (leading labels) → get_or labels label 0 ≢ label → label ≢ get_or (leading labels) j 0
   apart label j less other h = other (ap (λ z. get_or labels z 0) h ∙ leader_leads j less ∙ sym h)

@@ -3,7 +3,7 @@ use Rattle.std.proofs.Common.{◌≡◌, refl, sym, ap, ◌∙◌, subst, ℕ, z
 use Rattle.std.specs.Prelude.{eqb, map, filter, slice_get}
 use Rattle.std.specs.List.{list_all, filter_map, range_with_len, zip}
 use Rattle.std.proofs.lemmas.Slice.Zip.{length-zip, get_or-zip}
-use Rattle.std.proofs.lemmas.Bool.{and_parts}
+use Rattle.std.proofs.lemmas.Bool.{and_parts, and_from}
 use Rattle.std.proofs.lemmas.Option.{slice_get_read}
 use Rattle.std.proofs.lemmas.List.{append-nil, map-append, take_more}
 use Rattle.std.proofs.lemmas.List.Elements.{filter_more, filter-append, filter_map-append}
@@ -11,6 +11,7 @@ use Rattle.grid_graph.specs.Components.{places}
 use Rattle.grid_level.specs.declared.Switch.{Switch}
 use Rattle.grid_level.specs.declared.Internal.{Internal}
 use Rattle.grid_level.specs.VoltageLevel.{VoltageLevel}
+use Rattle.grid_level.specs.Passing as passing
 use Rattle.grid_level.specs.Passing.{Edge, switch_edge, internal_edge, edges, ends, nodes}
 use Rattle.grid_level.specs.Kept.{among, ends_among}
 use Rattle.grid_groups.specs.Labels.{items_at, places_with}
@@ -128,6 +129,31 @@ zip_within ss flags i lt long = omega (arith, length-zip ss flags, lt, long)
 
 pub zip_over : (ss : List Switch) (flags : List Bool) (i : ℕ) → length ss ≤ i → length (zip ss flags) ≤ i
 zip_over ss flags i le = omega (arith, length-zip ss flags, le)
+
+-- ---- the ends of switches
+
+ends_among-switches : (ns : List ℕ) (ss : List Switch) (rest : List Edge) → list_all (ends_among ns) (map switch_edge ss ++ rest) ≡ true → list_all (λ pair. among ns pair.0 && among ns pair.1) (map passing.switch_ends ss) ≡ true
+unfolding ends
+ends_among-switches ns [] rest h = refl
+ends_among-switches ns (s ∷ ss) rest h =
+    let parts = and_parts (among ns s.node1 && among ns s.node2) (list_all (ends_among ns) (map switch_edge ss ++ rest)) h in
+    and_from (among ns s.node1 && among ns s.node2) (list_all (λ (pair : ℕ × ℕ). among ns pair.0 && among ns pair.1) (map passing.switch_ends ss)) parts.0 (ends_among-switches ns ss rest parts.1)
+
+pub pair_at : (level : VoltageLevel) (i : ℕ) (pair : ℕ × ℕ) → list_all (ends_among (nodes level)) (edges level) ≡ true → i < length (map passing.switch_ends level.switches) → pair ≡ get_or (map passing.switch_ends level.switches) i pair
+    → (among (nodes level) pair.0 ≡ true) × (among (nodes level) pair.1 ≡ true)
+unfolding edges
+pair_at level i pair h lt at =
+    let ns = nodes level in
+    and_parts (among ns pair.0) (among ns pair.1)
+    (all_at (λ (p : ℕ × ℕ). among ns p.0 && among ns p.1) (map passing.switch_ends level.switches) i pair (ends_among-switches ns level.switches (map internal_edge level.internals) h) lt at)
+
+-- the ends of the switches whose flag is set
+pub passed_ends : (ss : List Switch) (flags : List Bool) → map (λ pair. pair.0) (filter (λ pair. pair.1) (zip (map passing.switch_ends ss) flags)) ≡ map (λ pair. ends (switch_edge pair.0)) (filter (λ pair. pair.1) (zip ss flags))
+unfolding ends
+passed_ends [] flags = refl
+passed_ends (s ∷ ss) [] = refl
+passed_ends (s ∷ ss) (true ∷ flags) = ap (λ z. (s.node1, s.node2) ∷ z) (passed_ends ss flags)
+passed_ends (s ∷ ss) (false ∷ flags) = passed_ends ss flags
 
 -- ---- what is made of the places that pass
 

@@ -64,10 +64,10 @@ labels_placed level labels = map (λ p. label_of (nodes level) labels p.node) le
 unfoldable pub leading : List ℕ → List ℕ
 leading labels = filter (λ k. slice_index labels k == k) (places (length labels))
 
--- how many leaders come before each index below a count
+-- at each leader below a count, how many leaders come before it
 abbrev pub AreNumbers : List ℕ → ℕ → List ℕ → Type 0
 AreNumbers labels count numbers =
-    (length numbers ≡ count) × ((k : ℕ) → k < count → slice_index numbers k ≡ length (filter (λ j. slice_index labels j == j) (places k)))
+    (length numbers ≡ length labels) × ((k : ℕ) → k < count → slice_index labels k ≡ k → slice_index numbers k ≡ length (filter (λ j. slice_index labels j == j) (places k)))
 
 -- past the end of a list of groups
 abbrev pub no_group : Group

@@ -42,22 +42,6 @@ fn counts_of(alloc: Global, keys: &[u32], count: u32) -> Result<Vec<u32>, Memory
     Ok(counts)
 }
 
-// How many leaders come before each index: at a leader, the number of its group.
-fn numbers_of(alloc: Global, labels: &[u32]) -> Result<Vec<u32>, Memory>
-    requires { length labels.now < 2 ^ 32 }
-    ensures { IfOk result (λ numbers. AreNumbers labels.now (length labels.now) numbers.items) }
-{
-    let mut numbers = Vec::with_capacity(alloc, labels.len())?;
-    let mut next = 0u32;
-    for (index, label) in labels.iter().enumerate() {
-        numbers.push(next)?;
-        if *label as usize == index {
-            next += 1;
-        }
-    }
-    Ok(numbers)
-}
-
 /// The label of each terminal's node, by rising node.
 pub fn terminal_labels(alloc: Global, level: &Level, labels: &[u32]) -> Result<Places, Memory>
     requires long { length labels.now ≡ length (nodes_of level.now) }
@@ -95,30 +79,34 @@ fn empty_group(
     })
 }
 
-// The groups by rising leader with nothing in them yet, and with room for what has their labels. There is room for so
-// many groups at first.
+// The groups by rising leader with nothing in them yet, and with room for what has their labels. At each leader, the
+// number of its group is written.
 fn empty_groups(
     alloc: Global,
     level: &Level,
     labels: &[u32],
     keys: &[u32],
-    room: usize,
+    numbers: &mut Vec<u32>,
 ) -> Result<Vec<Group>, Memory>
     requires long { length labels.now ≡ length (nodes_of level.now) }
     requires below { (k : ℕ) → k < length labels.now
         → slice_index labels.now k < length labels.now }
     requires keys { (k : ℕ) → k < length keys.now → slice_index keys.now k < length labels.now }
     requires few { length keys.now ≤ 1024 }
-    ensures { IfOk result (λ groups. groups.items
+    requires numbers { length numbers.old.items ≡ length labels.now }
+    ensures groups { IfOk result (λ groups. groups.items
         ≡ map (λ l. group_of level.now l [] []) (leading labels.now)) }
+    ensures numbers { OnOk result
+        (AreNumbers labels.now (length labels.now) numbers.new.items) }
 {
     let count = level.node_count();
     let nodes = counts_of(alloc, labels, count)?;
     let terminals = counts_of(alloc, keys, count)?;
-    let mut groups = Vec::with_capacity(alloc, room)?;
+    let mut groups = Vec::new(alloc);
     for leader in 0..count {
         let index = leader as usize;
         if labels[index] == leader {
+            numbers[index] = groups.len() as u32;
             groups.push(empty_group(alloc, level, leader, nodes[index], terminals[index])?)?;
         }
     }
@@ -206,12 +194,8 @@ pub fn group_nodes(alloc: Global, level: &Level, labels: &[u32]) -> Result<Group
 {
     level.keeps();
     let keys = terminal_labels(alloc, level, labels)?;
-    let numbers = numbers_of(alloc, labels)?;
-    let room = match numbers.last() {
-        Some(last) => *last as usize + 1,
-        None => 0,
-    };
-    let mut groups = empty_groups(alloc, level, labels, keys.slice(), room)?;
+    let mut numbers = vec![in alloc; 0u32; labels.len()]?;
+    let mut groups = empty_groups(alloc, level, labels, keys.slice(), &mut numbers)?;
     put_nodes(&mut groups, level, labels, numbers.as_slice())?;
     put_terminals(&mut groups, labels, numbers.as_slice(), keys.slice())?;
     Ok(Groups::from_vec(groups))

@@ -16,11 +16,6 @@ pub fn index_of(level: &Level, node: u16) -> u32
     requires { IsTrue (among (nodes level.now) node) }
     ensures { result ≡ index_in (nodes level.now) node }
 {
-    level.keeps();
-    let number = u32::from(node);
-    if number < level.node_count() && level.node_at(number) == node {
-        return number;
-    }
     level.index_of(node).unwrap()
 }
 
@@ -47,9 +42,9 @@ fn join_switches(joiner: &mut Joiner, indices: &NodeIndices, passes: &[bool])
 {
     let level = indices.level();
     level.keeps();
-    for (place, switch) in level.switches().iter().enumerate() {
-        if passes[place] {
-            join_pair(joiner, indices, switch.node1, switch.node2);
+    for (pair, flag) in level.switch_ends().iter().zip(passes) {
+        if *flag {
+            join_pair(joiner, indices, pair.0, pair.1);
         }
     }
 }

@@ -1,10 +1,10 @@
 -- From what a level keeps to what its code promises.
 use Rattle.std.proofs.Common.{◌≡◌, refl, sym, ap, ◌∙◌, ℕ, ℤ, zero, suc, ◌+◌, ◌*◌, ◌<◌, ◌≤◌, Bool, true, false, cond, not, List, [], ◌∷◌, ◌++◌, length, arith, Option, Some, None, get_or, take, drop}
-use Rattle.std.specs.Prelude.{nat_lt, Result, Ok, Err, slice_get, remove, position}
+use Rattle.std.specs.Prelude.{nat_lt, Result, Ok, Err, slice_get, remove, position, map}
 use Rattle.std.specs.List.{list_all, position_or_len}
 use Rattle.std.specs.Option.{option_map}
 use Rattle.std.proofs.lemmas.Bool.{and_parts, ltb-true, ltb-false, lt-ltb, le-ltb, ne_eqb}
-use Rattle.std.proofs.lemmas.List.{length-append}
+use Rattle.std.proofs.lemmas.List.{length-append, map-append}
 use Rattle.grid_ids.specs.Refusing.{◌>>=◌, map_fault, found_or}
 use Rattle.grid_level.specs.declared.uses.Use.{Use}
 use Rattle.grid_level.specs.declared.Placed.{Placed}
@@ -13,7 +13,7 @@ use Rattle.grid_level.specs.declared.Internal.{Internal}
 use Rattle.grid_level.specs.declared.LevelFault.{LevelFault}
 use Rattle.grid_level.specs.VoltageLevel.{VoltageLevel}
 use Rattle.grid_level.specs.Uses.{key_here, with_use, without_use, tally, used_nodes, total}
-use Rattle.grid_level.specs.Passing.{edges, named, nodes, with_node, rising, is_rising}
+use Rattle.grid_level.specs.Passing.{edges, switch_ends, named, nodes, with_node, rising, is_rising}
 use Rattle.grid_level.specs.Kept.{IsKept, lists_of}
 use Rattle.grid_level.specs.LevelEdits.{Unfit, level_fault_of, refusal_of, edge_fits, level_with_switch, level_with_internal, level_without_internal, without_first, joins, no_edge}
 use Rattle.grid_level.specs.declared.LevelFault.TheVariants as faults
@@ -35,14 +35,14 @@ unfolding used_nodes
 length_map [] = refl
 length_map (u ∷ us) = ap suc (length_map us)
 
-pub used_is : (level : VoltageLevel) (uses : List Use) → IsKept level uses → used_nodes uses ≡ nodes level
+pub used_is : (level : VoltageLevel) (uses : List Use) {pairs : List (ℕ × ℕ)} → IsKept level uses pairs → used_nodes uses ≡ nodes level
 unfolding nodes
 used_is level uses k = ap used_nodes k.counted ∙ tally_nodes (named level)
 
-pub nodes_counted : (level : VoltageLevel) (uses : List Use) → IsKept level uses → length uses ≡ length (nodes level)
+pub nodes_counted : (level : VoltageLevel) (uses : List Use) {pairs : List (ℕ × ℕ)} → IsKept level uses pairs → length uses ≡ length (nodes level)
 nodes_counted level uses k = sym (length_map uses) ∙ ap length (used_is level uses k)
 
-pub nodes_with_two : (level : VoltageLevel) (uses : List Use) (a b : ℕ) → IsKept level uses → (a ≡ b → ⊥)
+pub nodes_with_two : (level : VoltageLevel) (uses : List Use) {pairs : List (ℕ × ℕ)} (a b : ℕ) → IsKept level uses pairs → (a ≡ b → ⊥)
     → length (with_node a (with_node b (nodes level))) ≡ length uses + cond (key_here (λ u. u.node) a uses) 0 1 + cond (key_here (λ u. u.node) b uses) 0 1
 nodes_with_two level uses a b k differ =
     let same = used_is level uses k in
@@ -78,7 +78,7 @@ length_nodes_placed : (ps : List Placed) → length (placed_nodes ps) ≡ length
 length_nodes_placed [] = refl
 length_nodes_placed (p ∷ ps) = ap suc (length_nodes_placed ps)
 
-pub few_placed : (level : VoltageLevel) (uses : List Use) → IsKept level uses → length level.placed ≤ 1024
+pub few_placed : (level : VoltageLevel) (uses : List Use) {pairs : List (ℕ × ℕ)} → IsKept level uses pairs → length level.placed ≤ 1024
 unfolding nodes
 few_placed level uses k =
     let front = switch_nodes level.switches ++ internal_nodes level.internals in
@@ -86,19 +86,19 @@ few_placed level uses k =
     let all : length (rising (named level)) ≡ length (rising (front ++ placed_nodes level.placed)) = ap (λ z. length (rising z)) (named_is_left level) in
     omega (arith, self, all, drop_some [] front (placed_nodes level.placed), k.within.few_nodes)
 
-pub room_is : (level : VoltageLevel) (uses : List Use) (n : ℕ) → IsKept level uses → length (with_node n (nodes level)) ≡ length uses + cond (key_here (λ u. u.node) n uses) 0 1
+pub room_is : (level : VoltageLevel) (uses : List Use) {pairs : List (ℕ × ℕ)} (n : ℕ) → IsKept level uses pairs → length (with_node n (nodes level)) ≡ length uses + cond (key_here (λ u. u.node) n uses) 0 1
 room_is level uses n k =
     let has : key_here (λ u. u.node) n uses ≡ key_here (λ m. m) n (nodes level) = walk-used n uses ∙ ap (key_here (λ m. m) n) (used_is level uses k) in
     length-with_node n (nodes level) ∙ ap (λ t. length (nodes level) + cond t 0 1) (sym has) ∙ ap (λ z. z + cond (key_here (λ u. u.node) n uses) 0 1) (sym (nodes_counted level uses k))
 
-pub few_uses : (level : VoltageLevel) (uses : List Use) → IsKept level uses → total uses < 65535
+pub few_uses : (level : VoltageLevel) (uses : List Use) {pairs : List (ℕ × ℕ)} → IsKept level uses pairs → total uses < 65535
 few_uses level uses k =
     let count : total uses ≡ length (named level) = ap total k.counted ∙ total-tally (named level) in
     let long : length (named level) ≡ length (switch_nodes level.switches) + (length (internal_nodes level.internals) + length (placed_nodes level.placed)) =
     ap length (named_is level) ∙ length-append (switch_nodes level.switches) (internal_nodes level.internals ++ placed_nodes level.placed) ∙ ap (λ z. length (switch_nodes level.switches) + z) (length-append (internal_nodes level.internals) (placed_nodes level.placed)) in
     omega (arith, count, long, length_switch_nodes level.switches, length_internal_nodes level.internals, length_nodes_placed level.placed, few_placed level uses k, k.within.few_edges, length-edges level)
 
-pub edges_bound : (level : VoltageLevel) (uses : List Use) → IsKept level uses → length level.switches + length level.internals ≤ 4096
+pub edges_bound : (level : VoltageLevel) (uses : List Use) {pairs : List (ℕ × ℕ)} → IsKept level uses pairs → length level.switches + length level.internals ≤ 4096
 edges_bound level uses k = omega (arith, k.within.few_edges, length-edges level)
 
 -- ---- a switch less
@@ -111,8 +111,14 @@ cut_at [] i x l e = absurd (omega arith)
 cut_at (y ∷ xs) zero x l e = ap (λ z. z ∷ xs) (sym e)
 cut_at (y ∷ xs) (suc i) x l e = ap (λ z. y ∷ z) (cut_at xs i x (omega arith) e)
 
-pub kept_without : (level : VoltageLevel) (uses : List Use) (place : ℕ) (s : Switch) → IsKept level uses → place < length level.switches → s ≡ get_or level.switches place s
-    → IsKept (without_place level place) (without_use s.node2 (without_use s.node1 uses))
+map_remove : {X Y : Type 0} (f : X → Y) (xs : List X) (i : ℕ) → remove (map f xs) i ≡ map f (remove xs i)
+map_remove f [] zero = refl
+map_remove f [] (suc i) = refl
+map_remove f (x ∷ xs) zero = refl
+map_remove f (x ∷ xs) (suc i) = ap (λ z. f x ∷ z) (map_remove f xs i)
+
+pub kept_without : (level : VoltageLevel) (uses : List Use) {pairs : List (ℕ × ℕ)} (place : ℕ) (s : Switch) → IsKept level uses pairs → place < length level.switches → s ≡ get_or level.switches place s
+    → IsKept (without_place level place) (without_use s.node2 (without_use s.node1 uses)) (remove pairs place)
 kept_without level uses place s k l e =
     let rest = internal_nodes level.internals ++ placed_nodes level.placed in
     let front = take place level.switches in
@@ -120,6 +126,7 @@ kept_without level uses place s k l e =
     let cut : level.switches ≡ front ++ s ∷ back = cut_at level.switches place s l e in
     record {
       counted = ap (λ z. without_use s.node2 (without_use s.node1 z)) (k.counted ∙ ap tally (named_switch_cut level front back s cut)) ∙ sym (shrunk (switch_nodes front) s.node1 s.node2 (switch_nodes back ++ rest)) ∙ ap tally (sym (named_switch_left level front back));
+      listed = ap (λ z. remove z place) k.listed ∙ map_remove switch_ends level.switches place;
       within = switch_cut_within level front back s cut k.within;
     }
 
@@ -158,21 +165,22 @@ switch_done level id kind node1 node2 opened retained fictitious a b h = rw (map
 abbrev pub switch_of : List ℕ → SwitchKind → ℕ → ℕ → Bool → Bool → Bool → Switch
 switch_of id kind a b opened retained fictitious = record { id = id; kind = kind; node1 = a; node2 = b; opened = opened; retained = retained; fictitious = fictitious }
 
-pub switch_kept : (level : VoltageLevel) (uses : List Use) (id : List ℕ) (kind : SwitchKind) (node1 node2 : ℤ) (opened retained fictitious : Bool) (a b : ℕ) → IsKept level uses
+pub switch_kept : (level : VoltageLevel) (uses : List Use) {pairs : List (ℕ × ℕ)} (id : List ℕ) (kind : SwitchKind) (node1 node2 : ℤ) (opened retained fictitious : Bool) (a b : ℕ) → IsKept level uses pairs
     → Ok (a, b) ≡ map_fault level_fault_of (edge_fits level node1 node2)
-    → IsKept (with_switch level (switch_of id kind a b opened retained fictitious)) (with_use a (with_use b uses))
+    → IsKept (with_switch level (switch_of id kind a b opened retained fictitious)) (with_use a (with_use b uses)) (pairs ++ (a, b) ∷ [])
 switch_kept level uses id kind node1 node2 opened retained fictitious a b k h =
     let f = fitting level node1 node2 (a, b) (map_ok (edge_fits level node1 node2) (a, b) h) in
     let s = switch_of id kind a b opened retained fictitious in
     let rest = internal_nodes level.internals ++ placed_nodes level.placed in
     record {
       counted = ap (λ z. with_use a (with_use b z)) (k.counted ∙ ap tally (named_is level)) ∙ sym (grown (switch_nodes level.switches) a b rest) ∙ ap tally (sym (named_switch level s));
+      listed = ap (λ z. z ++ (a, b) ∷ []) k.listed ∙ sym (map-append switch_ends level.switches (s ∷ []));
       within = switch_within level s k.within (node_of-le node1 a f.first) (node_of-le node2 b f.second) f.apart f.room f.few;
     }
 
-pub empty_kept : (id : List ℕ) (nominal_v : ℤ) (low_v high_v : Option ℤ) → IsKept (lists_of id nominal_v low_v high_v [] [] []) []
+pub empty_kept : (id : List ℕ) (nominal_v : ℤ) (low_v high_v : Option ℤ) → IsKept (lists_of id nominal_v low_v high_v [] [] []) [] []
 unfolding tally named nodes edges rising is_rising
-empty_kept id nominal_v low_v high_v = record { counted = refl; within = record { in_range = refl; few_nodes = omega arith; few_edges = omega arith; differ = refl; rise = refl } }
+empty_kept id nominal_v low_v high_v = record { counted = refl; listed = refl; within = record { in_range = refl; few_nodes = omega arith; few_edges = omega arith; differ = refl; rise = refl } }
 
 pub get_some : {X : Type 0} (xs : List X) (i : ℕ) (x : X) → i < length xs → x ≡ get_or xs i x → slice_get xs i ≡ Some x
 get_some [] i x l e = absurd (omega arith)
@@ -196,22 +204,23 @@ pub internal_done : (level : VoltageLevel) (node1 node2 : ℤ) (a b : ℕ) → O
 unfolding level_with_internal
 internal_done level node1 node2 a b h = rw (map_ok (edge_fits level node1 node2) (a, b) h) refl
 
-pub internal_kept : (level : VoltageLevel) (uses : List Use) (node1 node2 : ℤ) (a b : ℕ) → IsKept level uses → Ok (a, b) ≡ map_fault level_fault_of (edge_fits level node1 node2)
-    → IsKept (with_internal level (internal_of a b)) (with_use a (with_use b uses))
+pub internal_kept : (level : VoltageLevel) (uses : List Use) {pairs : List (ℕ × ℕ)} (node1 node2 : ℤ) (a b : ℕ) → IsKept level uses pairs → Ok (a, b) ≡ map_fault level_fault_of (edge_fits level node1 node2)
+    → IsKept (with_internal level (internal_of a b)) (with_use a (with_use b uses)) pairs
 internal_kept level uses node1 node2 a b k h =
     let f = fitting level node1 node2 (a, b) (map_ok (edge_fits level node1 node2) (a, b) h) in
     let i = internal_of a b in
     let front = switch_nodes level.switches ++ internal_nodes level.internals in
     record {
       counted = ap (λ z. with_use a (with_use b z)) (k.counted ∙ ap tally (named_is_left level)) ∙ sym (grown front a b (placed_nodes level.placed)) ∙ ap tally (sym (named_internal level i));
+      listed = k.listed;
       within = internal_within level i k.within (node_of-le node1 a f.first) (node_of-le node2 b f.second) f.apart f.room f.few;
     }
 
 abbrev pub internal_cut : VoltageLevel → ℕ → VoltageLevel
 internal_cut level place = record level { internals = remove level.internals place }
 
-pub kept_cut : (level : VoltageLevel) (uses : List Use) (place : ℕ) (i : Internal) → IsKept level uses → place < length level.internals → i ≡ get_or level.internals place i
-    → IsKept (internal_cut level place) (without_use i.node2 (without_use i.node1 uses))
+pub kept_cut : (level : VoltageLevel) (uses : List Use) {pairs : List (ℕ × ℕ)} (place : ℕ) (i : Internal) → IsKept level uses pairs → place < length level.internals → i ≡ get_or level.internals place i
+    → IsKept (internal_cut level place) (without_use i.node2 (without_use i.node1 uses)) pairs
 kept_cut level uses place i k l e =
     let front = take place level.internals in
     let back = drop (suc place) level.internals in
@@ -220,6 +229,7 @@ kept_cut level uses place i k l e =
     let rest = internal_nodes back ++ placed_nodes level.placed in
     record {
       counted = ap (λ z. without_use i.node2 (without_use i.node1 z)) (k.counted ∙ ap tally (named_cut level front back i cut)) ∙ sym (shrunk first i.node1 i.node2 rest) ∙ ap tally (sym (named_left level front back));
+      listed = k.listed;
       within = cut_within level front back i cut k.within;
     }
 

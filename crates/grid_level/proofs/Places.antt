@@ -3,7 +3,7 @@ use Rattle.std.proofs.Common.{◌≡◌, refl, sym, ap, ◌∙◌, ℕ, zero, su
 use Rattle.std.specs.Prelude.{map, nat_lt, ◌==◌, slice_get, slice_set, insert, remove}
 use Rattle.std.specs.List.{list_all, AllWithin}
 use Rattle.std.specs.List.Sorted.{IsNonDecreasingBy}
-use Rattle.std.proofs.lemmas.Bool.{lt-ltb, eq-eqb, ltb-true, eqb-true, and_parts, and_from, false≢true}
+use Rattle.std.proofs.lemmas.Bool.{lt-ltb, le-ltb, eq-eqb, ltb-true, eqb-true, and_parts, and_from, false≢true}
 use Rattle.std.proofs.lemmas.Bool.Decides.{nat_tests}
 use Rattle.grid_level.specs.declared.uses.Use.{Use}
 use Rattle.grid_level.specs.Uses.{place_among, key_here, once, with_use, without_use, less_use, used_nodes, total}
@@ -32,6 +32,17 @@ rising_ascends key (x ∷ xs) h zero (suc j) d le l =
     omega arith
 rising_ascends key (x ∷ xs) h (suc i) zero d le l = absurd (omega arith)
 rising_ascends key (x ∷ xs) h (suc i) (suc j) d le l = rising_ascends key xs (and_parts (list_all (nat_lt (key x)) (map key xs)) (is_rising (map key xs)) h).1 i j d (omega arith) (omega arith)
+
+-- in a rising list the place of a key is where it stands
+pub place_where : {X : Type 0} (key : X → ℕ) (n : ℕ) (xs : List X) (i : ℕ) (x : X) → is_rising (map key xs) ≡ true → i < length xs → x ≡ get_or xs i x → key x ≡ n → place_among key n xs ≡ i
+unfolding is_rising
+place_where key n [] i x r l e k = absurd (omega arith)
+place_where key n (y ∷ xs) zero x r l e k = let same : key x ≡ key y = ap key e in rw (le-ltb (key y) n (omega arith)) refl
+place_where key n (y ∷ xs) (suc i) x r l e k =
+    let parts = and_parts (list_all (nat_lt (key y)) (map key xs)) (is_rising (map key xs)) r in
+    let above : key y < key (get_or xs i x) = all_above key (key y) xs x i parts.0 (omega arith) in
+    let same : key x ≡ key (get_or xs i x) = ap key e in
+    rw (lt-ltb (key y) n (omega arith)) (ap suc (place_where key n xs i x parts.1 (omega arith) e k))
 
 -- ---- with_use at the place
 

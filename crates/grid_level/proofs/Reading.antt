@@ -10,7 +10,7 @@ use Rattle.grid_level.specs.declared.Internal.{Internal}
 use Rattle.grid_level.specs.declared.Placed.{Placed}
 use Rattle.grid_level.specs.VoltageLevel.{VoltageLevel}
 use Rattle.grid_level.specs.Uses.{place_among, key_here}
-use Rattle.grid_level.specs.Passing.{Edge, switch_edge, internal_edge, edges, ends, both, named, nodes, with_node, rising, is_rising}
+use Rattle.grid_level.specs.Passing.{Edge, switch_edge, internal_edge, edges, ends, switch_ends, both, named, nodes, with_node, rising, is_rising}
 use Rattle.grid_level.specs.LevelEdits.{max_node}
 use Rattle.grid_level.specs.Kept.{KeepsLimits, IsKept, among}
 use Rattle.grid_level.proofs.Counting.{Order, below, equal, above, order}
@@ -70,11 +70,16 @@ position_free key n xs r h = sym (rw ((here_at key n xs r).1 h, le-ltb (length (
 
 -- ---- the ends of an edge
 
-pub switch_ends : (ss : List Switch) (rest : List Edge) (place : ℕ) (s : Switch) → place < length ss → s ≡ get_or ss place s → option_map ends (slice_get (map switch_edge ss ++ rest) place) ≡ Some (s.node1, s.node2)
+listed_ends : (ss : List Switch) (rest : List Edge) (place : ℕ) (pair : ℕ × ℕ) → place < length (map switch_ends ss) → pair ≡ get_or (map switch_ends ss) place pair
+    → option_map ends (slice_get (map switch_edge ss ++ rest) place) ≡ Some pair
 unfolding ends
-switch_ends [] rest place s l e = absurd (omega arith)
-switch_ends (t ∷ ss) rest zero s l e = ap (λ (z : Switch). Some (z.node1, z.node2)) (sym e)
-switch_ends (t ∷ ss) rest (suc place) s l e = switch_ends ss rest place s (omega arith) e
+listed_ends [] rest place pair l e = absurd (omega arith)
+listed_ends (t ∷ ss) rest zero pair l e = ap (λ z. Some z) (sym e)
+listed_ends (t ∷ ss) rest (suc place) pair l e = listed_ends ss rest place pair (omega arith) e
+
+pub first_ends : (ss : List Switch) (rest : List Edge) (pairs : List (ℕ × ℕ)) (place : ℕ) (pair : ℕ × ℕ) → pairs ≡ map switch_ends ss → place < length pairs → pair ≡ get_or pairs place pair
+    → option_map ends (slice_get (map switch_edge ss ++ rest) place) ≡ Some pair
+first_ends ss rest pairs place pair same l e = listed_ends ss rest place pair (rw same at l) (rw same at e)
 
 internal_among : (is : List Internal) (place : ℕ) (i : Internal) → place < length is → i ≡ get_or is place i → option_map ends (slice_get (map internal_edge is) place) ≡ Some (i.node1, i.node2)
 unfolding ends
@@ -156,7 +161,7 @@ named_among : (level : VoltageLevel) → list_all (among (nodes level)) (named l
 unfolding nodes
 named_among level = all_along _ _ (named level) (among_rising (named level)) ∙ all_among [] (named level)
 
-pub keeps_limits : (level : VoltageLevel) (uses : List Use) → IsKept level uses → KeepsLimits level
+pub keeps_limits : (level : VoltageLevel) (uses : List Use) {pairs : List (ℕ × ℕ)} → IsKept level uses pairs → KeepsLimits level
 unfolding nodes named
 keeps_limits level uses k =
     let parts = all_parts (among (nodes level)) (flat_map (λ e. both (ends e)) (edges level)) (map (λ (p : Placed). p.node) level.placed) (named_among level) in

@@ -77,8 +77,8 @@ taken_at n (y ∷ ps) r x h = by (order y.node n) h (taken_at n ps parts.1 x)
         cc
 
 -- what a level keeps, with the terminal at a place less
-pub kept_taken : (level : VoltageLevel) (uses : List Use) (n i : ℕ) (p : Placed) → IsKept level uses → Taken n level.placed → i ≡ place_among (λ (x : Placed). x.node) n level.placed → p ≡ get_or level.placed i p
-    → IsKept (record level { placed = remove level.placed i }) (without_use n uses)
+pub kept_taken : (level : VoltageLevel) (uses : List Use) {pairs : List (ℕ × ℕ)} (n i : ℕ) (p : Placed) → IsKept level uses pairs → Taken n level.placed → i ≡ place_among (λ (x : Placed). x.node) n level.placed → p ≡ get_or level.placed i p
+    → IsKept (record level { placed = remove level.placed i }) (without_use n uses) pairs
 kept_taken level uses n i p k t at e =
     let front = switch_nodes level.switches ++ internal_nodes level.internals in
     let before = placed_nodes (take i level.placed) in
@@ -94,6 +94,7 @@ kept_taken level uses n i p k t at e =
     let is : named left ≡ (front ++ before) ++ after = named_is_left left ∙ ap (λ z. front ++ z) has ∙ sym (append_assoc front before after) in
     record {
       counted = ap (without_use n) (k.counted ∙ ap tally was) ∙ sym (tally_remove (front ++ before) n after) ∙ ap tally (sym is);
+      listed = k.listed;
       within = subst (λ (z : List Placed). IsWithin (record level { placed = z })) (sym rest) (fewer_placed_within (λ (x : Placed). not (stands_at n x)) level k.within);
     }
 
@@ -135,14 +136,14 @@ unfolding level_with_terminal
 terminal_done level node terminal stand n i ps f at is =
     rw f (ap (λ z. Ok (record level { placed = z })) (placed_insert (placed_of n terminal stand) level.placed ∙ ap (λ z. insert level.placed z (placed_of n terminal stand)) (sym at) ∙ sym is))
 
-pub terminal_kept : (level : VoltageLevel) (uses : List Use) (node : ℤ) (terminal : Terminal) (stand : Stand) (n i : ℕ) (ps : List Placed) → IsKept level uses → terminal_fits level node ≡ Ok n
-    → i ≡ place_among (λ (p : Placed). p.node) n level.placed → ps ≡ insert level.placed i (placed_of n terminal stand) → IsKept (record level { placed = ps }) (with_use n uses)
-terminal_kept level uses node terminal stand n i ps k f at is =
+pub terminal_kept : (level : VoltageLevel) (uses : List Use) {pairs : List (ℕ × ℕ)} (node : ℤ) (terminal : Terminal) (stand : Stand) (n i : ℕ) (ps : List Placed) → IsKept level uses pairs → terminal_fits level node ≡ Ok n
+    → i ≡ place_among (λ (p : Placed). p.node) n level.placed → ps ≡ insert level.placed i (placed_of n terminal stand) → IsKept (record level { placed = ps }) (with_use n uses) pairs
+terminal_kept level uses {pairs} node terminal stand n i ps k f at is =
     let fits = fitting_terminal level node n f in
     let same : with_placed (placed_of n terminal stand) level.placed ≡ ps = placed_insert (placed_of n terminal stand) level.placed ∙ ap (λ z. insert level.placed z (placed_of n terminal stand)) (sym at) ∙ sym is in
-    subst (λ (z : List Placed). IsKept (record level { placed = z }) (with_use n uses)) same (kept_placed level uses (placed_of n terminal stand) k (node_of-le node n fits.at) fits.free fits.few)
+    subst (λ (z : List Placed). IsKept (record level { placed = z }) (with_use n uses) pairs) same (kept_placed level uses (placed_of n terminal stand) k (node_of-le node n fits.at) fits.free fits.few)
 
-pub taken_there : (n : ℕ) (level : VoltageLevel) (uses : List Use) → IsKept level uses → IsSome (placed_at level n) → Taken n level.placed
+pub taken_there : (n : ℕ) (level : VoltageLevel) (uses : List Use) {pairs : List (ℕ × ℕ)} → IsKept level uses pairs → IsSome (placed_at level n) → Taken n level.placed
 unfolding placed_at
 taken_there n level uses k h = by (find (stands_at n) level.placed) refl h
   where

@@ -89,11 +89,12 @@ tally_placed p pre (x ∷ xs) = by (nat_lt x.node p.node) (tally_placed p (pre +
     by false again = tally_insert pre p.node (x.node ∷ map (λ (x : Placed). x.node) xs)
 
 -- what a level keeps, with a terminal more
-pub kept_placed : (level : VoltageLevel) (uses : List Use) (p : Placed) → IsKept level uses → p.node ≤ max_node → placed_at level p.node ≡ None → length (with_node p.node (nodes level)) ≤ max_nodes → IsKept (placed_in level p) (with_use p.node uses)
+pub kept_placed : (level : VoltageLevel) (uses : List Use) {pairs : List (ℕ × ℕ)} (p : Placed) → IsKept level uses pairs → p.node ≤ max_node → placed_at level p.node ≡ None → length (with_node p.node (nodes level)) ≤ max_nodes → IsKept (placed_in level p) (with_use p.node uses) pairs
 kept_placed level uses p k le free few =
     let front = switch_nodes level.switches ++ internal_nodes level.internals in
     record {
       counted = ap (with_use p.node) (k.counted ∙ ap tally (named_is_left level)) ∙ sym (tally_placed p front level.placed) ∙ ap tally (sym (named_is_left (placed_in level p)));
+      listed = k.listed;
       within = placed_within level p k.within le free few;
     }
 

@@ -1,7 +1,7 @@
 //! One voltage level: its switches, internal connections and placed terminals.
 #![tactic(auto)]
 
-ghost use Rattle.std.specs.Prelude.{◌≡◌, ◌≢◌, ◌<◌, ◌≤◌, [], length, true, IfOk, IfErr, OnOk, OnErr, IsSome, IsTrue, ◌↔◌, slice_get, Some, Ok, remove, map, position};
+ghost use Rattle.std.specs.Prelude.{◌≡◌, ◌≢◌, ◌<◌, ◌≤◌, [], ◌∷◌, ◌++◌, length, true, IfOk, IfErr, OnOk, OnErr, IsSome, IsTrue, ◌↔◌, slice_get, Some, Ok, remove, map, position};
 ghost use Rattle.std.proofs.Common.{rules};
 ghost use Rattle.grid_ids.specs.Refusing.{map_fault};
 ghost use Rattle.grid_level.specs.LevelEdits as edits;
@@ -13,12 +13,10 @@ ghost use Rattle.grid_level.specs.Kept.{lists_of};
 
 mod parts;
 mod readers;
-mod shared;
 mod uses;
 
 use grid_ids::{Duplicate, Id, Memory, Seq};
 use grid_kinds::{Injection, SwitchKind};
-pub use shared::SharedLevel;
 use std::alloc::Global;
 use std::marker::Model;
 use uses::Uses;
@@ -117,6 +115,8 @@ pub struct Level {
     low_v: Option<i64>,
     high_v: Option<i64>,
     switches: Vec<Switch>,
+    // The two nodes of each switch, in order of creation, to be read without the switches.
+    ends: Vec<(u16, u16)>,
     internals: Vec<Internal>,
     placed: Vec<Placed>,
     uses: Uses,
@@ -133,7 +133,7 @@ impl Model for Level {
 
     ghost invariant = { λ a. IsKept
         (lists_of a.id a.nominal_v a.low_v a.high_v a.switches.items a.internals.items
-        a.placed.items) a.uses };
+        a.placed.items) a.uses a.ends.items };
 }
 
 // The node of this number.
@@ -164,6 +164,7 @@ impl Level {
             low_v,
             high_v,
             switches: Vec::new(alloc),
+            ends: Vec::new(alloc),
             internals: Vec::new(alloc),
             placed: Vec::new(alloc),
             uses: Uses::empty(alloc),
@@ -235,7 +236,7 @@ impl Level {
             retained,
             fictitious,
         };
-        match self.switches.push(switch) {
+        match push_switch(&mut self.switches, &mut self.ends, switch) {
             Ok(()) => {}
             Err(_) => {
                 take_two(&mut self.uses, a, b);
@@ -252,6 +253,7 @@ impl Level {
         ensures rest { self.new ≡ record self.old { switches = remove self.old.switches place } }
     {
         let switch = self.switches.remove(place as usize);
+        self.ends.remove(place as usize);
         take_two(&mut self.uses, switch.node1, switch.node2);
         switch
     }
@@ -417,6 +419,31 @@ fn place_of_joining(internals: &[Internal], node1: i64, node2: i64) -> Option<us
     ensures { result ≡ position (edits.joins node1 node2) internals.now }
 {
     internals.iter().position(|i| joins(i, node1, node2))
+}
+
+// Puts a switch last, and its two nodes; or leaves both lists as they were.
+fn push_switch(
+    switches: &mut Vec<Switch>,
+    ends: &mut Vec<(u16, u16)>,
+    switch: Switch,
+) -> Result<(), Memory>
+    ensures switches { OnOk result (switches.new.items ≡ switches.old.items ++ switch ∷ []) }
+    ensures ends { OnOk result (ends.new.items ≡ ends.old.items
+        ++ passing.switch_ends switch ∷ []) }
+    ensures same_switches { OnErr result (switches.new.items ≡ switches.old.items) }
+    ensures same_ends { OnErr result (ends.new.items ≡ ends.old.items) }
+{
+    match ends.push((switch.node1, switch.node2)) {
+        Ok(()) => {}
+        Err(_) => return Err(Memory),
+    }
+    match switches.push(switch) {
+        Ok(()) => Ok(()),
+        Err(_) => {
+            ends.pop();
+            Err(Memory)
+        }
+    }
 }
 
 // One more use of two nodes.

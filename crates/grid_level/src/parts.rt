@@ -79,6 +79,7 @@ impl Clone for Level {
             low_v: self.low_v,
             high_v: self.high_v,
             switches: clone_items(&self.switches)?,
+            ends: clone_items(&self.ends)?,
             internals: clone_items(&self.internals)?,
             placed: clone_items(&self.placed)?,
             uses: self.uses.clone()?,

@@ -1,5 +1,5 @@
 // What a level tells of itself. None of these takes memory.
-ghost use Rattle.std.specs.Prelude.{◌≡◌, ◌==◌, ◌<◌, ◌≤◌, length, Some, slice_get, position};
+ghost use Rattle.std.specs.Prelude.{◌≡◌, ◌==◌, ◌<◌, ◌≤◌, length, map, Some, slice_get, position};
 ghost use Rattle.std.specs.Option.{option_copied, option_map};
 ghost use Rattle.grid_level.specs.Passing as passing;
 ghost use Rattle.grid_level.specs.Passing.{edges, ends, nodes};
@@ -43,6 +43,13 @@ impl Level {
         self.switches.as_slice()
     }
 
+    /// The two nodes of each switch, in order of creation.
+    pub fn switch_ends(&self) -> &[(u16, u16)]
+        ensures { result.now ≡ map passing.switch_ends self.now.switches }
+    {
+        self.ends.as_slice()
+    }
+
     /// The internal connections in order of creation.
     pub fn internals(&self) -> &[Internal]
         ensures { result.now ≡ self.now.internals }
@@ -82,11 +89,10 @@ impl Level {
         ensures { option_map ends (slice_get (edges self.now) place) ≡ Some result }
     {
         let place = place as usize;
-        if place < self.switches.len() {
-            let switch = &self.switches[place];
-            return (switch.node1, switch.node2);
+        if place < self.ends.len() {
+            return self.ends[place];
         }
-        let internal = &self.internals[place - self.switches.len()];
+        let internal = &self.internals[place - self.ends.len()];
         (internal.node1, internal.node2)
     }
 

@@ -1,11 +1,8 @@
-use Rattle.std.proofs.Common.{ap, ◌∙◌, List, ℕ, arith}
+use Rattle.std.proofs.Common.{ap, ◌∙◌, List, ℕ}
 use Rattle.std.specs.Prelude.{map}
 use Rattle.grid_groups.specs.Labels.{leading, group_of, group_at, groups_by, places_with}
 use Rattle.grid_groups.proofs.Placing.{groups_within}
 use Rattle.grid_groups.proofs.grouping.group_nodes.Goals as goal
-
-pub numbers_of-requires : goal.numbers_of-requires
-numbers_of-requires c = omega (arith, c.requires.long, c.keeps.ensures.few_nodes)
 
 grouped : goal.returns-clause-groups
 unfolding groups_by group_at

@@ -1,79 +1,109 @@
-use Rattle.std.proofs.Common.{sym, ap, subst, ◌∙◌, ◌++◌, refl, true, false, ℕ, Bool, List, length, take}
+use Rattle.std.proofs.Common.{◌≡◌, sym, ap, subst, ◌∙◌, ◌+◌, ◌<◌, ◌≤◌, [], ◌∷◌, ◌++◌, refl, true, false, ℕ, Bool, List, length, length-append, get_or, take, arith, rules}
 use Rattle.std.specs.Prelude.{map, filter, IsTrue}
-use Rattle.grid_level.specs.VoltageLevel.{VoltageLevel}
-use Rattle.grid_level.specs.Kept.{among}
-use Rattle.std.specs.List.{zip}
+use Rattle.std.specs.List.{zip, list_all}
 use Rattle.std.proofs.lemmas.List.{take_all, append-nil}
+use Rattle.std.proofs.lemmas.Slice.Zip.{zip_turn, zip_end, length-zip, get_or-zip}
 use Rattle.grid_graph.specs.Graph.{graph}
 use Rattle.grid_queue.specs.Parents.{AreLabelsOf}
-use Rattle.grid_level.specs.declared.Switch.{Switch}
-use Rattle.grid_level.specs.Passing.{nodes, ends, switch_edge}
+use Rattle.grid_level.specs.VoltageLevel.{VoltageLevel}
+use Rattle.grid_level.specs.Kept.{among, ends_among}
+use Rattle.grid_level.specs.Passing.{nodes, edges, switch_ends}
 use Rattle.grid_groups.specs.Labels.{pair_by_index}
-use Rattle.grid_groups.proofs.Steps.{passed_more, skipped_more, switch_at, zip_at, zip_within, zip_over}
+use Rattle.grid_groups.proofs.Steps.{passed_more, skipped_more, pair_at, passed_ends}
 use Rattle.grid_groups.proofs.joining.join_switches.Goals as goal
-use Rattle.grid_groups.proofs.joining.join_switches.Goals.{After-switch-item, then-passes-place, else-passes-place}
+use Rattle.grid_groups.proofs.joining.join_switches.Goals.{In-Some}
+
+-- where the pair and its flag stand
+turn : (c : In-Some)
+    → (length c.loop-pair.yielded < length (map switch_ends c.args.indices.now.switches)) × (length c.loop-pair.yielded < length c.args.passes.now)
+    × ((d : ℕ × ℕ) → c.in-Some.pair.now ≡ get_or (map switch_ends c.args.indices.now.switches) (length c.loop-pair.yielded) d) × ((d : Bool) → c.in-Some.flag.now ≡ get_or c.args.passes.now (length c.loop-pair.yielded) d)
+turn c =
+    let n = length c.loop-pair.yielded in
+    let flags = c.args.passes.now in
+    let P : List (ℕ × ℕ) → Type 0 = λ z. (n < length z) × (n < length flags) × ((d : ℕ × ℕ) → c.in-Some.pair.now ≡ get_or z n d) × ((d : Bool) → c.in-Some.flag.now ≡ get_or flags n d) in
+    subst P (c.switch_ends.ensures ∙ ap (λ (l : VoltageLevel). map switch_ends l.switches) c.level-level.ensures)
+    (zip_turn c.switch_ends.result.now flags c.loop-pair.yielded _ c.loop-pair.pair-iterator c.next.new.self c.next.result (search rules) (search rules) c.loop-pair.yielded_by (c.in-Some.pair, c.in-Some.flag) c.in-Some.is c.next.ensures.steps)
 
 -- a switch's ends are nodes
-ends_here : (c : After-switch-item) → IsTrue (among (nodes c.args.indices.now) c.switch-item.result.node1) × IsTrue (among (nodes c.args.indices.now) c.switch-item.result.node2)
+ends_here : (c : In-Some) → IsTrue (among (nodes c.args.indices.now) c.in-Some.pair.now.0) × IsTrue (among (nodes c.args.indices.now) c.in-Some.pair.now.1)
 ends_here c =
-    let P : VoltageLevel → Type 0 = λ z. IsTrue (among (nodes z) c.switch-item.result.node1) × IsTrue (among (nodes z) c.switch-item.result.node2) in
-    subst P c.level-level.ensures
-    (switch_at c.level-level.result.now c.switches-switch-items.result.now c.loop-place.place c.switch-item.result c.keeps.ensures.ends_are_nodes c.switches-switch-items.ensures c.loop-place-test.true c.switch-item.is)
+    let P : VoltageLevel → Type 0 = λ z. list_all (ends_among (nodes z)) (edges z) ≡ true in
+    let t = turn c in
+    pair_at c.args.indices.now (length c.loop-pair.yielded) c.in-Some.pair.now (subst P c.level-level.ensures c.keeps.ensures.ends_are_nodes) t.0 (t.2 c.in-Some.pair.now)
 
 pub join_pair-requires-clause-first : goal.join_pair-requires-clause-first
-join_pair-requires-clause-first c = (ends_here (goal.at.join_pair-requires-clause-first c).After-switch-item).0
+join_pair-requires-clause-first c = (ends_here (goal.at.join_pair-requires-clause-first c).In-Some).0
 
 pub join_pair-requires-clause-second : goal.join_pair-requires-clause-second
-join_pair-requires-clause-second c = (ends_here (goal.at.join_pair-requires-clause-second c).After-switch-item).1
+join_pair-requires-clause-second c = (ends_here (goal.at.join_pair-requires-clause-second c).In-Some).1
 
 pub join_pair-requires-clause-long : goal.join_pair-requires-clause-long
-join_pair-requires-clause-long c = c.loop-place.invariant.long ∙ c.requires.long
+join_pair-requires-clause-long c = c.loop-pair.invariant.long ∙ c.requires.long
 
-pub loop-place-init : goal.loop-place-init
-loop-place-init c = record { long = refl; joined = λ pairs labels. (let P : List (ℕ × ℕ) → Type 0 = λ z. AreLabelsOf (graph (length (nodes c.args.indices.now)) z) c.args.joiner.now in subst P (sym (append-nil pairs)) labels) }
+pub loop-pair-init : goal.loop-pair-init
+loop-pair-init c = record { long = refl; joined = λ pairs labels. (let P : List (ℕ × ℕ) → Type 0 = λ z. AreLabelsOf (graph (length (nodes c.args.indices.now)) z) c.args.joiner.now in subst P (sym (append-nil pairs)) labels) }
 
-pub loop-place-preserved : goal.loop-place-preserved
-unfolding ends
-loop-place-preserved c =
-    let ss = c.switches-switch-items.result.now in
+-- the ends that are joined after so many turns
+abbrev joined_to : VoltageLevel → List Bool → ℕ → List (ℕ × ℕ)
+joined_to level flags k = map (pair_by_index (nodes level)) (map (λ pair. pair.0) (filter (λ pair. pair.1) (take k (zip (map switch_ends level.switches) flags))))
+
+-- one turn more, and the pair and its flag side by side
+next_turn : (c : In-Some) (flag : Bool) → c.in-Some.flag.now ≡ flag → (length (c.loop-pair.yielded ++ (c.in-Some.pair, c.in-Some.flag) ∷ []) ≡ length c.loop-pair.yielded + 1)
+    × (length c.loop-pair.yielded < length (zip (map switch_ends c.args.indices.now.switches) c.args.passes.now))
+    × ((c.in-Some.pair.now, flag) ≡ get_or (zip (map switch_ends c.args.indices.now.switches) c.args.passes.now) (length c.loop-pair.yielded) (c.in-Some.pair.now, flag))
+next_turn c flag is =
+    let t = turn c in
+    let ends = map switch_ends c.args.indices.now.switches in
     let flags = c.args.passes.now in
-    let i = c.loop-place.place in
-    let s = c.switch-item.result in
-    let count : ℕ = length (nodes c.args.indices.now) in
-    let long = c.requires.flags ∙ ap (λ z. length z) (sym (c.switches-switch-items.ensures ∙ ap (λ (l : VoltageLevel). l.switches) c.level-level.ensures)) in
-    let by_index : ℕ × ℕ → ℕ × ℕ = pair_by_index (nodes c.args.indices.now) in
-    let its_ends : Switch × Bool → ℕ × ℕ = λ pair. ends (switch_edge pair.0) in
-    let its_flag : Switch × Bool → Bool = λ pair. pair.1 in
-    let so_far : List (ℕ × ℕ) = map by_index (map its_ends (filter its_flag (take i (zip ss flags)))) in
-    let inside = zip_within ss flags i c.loop-place-test.true long in
-    elim c.if-passes-place.branch [
-      | then-passes-place w ↦
-          rw w.joiner-is (record {
-            long = w.join_pair.ensures.long ∙ c.loop-place.invariant.long;
-            joined = λ pairs labels. (let P : List (ℕ × ℕ) → Type 0 = λ z. AreLabelsOf (graph count z) w.join_pair.new.joiner in
-                subst P
-                (passed_more by_index its_ends its_flag (zip ss flags) i (s, true) pairs (pairs ++ so_far) inside
-                (zip_at ss flags i s true c.loop-place-test.true long c.switch-item.is w.if-passes-place.true) refl refl)
-                (w.join_pair.ensures.joined (pairs ++ so_far) (c.loop-place.invariant.joined pairs labels)));
-          })
-      | else-passes-place w ↦
-          rw w.joiner-is (record {
-            long = c.loop-place.invariant.long;
-            joined = λ pairs labels. (let P : List (ℕ × ℕ) → Type 0 = λ z. AreLabelsOf (graph count z) c.loop-place.joiner in
-                subst P
-                (skipped_more by_index its_ends its_flag (zip ss flags) i (s, false) pairs (pairs ++ so_far) inside
-                (zip_at ss flags i s false c.loop-place-test.true long c.switch-item.is w.if-passes-place.false) refl refl)
-                (c.loop-place.invariant.joined pairs labels));
-          })
-    ]
+    let n : ℕ = length c.loop-pair.yielded in
+    let pair : ℕ × ℕ = c.in-Some.pair.now in (
+      length-append c.loop-pair.yielded ((c.in-Some.pair, c.in-Some.flag) ∷ []),
+      omega (arith, t.0, t.1, length-zip ends flags),
+      ap (λ (z : ℕ × ℕ). (z, flag)) (t.2 pair) ∙ ap (λ (z : Bool). (get_or ends n pair, z)) (sym is ∙ t.3 flag) ∙ sym (get_or-zip ends flags n (pair, flag) t.0 t.1),
+    )
+
+pub loop-pair-preserved-then-flag : goal.loop-pair-preserved-then-flag
+loop-pair-preserved-then-flag c =
+    let level : VoltageLevel = c.args.indices.now in
+    let flags = c.args.passes.now in
+    let n : ℕ = length c.loop-pair.yielded in
+    let t = next_turn (goal.at.loop-pair-preserved-then-flag c).In-Some true c.if-flag.true in
+    record {
+      long = c.join_pair.ensures.long ∙ c.loop-pair.invariant.long;
+      joined = λ pairs labels. (let P : List (ℕ × ℕ) → Type 0 = λ z. AreLabelsOf (graph (length (nodes level)) z) c.join_pair.new.joiner in
+          subst P
+          (passed_more (pair_by_index (nodes level)) (λ (pair : (ℕ × ℕ) × Bool). pair.0) (λ (pair : (ℕ × ℕ) × Bool). pair.1) (zip (map switch_ends level.switches) flags) n (c.in-Some.pair.now, true) pairs (pairs ++ joined_to level flags n) t.1
+          t.2 refl refl
+          ∙ ap (λ k. pairs ++ joined_to level flags k) (sym t.0))
+          (c.join_pair.ensures.joined (pairs ++ joined_to level flags n) (c.loop-pair.invariant.joined pairs labels)));
+    }
+
+pub loop-pair-preserved : goal.loop-pair-preserved
+loop-pair-preserved c =
+    let level : VoltageLevel = c.args.indices.now in
+    let flags = c.args.passes.now in
+    let n : ℕ = length c.loop-pair.yielded in
+    let t = next_turn (goal.at.loop-pair-preserved c).In-Some false c.if-flag.false in
+    record {
+      long = c.loop-pair.invariant.long;
+      joined = λ pairs labels. (let P : List (ℕ × ℕ) → Type 0 = λ z. AreLabelsOf (graph (length (nodes level)) z) c.loop-pair.joiner in
+          subst P
+          (skipped_more (pair_by_index (nodes level)) (λ (pair : (ℕ × ℕ) × Bool). pair.0) (λ (pair : (ℕ × ℕ) × Bool). pair.1) (zip (map switch_ends level.switches) flags) n (c.in-Some.pair.now, false) pairs (pairs ++ joined_to level flags n) t.1
+          t.2 refl refl
+          ∙ ap (λ k. pairs ++ joined_to level flags k) (sym t.0))
+          (c.loop-pair.invariant.joined pairs labels));
+    }
 
 pub returns-clause-joined : goal.returns-clause-joined
 returns-clause-joined c pairs labels =
-    let ss = c.switches-switch-items.result.now in
+    let ends = c.switch_ends.result.now in
     let flags = c.args.passes.now in
-    let its_ends : Switch × Bool → ℕ × ℕ = λ pair. ends (switch_edge pair.0) in
-    let its_flag : Switch × Bool → Bool = λ pair. pair.1 in
-    let P : List (Switch × Bool) → Type 0 = λ z. AreLabelsOf (graph (length (nodes c.args.indices.now)) (pairs ++ map (pair_by_index (nodes c.args.indices.now)) (map its_ends (filter its_flag z)))) c.loop-place.joiner in
-    subst P
-    (take_all c.loop-place.place (zip ss flags) (zip_over ss flags c.loop-place.place c.loop-place-test.false) ∙ ap (λ z. zip z flags) (c.switches-switch-items.ensures ∙ ap (λ (l : VoltageLevel). l.switches) c.level-level.ensures))
-    (c.loop-place.invariant.joined pairs labels)
+    let now : List (ℕ × ℕ) = map switch_ends c.args.indices.now.switches in
+    let n : ℕ = length c.loop-pair.yielded in
+    let its_ends : (ℕ × ℕ) × Bool → ℕ × ℕ = λ pair. pair.0 in
+    let its_flag : (ℕ × ℕ) × Bool → Bool = λ pair. pair.1 in
+    let same : ends ≡ now = c.switch_ends.ensures ∙ ap (λ (l : VoltageLevel). map switch_ends l.switches) c.level-level.ensures in
+    let end = zip_end ends flags c.loop-pair.yielded _ c.loop-pair.pair-iterator c.next.new.self c.next.result (search rules) (search rules) c.loop-pair.yielded_by c.in-None.is c.next.ensures.steps in
+    let over : length (zip now flags) ≤ n = omega (arith, end, length-zip now flags, ap length same) in
+    let P : List (ℕ × ℕ) → Type 0 = λ z. AreLabelsOf (graph (length (nodes c.args.indices.now)) (pairs ++ map (pair_by_index (nodes c.args.indices.now)) z)) c.loop-pair.joiner in
+    subst P (ap (λ z. map its_ends (filter its_flag z)) (take_all n (zip now flags) over) ∙ passed_ends c.args.indices.now.switches flags) (c.loop-pair.invariant.joined pairs labels)

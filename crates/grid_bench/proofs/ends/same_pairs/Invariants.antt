@@ -1,6 +1,6 @@
 use Rattle.std.proofs.Common.{◌≡◌, take}
 use Rattle.std.specs.Prelude.{IsTrue}
-use Rattle.grid_bench.proofs.ends.same_numbers.Given as goal
+use Rattle.grid_bench.proofs.ends.same_pairs.Given as goal
 
 -- whether the first nodes are equal
 abbrev pub invariant-loop-place : goal.invariant-loop-place
