@@ -1,16 +1,16 @@
 -- What the search keeps as it goes on.
-use Rattle.std.proofs.Common.{◌≡◌, ◌≢◌, refl, sym, ap, ◌∙◌, subst, ℕ, zero, suc, ◌+◌, ◌<◌, ◌≤◌, Bool, true, false, List, [], ◌∷◌, ◌++◌, length, inl, inr, arith, ◌⊎◌, get_or, set, length-set, get_or-set_same, get_or-set_other, length-append}
-use Rattle.std.specs.Prelude.{slice_set}
+use Rattle.std.proofs.Common.{◌≡◌, ◌≢◌, refl, sym, ap, ◌∙◌, subst, ℕ, zero, suc, ◌+◌, ◌<◌, ◌≤◌, Bool, true, false, List, [], ◌∷◌, length, inl, inr, arith, ◌⊎◌, get_or, set, length-set, get_or-set_same, get_or-set_other}
+use Rattle.std.specs.Prelude.{slice_set, sum}
 use Rattle.std.specs.List.Sorted.{IsPermutation}
-use Rattle.std.proofs.lemmas.List.Sorted.{Contains-permutation, IsPermutation-sym}
-use Rattle.std.proofs.lemmas.Grind.{common_steps, get_or_default_zero}
+use Rattle.std.proofs.lemmas.List.Sorted.{Contains-permutation, IsPermutation-sym, length_permutation}
+use Rattle.std.proofs.lemmas.List.Sums.{sum_by-set}
+use Rattle.std.proofs.lemmas.Grind.{get_or_default_zero}
 use Rattle.std.specs.List.{Contains}
-use Rattle.std.specs.declared.cmp.Reverse.{Reverse}
 use Rattle.std.proofs.lemmas.Bool.{cases_eq, cases_Bool, both_ways}
 use Rattle.grid_paths.specs.declared.PathEdge.{PathEdge}
 use Rattle.grid_paths.specs.declared.Step.{Step}
 use Rattle.grid_paths.specs.Routes.{is_goal}
-use Rattle.grid_paths.specs.Search.{far, Leads, cost_at, IsReached, IsSettled, AreLeastCosts, entry, IsSearched, AreInside, IsStarted, potential, Takes, Spreads, Visits, WaitFrom, IsLink, Passes}
+use Rattle.grid_paths.specs.Search.{far, Leads, cost_at, IsReached, IsSettled, AreLeastCosts, IsSearched, AreInside, IsStarted, potential, Takes, Spreads, Visits, IsLink, Passes}
 use Rattle.grid_paths.proofs.Routing.{Leads_back, Leads_weight, weight_positive}
 use Rattle.grid_paths.proofs.Rows.{place_within, onward}
 
@@ -39,11 +39,11 @@ reached_still edges found found' u e less h =
     let c = h.costs in
     record { place = h.place; node = h.node; weight = h.weight; step = h.step; costs = omega (arith, b, c, e) }
 
-pub lowered : (edges : List PathEdge) (goals : List Bool) (found : List ℕ) (front front' : List (Reverse (ℕ × ℕ))) (x place v weight : ℕ)
+pub lowered : (edges : List PathEdge) (goals : List Bool) (from : ℕ) (found : List ℕ) (front front' : List (ℕ × ℕ)) (x place v weight : ℕ)
     → x < length goals → v < length goals → Leads edges x place v weight → weight + cost_at found x < cost_at found v
-    → ((e : Reverse (ℕ × ℕ)) → Contains front e → Contains front' e) → Contains front' (entry (weight + cost_at found x) v)
-    → IsSearched edges goals found front x → IsSearched edges goals (set found v (weight + cost_at found x)) front' x
-lowered edges goals found front front' x place v weight xlt vlt l less kept new s = record {
+    → ((e : ℕ × ℕ) → Contains front e → Contains front' e) → Contains front' (weight + cost_at found x, v)
+    → IsSearched edges goals from found front x → IsSearched edges goals from (set found v (weight + cost_at found x)) front' x
+lowered edges goals from found front front' x place v weight xlt vlt l less kept new s = record {
   long = length-set found v cost ∙ s.long;
   goal = goal;
   ground = ground;
@@ -97,17 +97,18 @@ lowered edges goals found front front' x place v weight xlt vlt l less kept new 
           )
     ]
 
-    faced : (u : ℕ) → u < length goals → cost_at (set found v cost) u < far → u ≢ x → Contains front' (entry (cost_at (set found v cost) u) u) ⊎ IsSettled edges (set found v cost) u
-    faced u lt small but = elim (cases_eq u v) [
+    faced : (u : ℕ) → u < length goals → cost_at (set found v cost) u < far → cost_at (set found v cost) u < cost_at (set found v cost) from → u ≢ x → Contains front' (cost_at (set found v cost) u, u) ⊎ IsSettled edges (set found v cost) u
+    faced u lt small low but = elim (cases_eq u v) [
       | inl e ↦ inl (
-          let P : ℕ → Type 0 = λ y. Contains front' (entry (cost_at (set found v cost) y) y) in
-          let Q : ℕ → Type 0 = λ y. Contains front' (entry y v) in
+          let P : ℕ → Type 0 = λ y. Contains front' (cost_at (set found v cost) y, y) in
+          let Q : ℕ → Type 0 = λ y. Contains front' (y, v) in
           subst P (sym e) (subst Q (sym here) new)
           )
       | inr ne ↦ (
           let same = other u ne in
-          elim (s.faced u lt (omega (arith, same, small)) but) [
-            | inl h ↦ inl (let Q : ℕ → Type 0 = λ y. Contains front' (entry y u) in subst Q (sym same) (kept (entry (cost_at found u) u) h))
+          let less = smaller from in
+          elim (s.faced u lt (omega (arith, same, small)) (omega (arith, same, low, less)) but) [
+            | inl h ↦ inl (let Q : ℕ → Type 0 = λ y. Contains front' (y, u) in subst Q (sym same) (kept (cost_at found u, u) h))
             | inr h ↦ inr (settled_still edges found (set found v cost) u same smaller h)
           ]
           )
@@ -133,26 +134,26 @@ settles_still : (edges : List PathEdge) (x link : ℕ) (found found' : List ℕ)
 settles_still edges x link found found' cost less h = λ place v weight le l. (let a = h place v weight le l in let b = less v in omega (arith, a, b))
 
 -- what was found after the steps from x on from a link
-pub record IsSpread (edges : List PathEdge) (goals : List Bool) (x cost link : ℕ) (found : List ℕ) (front : List (Reverse (ℕ × ℕ))) : Type 0 where
-  pub searched : IsSearched edges goals found front x
+pub record IsSpread (edges : List PathEdge) (goals : List Bool) (from : ℕ) (x cost link : ℕ) (found : List ℕ) (front : List (ℕ × ℕ)) : Type 0 where
+  pub searched : IsSearched edges goals from found front x
   pub same : cost_at found x ≡ cost
   pub done : SettlesFrom edges x link found cost
 
-spread_kept : (edges : List PathEdge) (goals : List Bool) (x cost link : ℕ) (s : Step) (next : ℕ) (found : List ℕ) (front : List (Reverse (ℕ × ℕ))) → Passes edges x link s next
-    → cost_at found s.to ≤ s.weight + cost → IsSpread edges goals x cost link found front → IsSpread edges goals x cost next found front
-spread_kept edges goals x cost link s next found front p low h = record { searched = h.searched; same = h.same; done = settles_more edges x link s next found cost p low h.done }
+spread_kept : (edges : List PathEdge) (goals : List Bool) (from : ℕ) (x cost link : ℕ) (s : Step) (next : ℕ) (found : List ℕ) (front : List (ℕ × ℕ)) → Passes edges x link s next
+    → cost_at found s.to ≤ s.weight + cost → IsSpread edges goals from x cost link found front → IsSpread edges goals from x cost next found front
+spread_kept edges goals from x cost link s next found front p low h = record { searched = h.searched; same = h.same; done = settles_more edges x link s next found cost p low h.done }
 
-spread_lowered : (edges : List PathEdge) (goals : List Bool) (x cost link : ℕ) (s : Step) (next : ℕ) (found : List ℕ) (front front' : List (Reverse (ℕ × ℕ)))
+spread_lowered : (edges : List PathEdge) (goals : List Bool) (from : ℕ) (x cost link : ℕ) (s : Step) (next : ℕ) (found : List ℕ) (front front' : List (ℕ × ℕ))
     → x < length goals → s.to < length goals → Passes edges x link s next → s.weight + cost < cost_at found s.to
-    → ((e : Reverse (ℕ × ℕ)) → Contains front e → Contains front' e) → Contains front' (entry (s.weight + cost) s.to)
-    → IsSpread edges goals x cost link found front → IsSpread edges goals x cost next (set found s.to (s.weight + cost)) front'
-spread_lowered edges goals x cost link s next found front front' xlt vlt p less kept new h =
-    let P : ℕ → Type 0 = λ c. IsSearched edges goals (set found s.to (s.weight + c)) front' x in
+    → ((e : ℕ × ℕ) → Contains front e → Contains front' e) → Contains front' (s.weight + cost, s.to)
+    → IsSpread edges goals from x cost link found front → IsSpread edges goals from x cost next (set found s.to (s.weight + cost)) front'
+spread_lowered edges goals from x cost link s next found front front' xlt vlt p less kept new h =
+    let P : ℕ → Type 0 = λ c. IsSearched edges goals from (set found s.to (s.weight + c)) front' x in
     let Q : ℕ → Type 0 = λ c. s.weight + c < cost_at found s.to in
-    let R : ℕ → Type 0 = λ c. Contains front' (entry (s.weight + c) s.to) in
+    let R : ℕ → Type 0 = λ c. Contains front' (s.weight + c, s.to) in
     let e = now_here found s.to (s.weight + cost) below less in
     record {
-      searched = subst P h.same (lowered edges goals found front front' x s.place s.to s.weight xlt vlt p.leads (subst Q (sym h.same) less) kept (subst R (sym h.same) new) h.searched);
+      searched = subst P h.same (lowered edges goals from found front front' x s.place s.to s.weight xlt vlt p.leads (subst Q (sym h.same) less) kept (subst R (sym h.same) new) h.searched);
       same = now_other found s.to (s.weight + cost) below less x apart ∙ h.same;
       done = settles_more edges x link s next (set found s.to (s.weight + cost)) cost p (omega (arith, e))
           (settles_still edges x link found _ cost (now_less found s.to (s.weight + cost) below less) h.done);
@@ -168,40 +169,40 @@ spread_lowered edges goals x cost link s next found front front' xlt vlt p less 
         absurd (omega (arith, k, less))
 
 -- when all are done, the node is settled
-spread_all : (edges : List PathEdge) (goals : List Bool) (x cost : ℕ) (found : List ℕ) (front : List (Reverse (ℕ × ℕ)))
-    → IsSpread edges goals x cost 0 found front → IsSearched edges goals found front (length goals)
-spread_all edges goals x cost found front h = record {
+spread_all : (edges : List PathEdge) (goals : List Bool) (from : ℕ) (x cost : ℕ) (found : List ℕ) (front : List (ℕ × ℕ))
+    → IsSpread edges goals from x cost 0 found front → IsSearched edges goals from found front (length goals)
+spread_all edges goals from x cost found front h = record {
   long = h.searched.long;
   goal = h.searched.goal;
   ground = h.searched.ground;
   reached = h.searched.reached;
-  faced = λ u lt small but. elim (cases_eq u x) [
+  faced = λ u lt small low but. elim (cases_eq u x) [
     | inl e ↦ inr (λ place v weight l.
         let P : ℕ → Type 0 = λ z. Leads edges z place v weight in
         let d = h.done place v weight (omega arith) (subst P e l) in
         let S : ℕ → Type 0 = λ z. cost_at found z ≡ cost in
         let same = subst S (sym e) h.same in
         omega (arith, d, same))
-    | inr ne ↦ h.searched.faced u lt small ne
+    | inr ne ↦ h.searched.faced u lt small low ne
   ];
 }
 
 -- ---- a node leaves the front
 
-same_entry : (c d u x : ℕ) → entry c u ≡ entry d x → (c ≡ d) × (u ≡ x)
-same_entry c d u x e = (ap (λ (z : Reverse (ℕ × ℕ)). z.0.0) e, ap (λ (z : Reverse (ℕ × ℕ)). z.0.1) e)
+same_entry : (c d u x : ℕ) → ◌≡◌ {A = ℕ × ℕ} (c, u) (d, x) → (c ≡ d) × (u ≡ x)
+same_entry c d u x e = (ap (λ (z : ℕ × ℕ). z.0) e, ap (λ (z : ℕ × ℕ). z.1) e)
 
 -- at the cost that was found: its row is to be gone through
-pub popped : (edges : List PathEdge) (goals : List Bool) (found : List ℕ) (front front' : List (Reverse (ℕ × ℕ))) (cost x : ℕ)
-    → ((e : Reverse (ℕ × ℕ)) → Contains front e → (e ≡ entry cost x) ⊎ Contains front' e)
-    → IsSearched edges goals found front (length goals) → IsSearched edges goals found front' x
-popped edges goals found front front' cost x rest s = record {
+pub popped : (edges : List PathEdge) (goals : List Bool) (from : ℕ) (found : List ℕ) (front front' : List (ℕ × ℕ)) (cost x : ℕ)
+    → ((e : ℕ × ℕ) → Contains front e → (e ≡ (cost, x)) ⊎ Contains front' e)
+    → IsSearched edges goals from found front (length goals) → IsSearched edges goals from found front' x
+popped edges goals from found front front' cost x rest s = record {
   long = s.long;
   goal = s.goal;
   ground = s.ground;
   reached = s.reached;
-  faced = λ u lt small but. elim (s.faced u lt small (λ e. absurd (omega (arith, e, lt)))) [
-    | inl h ↦ elim (rest (entry (cost_at found u) u) h) [
+  faced = λ u lt small low but. elim (s.faced u lt small low (λ e. absurd (omega (arith, e, lt)))) [
+    | inl h ↦ elim (rest (cost_at found u, u) h) [
       | inl e ↦ absurd (but (same_entry (cost_at found u) cost u x e).1)
       | inr g ↦ inl g
     ]
@@ -209,53 +210,31 @@ popped edges goals found front front' cost x rest s = record {
   ];
 }
 
--- at another cost: it waits elsewhere, or needn't
-pub stale : (edges : List PathEdge) (goals : List Bool) (found : List ℕ) (front front' : List (Reverse (ℕ × ℕ))) (cost x : ℕ)
-    → ((e : Reverse (ℕ × ℕ)) → Contains front e → (e ≡ entry cost x) ⊎ Contains front' e) → cost_at found x ≢ cost
-    → IsSearched edges goals found front (length goals) → IsSearched edges goals found front' (length goals)
-stale edges goals found front front' cost x rest other s = record {
+-- none waits
+pub searched_all : (edges : List PathEdge) (goals : List Bool) (from : ℕ) (found : List ℕ) (front : List (ℕ × ℕ)) → front ≡ []
+    → IsSearched edges goals from found front (length goals) → AreLeastCosts edges goals found (cost_at found from)
+searched_all edges goals from found front none s = record {
   long = s.long;
   goal = s.goal;
   ground = s.ground;
   reached = s.reached;
-  faced = λ u lt small but. elim (s.faced u lt small but) [
-    | inl h ↦ elim (rest (entry (cost_at found u) u) h) [
-      | inl e ↦ (
-          let k = same_entry (cost_at found u) cost u x e in
-          let P : ℕ → Type 0 = λ z. cost_at found z ≡ cost in
-          absurd (other (subst P k.1 k.0))
-          )
-      | inr g ↦ inl g
-    ]
-    | inr h ↦ inr h
-  ];
-}
-
--- none waits at a cost below the limit
-pub searched_below : (edges : List PathEdge) (goals : List Bool) (found : List ℕ) (front : List (Reverse (ℕ × ℕ))) (limit : ℕ) → WaitFrom front limit
-    → IsSearched edges goals found front (length goals) → AreLeastCosts edges goals found limit
-searched_below edges goals found front limit wait s = record {
-  long = s.long;
-  goal = s.goal;
-  ground = s.ground;
-  reached = s.reached;
-  settled = λ u lt small low. elim (s.faced u lt small (λ e. absurd (omega (arith, e, lt)))) [
-    | inl h ↦ (let k = wait (entry (cost_at found u) u) h in absurd (omega (arith, k, low)))
+  settled = λ u lt small low. elim (s.faced u lt small low (λ e. absurd (omega (arith, e, lt)))) [
+    | inl (k, within, _) ↦ (let e = ap length none in absurd (omega (arith, within, e)))
     | inr h ↦ h
   ];
 }
 
 -- ---- the start
 
-pub started : (edges : List PathEdge) (goals : List Bool) (found : List ℕ) (front : List (Reverse (ℕ × ℕ))) → IsStarted goals (length goals) found front → IsSearched edges goals found front (length goals)
-started edges goals found front s = record {
+pub started : (edges : List PathEdge) (goals : List Bool) (from : ℕ) (found : List ℕ) (front : List (ℕ × ℕ)) → IsStarted goals (length goals) found front → IsSearched edges goals from found front (length goals)
+started edges goals from found front s = record {
   long = s.long;
   goal = λ u lt g. (s.goal u lt g).0;
-  ground = λ u lt z. elim (cases_Bool (is_goal goals u)) [ inl e ↦ e | inr e ↦ (let f = s.other u lt e in absurd (omega (arith, z, f))) ];
-  reached = λ u lt small nonzero. elim (cases_Bool (is_goal goals u)) [ inl e ↦ absurd (nonzero (s.goal u lt e).0) | inr e ↦ (let f = s.other u lt e in absurd (omega (arith, small, f))) ];
-  faced = λ u lt small but. elim (cases_Bool (is_goal goals u)) [
-    | inl e ↦ inl (let g = s.goal u lt e in let P : ℕ → Type 0 = λ z. Contains front (entry z u) in subst P (sym g.0) g.1)
-    | inr e ↦ (let f = s.other u lt e in absurd (omega (arith, small, f)))
+  ground = λ u lt z. elim (cases_Bool (is_goal goals u)) [ inl e ↦ e | inr e ↦ (let f = s.other u lt (inl e) in absurd (omega (arith, z, f))) ];
+  reached = λ u lt small nonzero. elim (cases_Bool (is_goal goals u)) [ inl e ↦ absurd (nonzero (s.goal u lt e).0) | inr e ↦ (let f = s.other u lt (inl e) in absurd (omega (arith, small, f))) ];
+  faced = λ u lt small low but. elim (cases_Bool (is_goal goals u)) [
+    | inl e ↦ inl (let g = s.goal u lt e in let P : ℕ → Type 0 = λ z. Contains front (z, u) in subst P (sym g.0) g.1)
+    | inr e ↦ (let f = s.other u lt (inl e) in absurd (omega (arith, small, f)))
   ];
 }
 
@@ -286,86 +265,86 @@ moved_out_new x xs ys p = Contains-permutation (x ∷ ys) xs x (IsPermutation-sy
 
 -- ---- the start, node by node
 
-at_before : (found : List ℕ) (x u : ℕ) → u < length found → cost_at (found ++ x ∷ []) u ≡ cost_at found u
-at_before found x u lt = grind (arith, common_steps)
-
-at_end : (found : List ℕ) (x u : ℕ) → u ≡ length found → cost_at (found ++ x ∷ []) u ≡ x
-at_end found x u e = grind (arith, common_steps)
-
-pub begin_goal : (goals : List Bool) (k : ℕ) (found : List ℕ) (front front' : List (Reverse (ℕ × ℕ))) → is_goal goals k ≡ true → IsPermutation (entry 0 k ∷ front) front'
-    → IsStarted goals k found front → IsStarted goals (k + 1) (found ++ 0 ∷ []) front'
-begin_goal goals k found front front' g p s = record {
-  long = (let e = s.long in omega (arith, length-append found (0 ∷ []), e));
-  inside = λ e c. elim (moved_from (entry 0 k) e front front' p c) [
-    | inl h ↦ (let P : Reverse (ℕ × ℕ) → Type 0 = λ z. z.0.1 < k + 1 in subst P (sym h) (omega arith))
+pub begin_goal : (goals : List Bool) (k : ℕ) (found : List ℕ) (front front' : List (ℕ × ℕ)) → k < length found → is_goal goals k ≡ true → IsPermutation ((0, k) ∷ front) front'
+    → IsStarted goals k found front → IsStarted goals (k + 1) (set found k 0) front'
+begin_goal goals k found front front' below g p s = record {
+  long = length-set found k 0 ∙ s.long;
+  inside = λ e c. elim (moved_from (0, k) e front front' p c) [
+    | inl h ↦ (let P : ℕ × ℕ → Type 0 = λ z. z.1 < k + 1 in subst P (sym h) (omega arith))
     | inr h ↦ (let i = s.inside e h in omega (arith, i))
   ];
   goal = λ u lt h. elim (cases_eq u k) [
     | inl e ↦ (
-        let P : ℕ → Type 0 = λ z. Contains front' (entry 0 z) in
-        (at_end found 0 u (e ∙ sym s.long), subst P (sym e) (moved_new (entry 0 k) front front' p))
+        let P : ℕ → Type 0 = λ z. (cost_at (set found k 0) z ≡ 0) × Contains front' (0, z) in
+        subst P (sym e) (get_or-set_same found k 0 0 below, moved_new (0, k) front front' p)
         )
     | inr ne ↦ (
         let old = s.goal u (omega (arith, ne, lt)) h in
-        let l = s.long in
-        (at_before found 0 u (omega (arith, ne, lt, l)) ∙ old.0, moved_has (entry 0 k) (entry 0 u) front front' p old.1)
+        (get_or-set_other found k u 0 0 ne ∙ old.0, moved_has (0, k) (0, u) front front' p old.1)
         )
   ];
   other = λ u lt h. elim (cases_eq u k) [
-    | inl e ↦ (let P : ℕ → Type 0 = λ z. is_goal goals z ≡ false in absurd (both_ways _ (subst P e h) g))
-    | inr ne ↦ (let l = s.long in at_before found 0 u (omega (arith, ne, lt, l)) ∙ s.other u (omega (arith, ne, lt)) h)
+    | inl e ↦ elim h [
+      | inl other ↦ (let P : ℕ → Type 0 = λ z. is_goal goals z ≡ false in absurd (both_ways _ (subst P e other) g))
+      | inr beyond ↦ absurd (omega (arith, e, beyond))
+    ]
+    | inr ne ↦ get_or-set_other found k u 0 0 ne ∙ s.other u lt (elim h [ inl other ↦ inl other | inr beyond ↦ inr (omega (arith, beyond)) ])
   ];
 }
 
-pub begin_other : (goals : List Bool) (k : ℕ) (found : List ℕ) (front : List (Reverse (ℕ × ℕ))) → is_goal goals k ≡ false
-    → IsStarted goals k found front → IsStarted goals (k + 1) (found ++ far ∷ []) front
+pub begin_other : (goals : List Bool) (k : ℕ) (found : List ℕ) (front : List (ℕ × ℕ)) → is_goal goals k ≡ false
+    → IsStarted goals k found front → IsStarted goals (k + 1) found front
 begin_other goals k found front g s = record {
-  long = (let e = s.long in omega (arith, length-append found (far ∷ []), e));
+  long = s.long;
   inside = λ e c. (let i = s.inside e c in omega (arith, i));
   goal = λ u lt h. elim (cases_eq u k) [
     | inl e ↦ (let P : ℕ → Type 0 = λ z. is_goal goals z ≡ true in absurd (both_ways _ g (subst P e h)))
-    | inr ne ↦ (
-        let old = s.goal u (omega (arith, ne, lt)) h in
-        let l = s.long in
-        (at_before found far u (omega (arith, ne, lt, l)) ∙ old.0, old.1)
-        )
+    | inr ne ↦ s.goal u (omega (arith, ne, lt)) h
   ];
-  other = λ u lt h. elim (cases_eq u k) [
-    | inl e ↦ at_end found far u (e ∙ sym s.long)
-    | inr ne ↦ (let l = s.long in at_before found far u (omega (arith, ne, lt, l)) ∙ s.other u (omega (arith, ne, lt)) h)
-  ];
+  other = λ u lt h. s.other u lt (elim h [ inl other ↦ inl other | inr beyond ↦ inr (omega (arith, beyond)) ]);
 }
 
 -- ---- a node's edges, one by one
 
-pub record SpreadsTo (edges : List PathEdge) (x link cost : ℕ) (found : List ℕ) (front : List (Reverse (ℕ × ℕ))) (len : ℕ) (found' : List ℕ) (front' : List (Reverse (ℕ × ℕ))) (len' : ℕ) : Type 0 where
+pub found_here : (found : List ℕ) (u r : ℕ) → u < length found → r ≡ get_or found u r → cost_at found u ≡ r
+found_here found u r lt e = sym (get_or_default_zero found u r lt) ∙ sym e
+
+pub takes_lowered : (s : Step) (cost seen : ℕ) (found : List ℕ) (front : List (ℕ × ℕ)) (found' : List ℕ) (front' : List (ℕ × ℕ)) → s.to < length found → seen ≡ get_or found s.to seen → s.weight + cost < seen
+    → found' ≡ slice_set found s.to (s.weight + cost) → IsPermutation ((s.weight + cost, s.to) ∷ front) front' → Takes s cost found front found' front'
+takes_lowered s cost seen found front found' front' lt at less e p =
+    let here = found_here found s.to seen lt at in
+    let longer = length_permutation ((s.weight + cost, s.to) ∷ front) front' p in
+    let total : sum (set found s.to (s.weight + cost)) + cost_at found s.to ≡ sum found + (s.weight + cost) = sum_by-set (λ n. n) found s.to (s.weight + cost) 0 lt in
+    record { cases = inr (omega (arith, here, less), e, p); falls = rw e (omega (arith, here, longer, total, less)) }
+
+pub record SpreadsTo (edges : List PathEdge) (x link cost : ℕ) (found : List ℕ) (front : List (ℕ × ℕ)) (found' : List ℕ) (front' : List (ℕ × ℕ)) : Type 0 where
   pub long : length found' ≡ length found
   pub inside : AreInside front (length found) → AreInside front' (length found)
-  pub falls : potential found' len' ≤ potential found len
-  pub spread : (goals : List Bool) → x < length goals → cost_at found x ≡ cost → IsSearched edges goals found front x → IsSpread edges goals x cost link found' front'
+  pub falls : potential found' front' ≤ potential found front
+  pub spread : (goals : List Bool) (from : ℕ) → x < length goals → cost_at found x ≡ cost → IsSearched edges goals from found front x → IsSpread edges goals from x cost link found' front'
 
-pub spreads_none : (edges : List PathEdge) (x link cost : ℕ) (found : List ℕ) (front : List (Reverse (ℕ × ℕ))) (len : ℕ) → IsLink edges x (length edges) link
-    → SpreadsTo edges x link cost found front len found front len
-spreads_none edges x link cost found front len h = record {
+pub spreads_none : (edges : List PathEdge) (x link cost : ℕ) (found : List ℕ) (front : List (ℕ × ℕ)) → IsLink edges x (length edges) link
+    → SpreadsTo edges x link cost found front found front
+spreads_none edges x link cost found front h = record {
   long = refl;
   inside = λ i. i;
   falls = omega arith;
-  spread = λ goals lt e s. record { searched = s; same = e; done = settles_none edges x link found cost h };
+  spread = λ goals from lt e s. record { searched = s; same = e; done = settles_none edges x link found cost h };
 }
 
-pub spreads_more : (edges : List PathEdge) (x link cost : ℕ) (found : List ℕ) (front : List (Reverse (ℕ × ℕ))) (len : ℕ) (found' : List ℕ) (front' : List (Reverse (ℕ × ℕ))) (len' : ℕ)
-    (s : Step) (next : ℕ) (found'' : List ℕ) (front'' : List (Reverse (ℕ × ℕ))) (len'' : ℕ) → Passes edges x link s next → s.to < length found' → Takes s cost found' front' len' found'' front'' len''
-    → SpreadsTo edges x link cost found front len found' front' len' → SpreadsTo edges x next cost found front len found'' front'' len''
-spreads_more edges x link cost found front len found' front' len' s next found'' front'' len'' p below t h = record {
+pub spreads_more : (edges : List PathEdge) (x link cost : ℕ) (found : List ℕ) (front : List (ℕ × ℕ)) (found' : List ℕ) (front' : List (ℕ × ℕ))
+    (s : Step) (next : ℕ) (found'' : List ℕ) (front'' : List (ℕ × ℕ)) → Passes edges x link s next → s.to < length found' → Takes s cost found' front' found'' front''
+    → SpreadsTo edges x link cost found front found' front' → SpreadsTo edges x next cost found front found'' front''
+spreads_more edges x link cost found front found' front' s next found'' front'' p below t h = record {
   long = long t.cases ∙ h.long;
   inside = λ i. inside t.cases (h.inside i);
   falls = (let a = t.falls in let b = h.falls in omega (arith, a, b));
-  spread = λ goals lt e k. spread t.cases goals lt (h.spread goals lt e k);
+  spread = λ goals from lt e k. spread t.cases goals from lt (h.spread goals from lt e k);
 }
   where
     Cases : Type 0
     Cases = ((cost_at found' s.to ≤ s.weight + cost) × (found'' ≡ found') × (front'' ≡ front'))
-        ⊎ ((s.weight + cost < cost_at found' s.to) × (found'' ≡ slice_set found' s.to (s.weight + cost)) × IsPermutation (entry (s.weight + cost) s.to ∷ front') front'')
+        ⊎ ((s.weight + cost < cost_at found' s.to) × (found'' ≡ slice_set found' s.to (s.weight + cost)) × IsPermutation ((s.weight + cost, s.to) ∷ front') front'')
 
     long : Cases → length found'' ≡ length found'
     long (inl c) = ap length c.1
@@ -373,67 +352,56 @@ spreads_more edges x link cost found front len found' front' len' s next found''
 
     inside : Cases → AreInside front' (length found) → AreInside front'' (length found)
     inside (inl c) i = subst (λ z. AreInside z (length found)) (sym c.2) i
-    inside (inr c) i = λ e k. elim (moved_from (entry (s.weight + cost) s.to) e front' front'' c.2 k) [
-      | inl g ↦ (let P : Reverse (ℕ × ℕ) → Type 0 = λ z. z.0.1 < length found in let l = h.long in subst P (sym g) (omega (arith, l, below)))
+    inside (inr c) i = λ e k. elim (moved_from (s.weight + cost, s.to) e front' front'' c.2 k) [
+      | inl g ↦ (let P : ℕ × ℕ → Type 0 = λ z. z.1 < length found in let l = h.long in subst P (sym g) (omega (arith, l, below)))
       | inr g ↦ i e g
     ]
 
-    spread : Cases → (goals : List Bool) → x < length goals → IsSpread edges goals x cost link found' front' → IsSpread edges goals x cost next found'' front''
-    spread (inl c) goals lt k =
-        let P : List ℕ → Type 0 = λ z. IsSpread edges goals x cost next z front'' in
-        let Q : List (Reverse (ℕ × ℕ)) → Type 0 = λ z. IsSpread edges goals x cost next found' z in
-        subst P (sym c.1) (subst Q (sym c.2) (spread_kept edges goals x cost link s next found' front' p c.0 k))
-    spread (inr c) goals lt k =
-        let P : List ℕ → Type 0 = λ z. IsSpread edges goals x cost next z front'' in
+    spread : Cases → (goals : List Bool) (from : ℕ) → x < length goals → IsSpread edges goals from x cost link found' front' → IsSpread edges goals from x cost next found'' front''
+    spread (inl c) goals from lt k =
+        let P : List ℕ → Type 0 = λ z. IsSpread edges goals from x cost next z front'' in
+        let Q : List (ℕ × ℕ) → Type 0 = λ z. IsSpread edges goals from x cost next found' z in
+        subst P (sym c.1) (subst Q (sym c.2) (spread_kept edges goals from x cost link s next found' front' p c.0 k))
+    spread (inr c) goals from lt k =
+        let P : List ℕ → Type 0 = λ z. IsSpread edges goals from x cost next z front'' in
         let l = k.searched.long in
-        subst P (sym c.1) (spread_lowered edges goals x cost link s next found' front' front'' lt (omega (arith, l, below)) p c.0
-        (λ e g. moved_has (entry (s.weight + cost) s.to) e front' front'' c.2 g) (moved_new (entry (s.weight + cost) s.to) front' front'' c.2) k)
+        subst P (sym c.1) (spread_lowered edges goals from x cost link s next found' front' front'' lt (omega (arith, l, below)) p c.0
+        (λ e g. moved_has (s.weight + cost, s.to) e front' front'' c.2 g) (moved_new (s.weight + cost, s.to) front' front'' c.2) k)
 
-pub spreads_all : (edges : List PathEdge) (x link cost : ℕ) (found : List ℕ) (front : List (Reverse (ℕ × ℕ))) (len : ℕ) (found' : List ℕ) (front' : List (Reverse (ℕ × ℕ))) (len' : ℕ)
-    → link ≡ 0 → SpreadsTo edges x link cost found front len found' front' len' → Spreads edges x cost found front len found' front' len'
-spreads_all edges x link cost found front len found' front' len' e h = record {
+pub spreads_all : (edges : List PathEdge) (x link cost : ℕ) (found : List ℕ) (front : List (ℕ × ℕ)) (found' : List ℕ) (front' : List (ℕ × ℕ))
+    → link ≡ 0 → SpreadsTo edges x link cost found front found' front' → Spreads edges x cost found front found' front'
+spreads_all edges x link cost found front found' front' e h = record {
   long = h.long;
   inside = h.inside;
   falls = h.falls;
-  settles = λ goals lt same s. spread_all edges goals x cost found' front'
-      (let P : ℕ → Type 0 = λ z. IsSpread edges goals x cost z found' front' in subst P e (h.spread goals lt same s));
+  settles = λ goals from lt same s. spread_all edges goals from x cost found' front'
+      (let P : ℕ → Type 0 = λ z. IsSpread edges goals from x cost z found' front' in subst P e (h.spread goals from lt same s));
 }
-
-pub found_here : (found : List ℕ) (u r : ℕ) → u < length found → r ≡ get_or found u r → cost_at found u ≡ r
-found_here found u r lt e = sym (get_or_default_zero found u r lt) ∙ sym e
 
 -- ---- a node is visited
 
-pub visits_edges : (edges : List PathEdge) (cost x : ℕ) (found : List ℕ) (front : List (Reverse (ℕ × ℕ))) (len : ℕ) (found' : List ℕ) (front' : List (Reverse (ℕ × ℕ))) (len' : ℕ)
-    → x < length found → cost_at found x ≡ cost → Spreads edges x cost found front len found' front' len' → Visits edges cost x found front len found' front' len'
-visits_edges edges cost x found front len found' front' len' lt same h = record {
+pub visits_edges : (edges : List PathEdge) (from cost x : ℕ) (found : List ℕ) (front : List (ℕ × ℕ)) (found' : List ℕ) (front' : List (ℕ × ℕ))
+    → x < length found → cost_at found x ≡ cost → Spreads edges x cost found front found' front' → Visits edges from cost x found front found' front'
+visits_edges edges from cost x found front found' front' lt same h = record {
   long = h.long;
   inside = h.inside;
   falls = h.falls;
   keeps = λ goals s. (
       let l = s.long in
-      h.settles goals (omega (arith, lt, l)) same (popped edges goals found (entry cost x ∷ front) front cost x (λ e c. Contains_parts (entry cost x) e front c) s)
+      h.settles goals from (omega (arith, lt, l)) same (popped edges goals from found ((cost, x) ∷ front) front cost x (λ e c. Contains_parts (cost, x) e front c) s)
       );
 }
 
-pub visits_none : (edges : List PathEdge) (cost x : ℕ) (found : List ℕ) (front : List (Reverse (ℕ × ℕ))) (len : ℕ) → cost_at found x ≢ cost → Visits edges cost x found front len found front len
-visits_none edges cost x found front len other = record {
-  long = refl;
-  inside = λ i. i;
-  falls = omega arith;
-  keeps = λ goals s. stale edges goals found (entry cost x ∷ front) front cost x (λ e c. Contains_parts (entry cost x) e front c) other s;
-}
-
 -- the front in another order
-pub reordered : (edges : List PathEdge) (goals : List Bool) (found : List ℕ) (front front' : List (Reverse (ℕ × ℕ))) (but : ℕ) → IsPermutation front front'
-    → IsSearched edges goals found front but → IsSearched edges goals found front' but
-reordered edges goals found front front' but p s = record {
+pub reordered : (edges : List PathEdge) (goals : List Bool) (from : ℕ) (found : List ℕ) (front front' : List (ℕ × ℕ)) (but : ℕ) → IsPermutation front front'
+    → IsSearched edges goals from found front but → IsSearched edges goals from found front' but
+reordered edges goals from found front front' but p s = record {
   long = s.long;
   goal = s.goal;
   ground = s.ground;
   reached = s.reached;
-  faced = λ u lt small ne. elim (s.faced u lt small ne) [
-    | inl h ↦ inl (Contains-permutation front front' (entry (cost_at found u) u) p h)
+  faced = λ u lt small low ne. elim (s.faced u lt small low ne) [
+    | inl h ↦ inl (Contains-permutation front front' (cost_at found u, u) p h)
     | inr h ↦ inr h
   ];
 }

@@ -1,9 +1,6 @@
 -- What the search for the least route keeps: for each node the chain of edges that leave it, and the least cost that was found.
 use Rattle.std.specs.Prelude.{◌≡◌, ◌≢◌, ℕ, ◌+◌, ◌*◌, ◌<◌, ◌≤◌, Bool, true, false, Option, Some, None, List, [], ◌∷◌, length, slice_get, slice_index, ◌⊎◌, sum, slice_set}
 use Rattle.std.specs.List.Sorted.{IsPermutation}
-use Rattle.std.specs.declared.cmp.Ordering.{Ordering}
-use Rattle.std.specs.declared.cmp.Reverse.{Reverse}
-use Rattle.std.specs.Ordering.{nat_cmp, ordering_then}
 use Rattle.std.specs.List.{Contains, slice_index_or}
 use Rattle.grid_paths.specs.declared.Way.{Way}
 use Rattle.grid_paths.specs.declared.Way.TheVariants.{Free, Closable, Barred}
@@ -107,56 +104,45 @@ IsBestFrom edges found u here link (Some s) =
 
 -- ---- the search
 
-abbrev pub entry : ℕ → ℕ → Reverse (ℕ × ℕ)
-entry cost node = record { 0 = (cost, node) }
-
--- of two entries the one that comes out first is the greater: that of lesser cost, then of lesser node
-abbrev pub entry_cmp : Reverse (ℕ × ℕ) → Reverse (ℕ × ℕ) → Ordering
-entry_cmp x y = ordering_then (nat_cmp y.0.0 x.0.0) (nat_cmp y.0.1 x.0.1)
-
--- none waits at a lesser cost
-abbrev pub WaitFrom : List (Reverse (ℕ × ℕ)) → ℕ → Type 0
-WaitFrom front cost = (e : Reverse (ℕ × ℕ)) → Contains front e → cost ≤ e.0.0
-
--- what was found and who waits, in the midst of the search: each node but one waits or is settled
-pub record IsSearched (edges : List PathEdge) (goals : List Bool) (found : List ℕ) (front : List (Reverse (ℕ × ℕ))) (but : ℕ) : Type 0 where
+-- what was found and who waits, by cost and node, in the midst of the search: each node but one waits, is settled, or costs no less than from
+pub record IsSearched (edges : List PathEdge) (goals : List Bool) (from : ℕ) (found : List ℕ) (front : List (ℕ × ℕ)) (but : ℕ) : Type 0 where
   pub long : length found ≡ length goals
   pub goal : (u : ℕ) → u < length goals → is_goal goals u ≡ true → cost_at found u ≡ 0
   pub ground : (u : ℕ) → u < length goals → cost_at found u ≡ 0 → is_goal goals u ≡ true
   pub reached : (u : ℕ) → u < length goals → cost_at found u < far → cost_at found u ≢ 0 → IsReached edges found u
-  pub faced : (u : ℕ) → u < length goals → cost_at found u < far → u ≢ but → Contains front (entry (cost_at found u) u) ⊎ IsSettled edges found u
+  pub faced : (u : ℕ) → u < length goals → cost_at found u < far → cost_at found u < cost_at found from → u ≢ but → Contains front (cost_at found u, u) ⊎ IsSettled edges found u
 
-abbrev pub AreInside : List (Reverse (ℕ × ℕ)) → ℕ → Type 0
-AreInside front count = (e : Reverse (ℕ × ℕ)) → Contains front e → e.0.1 < count
+abbrev pub AreInside : List (ℕ × ℕ) → ℕ → Type 0
+AreInside front count = (e : ℕ × ℕ) → Contains front e → e.1 < count
 
--- the first goals cost 0 and wait, and all else is far
-pub record IsStarted (goals : List Bool) (count : ℕ) (found : List ℕ) (front : List (Reverse (ℕ × ℕ))) : Type 0 where
-  pub long : length found ≡ count
+-- the goals among so many first nodes cost 0 and wait, and all else is far
+pub record IsStarted (goals : List Bool) (count : ℕ) (found : List ℕ) (front : List (ℕ × ℕ)) : Type 0 where
+  pub long : length found ≡ length goals
   pub inside : AreInside front count
-  pub goal : (u : ℕ) → u < count → is_goal goals u ≡ true → (cost_at found u ≡ 0) × Contains front (entry 0 u)
-  pub other : (u : ℕ) → u < count → is_goal goals u ≡ false → cost_at found u ≡ far
+  pub goal : (u : ℕ) → u < count → is_goal goals u ≡ true → (cost_at found u ≡ 0) × Contains front (0, u)
+  pub other : (u : ℕ) → u < length goals → (is_goal goals u ≡ false) ⊎ (count ≤ u) → cost_at found u ≡ far
 
 -- ---- what the calls of the search do
 
 -- twice the sum of what was found, and the count of those who wait: less after each turn
-abbrev pub potential : List ℕ → ℕ → ℕ
-potential found len = 2 * sum found + len
+abbrev pub potential : List ℕ → List (ℕ × ℕ) → ℕ
+potential found front = 2 * sum found + length front
 
 -- a step from a node that costs this much was taken: its end costs no more than by it
-pub record Takes (step : Step) (cost : ℕ) (found : List ℕ) (front : List (Reverse (ℕ × ℕ))) (len : ℕ) (found' : List ℕ) (front' : List (Reverse (ℕ × ℕ))) (len' : ℕ) : Type 0 where
+pub record Takes (step : Step) (cost : ℕ) (found : List ℕ) (front : List (ℕ × ℕ)) (found' : List ℕ) (front' : List (ℕ × ℕ)) : Type 0 where
   pub cases : ((cost_at found step.to ≤ step.weight + cost) × (found' ≡ found) × (front' ≡ front))
-      ⊎ ((step.weight + cost < cost_at found step.to) × (found' ≡ slice_set found step.to (step.weight + cost)) × IsPermutation (entry (step.weight + cost) step.to ∷ front) front')
-  pub falls : potential found' len' ≤ potential found len
+      ⊎ ((step.weight + cost < cost_at found step.to) × (found' ≡ slice_set found step.to (step.weight + cost)) × IsPermutation ((step.weight + cost, step.to) ∷ front) front')
+  pub falls : potential found' front' ≤ potential found front
 
-pub record Spreads (edges : List PathEdge) (x cost : ℕ) (found : List ℕ) (front : List (Reverse (ℕ × ℕ))) (len : ℕ) (found' : List ℕ) (front' : List (Reverse (ℕ × ℕ))) (len' : ℕ) : Type 0 where
+pub record Spreads (edges : List PathEdge) (x cost : ℕ) (found : List ℕ) (front : List (ℕ × ℕ)) (found' : List ℕ) (front' : List (ℕ × ℕ)) : Type 0 where
   pub long : length found' ≡ length found
   pub inside : AreInside front (length found) → AreInside front' (length found)
-  pub falls : potential found' len' ≤ potential found len
-  pub settles : (goals : List Bool) → x < length goals → cost_at found x ≡ cost → IsSearched edges goals found front x → IsSearched edges goals found' front' (length goals)
+  pub falls : potential found' front' ≤ potential found front
+  pub settles : (goals : List Bool) (from : ℕ) → x < length goals → cost_at found x ≡ cost → IsSearched edges goals from found front x → IsSearched edges goals from found' front' (length goals)
 
--- a node that waited at a cost has left the front: where it costs just that, its steps were taken
-pub record Visits (edges : List PathEdge) (cost node : ℕ) (found : List ℕ) (front : List (Reverse (ℕ × ℕ))) (len : ℕ) (found' : List ℕ) (front' : List (Reverse (ℕ × ℕ))) (len' : ℕ) : Type 0 where
+-- a node that waited at a cost has left the front: where it costs just that, and less than from, its steps were taken
+pub record Visits (edges : List PathEdge) (from cost node : ℕ) (found : List ℕ) (front : List (ℕ × ℕ)) (found' : List ℕ) (front' : List (ℕ × ℕ)) : Type 0 where
   pub long : length found' ≡ length found
   pub inside : AreInside front (length found) → AreInside front' (length found)
-  pub falls : potential found' len' ≤ potential found len
-  pub keeps : (goals : List Bool) → IsSearched edges goals found (entry cost node ∷ front) (length goals) → IsSearched edges goals found' front' (length goals)
+  pub falls : potential found' front' ≤ potential found front
+  pub keeps : (goals : List Bool) → IsSearched edges goals from found ((cost, node) ∷ front) (length goals) → IsSearched edges goals from found' front' (length goals)

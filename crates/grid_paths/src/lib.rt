@@ -1,19 +1,18 @@
 //! The path of least measure from a node to a goal.
 #![tactic(auto)]
 
+mod front;
+
 ghost use Rattle.std.specs.Prelude.{◌≡◌, ℕ, ◌+◌, ◌<◌, ◌↔◌, ◌∷◌, length, IfOk, OnOk, IfSome, IfNone, IsTrue, not, List, Bool, slice_set, slice_get, Some};
 ghost use Rattle.std.specs.List.Sorted.{IsPermutation};
-ghost use Rattle.std.specs.BinaryHeap.{heap_items, heap_len, IsHeap};
-ghost use Rattle.std.proofs.Props.{props};
 ghost use Rattle.grid_paths.specs.declared.PathEdge.{PathEdge};
 ghost use Rattle.grid_paths.specs.Routes.{EndsBelow, IsLeastRoute, is_route, is_goal};
-ghost use Rattle.grid_paths.specs.Search.{weight_of_lem, AreChains, AreChainsTo, IsLed, Passes, IsTight, IsBestFrom, entry, IsStarted, AreLeastCosts, Walks, cost_at, far, Takes, Spreads, Visits, entry_cmp, WaitFrom};
+ghost use Rattle.grid_paths.specs.Search.{weight_of_lem, AreChains, AreChainsTo, IsLed, Passes, IsTight, IsBestFrom, IsStarted, AreLeastCosts, Walks, cost_at, far, Takes, Spreads, Visits};
 ghost use Rattle.grid_paths.specs.Laws.{EqualMeasureIsEqualPath};
 
+use front::Front;
 use grid_ids::{Memory, Seq};
 use std::alloc::Global;
-use std::cmp::Reverse;
-use std::collections::BinaryHeap;
 
 /// What it takes to pass along an edge.
 #[derive(Debug, Clone, Copy, PartialEq, Eq)]
@@ -171,12 +170,11 @@ fn best_step(edges: &[PathEdge], chains: &Chains, found: &[u64], node: u32) -> O
     best
 }
 
-/// What was found so far, and the nodes from which the search goes on, those of least cost first.
+/// What was found so far, and the nodes from which the search goes on.
 #[derive(Drop)]
 struct Search {
     found: Vec<u64>,
-    front: BinaryHeap<Reverse<(u64, u32)>>,
-    ghost ordered: { IsHeap entry_cmp (heap_items front) } by { Prim.hlevel props },
+    front: Front,
 }
 
 impl Search {
@@ -184,11 +182,11 @@ impl Search {
     fn start(alloc: Global, goals: &[bool]) -> Result<Search, Memory>
         requires { length goals.now < 4294967296 }
         ensures { IfOk result (λ search. IsStarted goals.now (length goals.now) search.found.items
-            (heap_items search.front)) }
+            search.front) }
     {
         let mut search = Search {
-            found: Vec::with_capacity(alloc, goals.len())?,
-            front: BinaryHeap::new(alloc),
+            found: vec![in alloc; FAR; goals.len()]?,
+            front: Front::with_room(alloc, goals.len())?,
         };
         for (node, goal) in goals.iter().enumerate() {
             search.begin(node as u32, *goal)?;
@@ -196,44 +194,40 @@ impl Search {
         Ok(search)
     }
 
-    /// Begins at one more node.
+    /// Begins at one more node, if it is a goal.
     fn begin(&mut self, node: u32, goal: bool) -> Result<(), Memory>
+        requires { node < length self.old.found.items }
         ensures { OnOk result ((goals : List Bool) → is_goal goals node ≡ goal
-            → IsStarted goals node self.old.found.items (heap_items self.old.front)
-            → IsStarted goals (node + 1) self.new.found.items (heap_items self.new.front)) }
+            → IsStarted goals node self.old.found.items self.old.front
+            → IsStarted goals (node + 1) self.new.found.items self.new.front) }
     {
         if !goal {
-            self.found.push(FAR)?;
             return Ok(());
         }
-        self.front.push(Reverse((0, node)))?;
-        self.found.push(0)?;
-        Ok(())
+        self.found[node as usize] = 0;
+        self.front.put(0, node, false)
     }
 
-    /// A node can be reached at a lesser cost.
-    fn lower(&mut self, node: u32, cost: u64) -> Result<(), Memory>
-        requires { node < length self.old.found.items }
-        ensures found { self.new.found.items ≡ slice_set self.old.found.items node cost }
-        ensures front { OnOk result (IsPermutation (entry cost node ∷ heap_items self.old.front)
-            (heap_items self.new.front)) }
-        ensures len { OnOk result (heap_len self.new.front ≡ heap_len self.old.front + 1) }
+    /// The end of a step can be reached at a lesser cost.
+    fn lower(&mut self, step: Step, cost: u64) -> Result<(), Memory>
+        requires { step.to < length self.old.found.items }
+        ensures found { self.new.found.items ≡ slice_set self.old.found.items step.to cost }
+        ensures front { OnOk result (IsPermutation ((cost, step.to) ∷ self.old.front)
+            self.new.front) }
     {
-        self.found[node as usize] = cost;
-        self.front.push(Reverse((cost, node)))?;
-        Ok(())
+        self.found[step.to as usize] = cost;
+        self.front.put(cost, step.to, step.weight > 1)
     }
 
     /// A step from a node that costs this much.
     fn take(&mut self, step: Step, cost: u64) -> Result<(), Memory>
         requires { step.to < length self.old.found.items }
-        ensures { OnOk result (Takes step cost self.old.found.items (heap_items self.old.front)
-            (heap_len self.old.front) self.new.found.items (heap_items self.new.front)
-            (heap_len self.new.front)) }
+        ensures { OnOk result (Takes step cost self.old.found.items self.old.front
+            self.new.found.items self.new.front) }
     {
         let seen = self.found[step.to as usize];
         if seen.saturating_sub(cost) > step.weight {
-            self.lower(step.to, step.weight + cost)
+            self.lower(step, step.weight + cost)
         } else {
             Ok(())
         }
@@ -250,9 +244,8 @@ impl Search {
         requires chains { AreChains edges.now chains.now.firsts.items chains.now.nexts.items }
         requires ends { EndsBelow edges.now (length self.old.found.items) }
         requires node { node < length chains.now.firsts.items }
-        ensures { OnOk result (Spreads edges.now node cost self.old.found.items
-            (heap_items self.old.front) (heap_len self.old.front) self.new.found.items
-            (heap_items self.new.front) (heap_len self.new.front)) }
+        ensures { OnOk result (Spreads edges.now node cost self.old.found.items self.old.front
+            self.new.found.items self.new.front) }
     {
         let mut link = chains.firsts[node as usize];
         while link > 0 {
@@ -263,47 +256,29 @@ impl Search {
         Ok(())
     }
 
-    /// A node that waited at this cost: its steps are taken, unless it was found at a lesser one since.
+    /// A node that waited at this cost: its steps are taken, unless it was found at a lesser one since, or `from` at no
+    /// greater one.
     fn visit(
         &mut self,
         edges: &[PathEdge],
         chains: &Chains,
+        from: u32,
         cost: u64,
         node: u32,
     ) -> Result<(), Memory>
         requires chains { AreChains edges.now chains.now.firsts.items chains.now.nexts.items }
         requires ends { EndsBelow edges.now (length self.old.found.items) }
         requires long { length chains.now.firsts.items ≡ length self.old.found.items }
+        requires from { from < length self.old.found.items }
         requires node { node < length self.old.found.items }
-        ensures { OnOk result (Visits edges.now cost node self.old.found.items
-            (heap_items self.old.front) (heap_len self.old.front) self.new.found.items
-            (heap_items self.new.front) (heap_len self.new.front)) }
+        ensures { OnOk result (Visits edges.now from cost node self.old.found.items self.old.front
+            self.new.found.items self.new.front) }
     {
-        if self.found[node as usize] != cost {
+        let limit = self.found[from as usize];
+        if cost >= limit || self.found[node as usize] != cost {
             return Ok(());
         }
         self.spread(edges, chains, node, cost)
-    }
-
-    /// The next node to visit, with the cost at which it waited. None once no node waits at a lesser cost than was
-    /// found at `from`.
-    fn next(&mut self, from: u32) -> Option<(u64, u32)>
-        requires { from < length self.old.found.items }
-        ensures found { self.new.found.items ≡ self.old.found.items }
-        ensures some { IfSome result (λ next. IsPermutation (heap_items self.old.front)
-            (entry next.0 next.1 ∷ heap_items self.new.front)) }
-        ensures len { IfSome result (λ next. heap_len self.old.front
-            ≡ heap_len self.new.front + 1) }
-        ensures none { IfNone result (WaitFrom (heap_items self.old.front)
-            (cost_at self.old.found.items from)) }
-    {
-        let (cost, node) = self.front.pop()?.0;
-        let limit = self.found[from as usize];
-        if cost < limit {
-            Some((cost, node))
-        } else {
-            None
-        }
     }
 }
 
@@ -325,8 +300,8 @@ fn least_costs(
         (cost_at found.items from)) }
 {
     let mut search = Search::start(alloc, goals)?;
-    while let Some((cost, node)) = search.next(from) {
-        search.visit(edges, chains, cost, node)?;
+    while let Some((cost, node)) = search.front.take() {
+        search.visit(edges, chains, from, cost, node)?;
     }
     Ok(search.found)
 }

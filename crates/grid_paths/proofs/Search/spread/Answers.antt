@@ -1,5 +1,4 @@
 use Rattle.std.proofs.Common.{length, arith}
-use Rattle.std.specs.BinaryHeap.{heap_items, heap_len}
 use Rattle.grid_paths.specs.Search.{IsLink}
 use Rattle.grid_paths.proofs.Routing.{Leads_below}
 use Rattle.grid_paths.proofs.Rows.{first_link}
@@ -14,7 +13,7 @@ loop-link-init c =
     first_link c.args.edges.now c.args.chains.now.firsts.items c.args.chains.now.nexts.items c.args.node link c.requires.chains c.requires.node c.index-link.ensures in
     record {
       led = first.led;
-      spread = spreads_none c.args.edges.now c.args.node link c.args.cost before.found.items (heap_items before.front) (heap_len before.front) first;
+      spread = spreads_none c.args.edges.now c.args.node link c.args.cost before.found.items before.front first;
     }
 
 pub take-requires : goal.take-requires
@@ -32,8 +31,8 @@ loop-link-preserved c =
     let below = Leads_below c.args.edges.now (length before.found.items) c.args.node step.place step.to step.weight c.requires.ends c.pass-next.ensures.leads in
     record {
       led = c.pass-next.ensures.follows.led;
-      spread = spreads_more c.args.edges.now c.args.node c.loop-link.link c.args.cost before.found.items (heap_items before.front) (heap_len before.front)
-          here.found.items (heap_items here.front) (heap_len here.front) step c.pass-next.result.1 after.found.items (heap_items after.front) (heap_len after.front)
+      spread = spreads_more c.args.edges.now c.args.node c.loop-link.link c.args.cost before.found.items before.front
+          here.found.items here.front step c.pass-next.result.1 after.found.items after.front
           c.pass-next.ensures (omega (arith, below, c.loop-link.invariant.spread.long)) c.in_ok-take.ensures c.loop-link.invariant.spread;
     }
 
@@ -41,5 +40,5 @@ pub returns : goal.returns
 returns c =
     let before = c.args.self.now in
     let after = c.loop-link.self in
-    spreads_all c.args.edges.now c.args.node c.loop-link.link c.args.cost before.found.items (heap_items before.front) (heap_len before.front)
-    after.found.items (heap_items after.front) (heap_len after.front) (omega (arith, c.loop-link-test.false)) c.loop-link.invariant.spread
+    spreads_all c.args.edges.now c.args.node c.loop-link.link c.args.cost before.found.items before.front
+    after.found.items after.front (omega (arith, c.loop-link-test.false)) c.loop-link.invariant.spread

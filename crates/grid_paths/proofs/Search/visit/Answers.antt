@@ -1,4 +1,3 @@
-use Rattle.std.specs.BinaryHeap.{heap_items, heap_len}
 use Rattle.grid_paths.proofs.Rows.{OnOk_then}
 use Rattle.grid_paths.proofs.Searching.{visits_edges, found_here}
 use Rattle.std.proofs.Common.{◌∙◌}
@@ -10,5 +9,5 @@ returns c =
     let after = c.spread.new.self in
     let here = found_here before.found.items c.args.node c.index.result.now c.requires.node c.index.ensures in
     OnOk_then c.spread.result _ _ c.spread.ensures
-    (visits_edges c.args.edges.now c.args.cost c.args.node before.found.items (heap_items before.front) (heap_len before.front)
-    after.found.items (heap_items after.front) (heap_len after.front) c.requires.node (here ∙ c.if-index-cost.false))
+    (visits_edges c.args.edges.now c.args.from c.args.cost c.args.node before.found.items before.front
+    after.found.items after.front c.requires.node (here ∙ c.if-index-cost.false))
