@@ -1,5 +1,5 @@
--- The buses of levels, kept with the flags that they were made of.
-use Rattle.std.specs.Prelude.{◌≡◌, ℕ, ◌<◌, Bool, Some, List, slice_get}
+-- The buses of levels, kept with the flags that they were made of, and the spots of branches.
+use Rattle.std.specs.Prelude.{◌≡◌, ℕ, ◌<◌, Bool, Some, List, length, slice_get}
 use Rattle.grid_level.specs.VoltageLevel.{VoltageLevel}
 use Rattle.grid_level.specs.Passing.{positioned}
 use Rattle.grid_structure.specs.Network.{Network}
@@ -8,6 +8,7 @@ use Rattle.grid_busview.specs.Views.{node_buses_of}
 use Rattle.grid_states.specs.Rows.{row_at}
 use Rattle.grid_islands.specs.declared.kept.KeptLevel.{KeptLevel}
 use Rattle.grid_islands.specs.declared.kept.KeptBuses.{KeptBuses}
+use Rattle.grid_islands.specs.Spots.{network_spots}
 
 -- what is kept of a level under these flags
 unfoldable pub kept_of : VoltageLevel → List Bool → KeptLevel
@@ -21,9 +22,11 @@ IsKeptAt kept place own = slice_get kept.levels place ≡ Some own
 abbrev pub IsMadeOf : VoltageLevel → KeptLevel → Type 0
 IsMadeOf level own = own ≡ kept_of level own.opened
 
--- what is kept of each level of a network, where something is, is of that level
-abbrev pub AreBusesOf : Network → KeptBuses → Type 0
-AreBusesOf net kept = (place : ℕ) (level : VoltageLevel) (own : KeptLevel) → slice_get (levels net) place ≡ Some level → IsKeptAt kept place own → IsMadeOf level own
+-- what is kept of each level of a network, where something is, is of that level; the spots, where some are kept, are those
+-- of the network's branches
+pub record AreBusesOf (net : Network) (kept : KeptBuses) : Type 0 where
+  pub made : (place : ℕ) (level : VoltageLevel) (own : KeptLevel) → slice_get (levels net) place ≡ Some level → IsKeptAt kept place own → IsMadeOf level own
+  pub spotted : 0 < length kept.spots → kept.spots ≡ network_spots net
 
 -- the levels before a place are kept, under the flags of these rows
 abbrev pub AreKeptBefore : Network → List (List Bool) → ℕ → KeptBuses → Type 0

@@ -1,13 +1,16 @@
-// The buses of levels, kept for the next call with the flags that they were made of.
-ghost use Rattle.std.specs.Prelude.{◌≡◌, ◌≢◌, ℕ, ◌<◌, ◌≤◌, ◌^◌, IsTrue, IfOk, OnOk, OnErr, length, slice_get};
+// The buses of levels, kept for the next call with the flags that they were made of, and the spots of branches.
+ghost use Rattle.std.specs.Prelude.{◌≡◌, ◌≢◌, ℕ, ◌<◌, ◌≤◌, ◌^◌, IsTrue, IfOk, OnOk, OnErr, length, flat_map, slice_get};
 ghost use Rattle.grid_structure.specs.Network.{Network};
 ghost use Rattle.grid_structure.specs.Sites.{levels};
 ghost use Rattle.grid_islands.specs.declared.kept.KeptLevel.{KeptLevel};
-ghost use Rattle.grid_islands.specs.Numbering as numbering;
-ghost use Rattle.grid_islands.specs.Numbering.{FlagsFit};
+ghost use Rattle.grid_islands.specs.Numbering.{FlagsFit, counts_before};
 ghost use Rattle.grid_islands.specs.Kept.{kept_of, IsKeptAt, IsMadeOf, AreBusesOf, AreKeptBefore};
+ghost use Rattle.grid_islands.specs.Spots as spots;
+ghost use Rattle.grid_islands.specs.Spots.{NumbersFit};
 
-use crate::Numbered;
+use crate::numbering::Counts;
+use crate::pairs::Pairs;
+use crate::spots::{Spots, network_spots, spot_pairs};
 use grid_busview::{NodeBuses, node_buses};
 use grid_ids::{Memory, Seq, same_items};
 use grid_level::Level;
@@ -15,18 +18,21 @@ use grid_states::States;
 use grid_structure::Structure;
 use std::alloc::Global;
 
-// The buses of a level, with the flags `opened` that they were made of.
+/// The buses of a level, with the flags `opened` that they were made of.
 #[derive(Drop)]
-struct KeptLevel {
+pub(crate) struct KeptLevel {
     opened: Seq<bool>,
-    buses: NodeBuses,
+    pub(crate) buses: NodeBuses,
 }
 
 /// The buses of the levels of a network that were looked at, from the first level on, each with the flags that it had then.
-/// A call that is given them makes anew only the buses of levels whose flags are others.
+/// A call that is given them makes anew only the buses of levels whose flags are others. Where the ends of the network's
+/// branches stand is kept, too, once it is found.
 #[derive(Drop)]
 pub struct KeptBuses {
     levels: Seq<KeptLevel>,
+    // The spots of all branches; of none before they are found.
+    spots: Spots,
 }
 
 impl KeptBuses {
@@ -36,6 +42,7 @@ impl KeptBuses {
     {
         KeptBuses {
             levels: Seq::empty(alloc),
+            spots: Spots::empty(alloc),
         }
     }
 
@@ -56,6 +63,7 @@ impl KeptBuses {
         ensures own { OnOk result (IsKeptAt self.new place own) }
         ensures others { (other : ℕ) → other ≢ place
             → slice_get self.new.levels other ≡ slice_get self.old.levels other }
+        ensures spots { self.new.spots ≡ self.old.spots }
         ensures err { OnErr result (self.new ≡ self.old) }
     {
         if (place as usize) < self.levels.len() {
@@ -80,6 +88,7 @@ impl KeptBuses {
         ensures own { OnOk result (IsKeptAt self.new place (kept_of level.now opened.now)) }
         ensures others { (other : ℕ) → other ≢ place
             → slice_get self.new.levels other ≡ slice_get self.old.levels other }
+        ensures spots { self.new.spots ≡ self.old.spots }
         ensures err { OnErr result (self.new ≡ self.old) }
     {
         if self.has(place, opened) {
@@ -98,27 +107,51 @@ impl KeptBuses {
         &self.levels[place as usize].buses
     }
 
-    /// The numbers of the buses of all levels. It keeps every level under these flags.
+    /// How many buses the levels have. It keeps every level under these flags.
     pub(crate) fn number(
         &mut self,
         alloc: Global,
         structure: &Structure,
         opened: &States,
-    ) -> Result<Numbered, Memory>
+    ) -> Result<Counts, Memory>
         requires rows { length opened.now ≡ length (levels structure.now) }
         requires flags { FlagsFit structure.now opened.now }
         requires kept { AreBusesOf structure.now self.old }
-        ensures value { IfOk result (λ all. all ≡ numbering.numbered structure.now opened.now) }
-        ensures few { IfOk result (λ all. all.count < 2 ^ 32) }
+        ensures value { IfOk result (λ counts. counts
+            ≡ counts_before opened.now (levels structure.now) (length (levels structure.now))) }
+        ensures few { IfOk result (λ counts. counts.count < 2 ^ 32) }
         ensures every { OnOk result (AreKeptBefore structure.now opened.now
             (length (levels structure.now)) self.new) }
         ensures kept { AreBusesOf structure.now self.new }
     {
-        let mut all = Numbered::empty(alloc);
+        let mut counts = Counts::with_room(alloc, structure.level_count())?;
         for place in 0..structure.level_count() {
             self.keep(alloc, place, structure.level(place), opened.row(place))?;
-            all.add(alloc, self.buses(place))?;
+            counts.add(self.buses(place).leasts.len())?;
         }
-        Ok(all)
+        Ok(counts)
+    }
+
+    /// Finds the spots of all branches, where they are not kept.
+    pub(crate) fn find_spots(&mut self, alloc: Global, structure: &Structure) -> Result<(), Memory>
+        requires { AreBusesOf structure.now self.old }
+        ensures found { OnOk result (self.new.spots ≡ spots.network_spots structure.now) }
+        ensures levels { self.new.levels ≡ self.old.levels }
+        ensures kept { AreBusesOf structure.now self.new }
+    {
+        if self.spots.len() == 0 {
+            self.spots = network_spots(alloc, structure)?;
+        }
+        Ok(())
+    }
+
+    /// The pairs that the branches whose spots are kept make of the buses that are kept, by the numbers of the levels'
+    /// first buses.
+    pub(crate) fn pairs(&self, alloc: Global, firsts: &[u32]) -> Result<Pairs, Memory>
+        requires { NumbersFit firsts.now self.now.levels }
+        ensures { IfOk result (λ pairs. pairs
+            ≡ flat_map (spots.pairs_of_spots firsts.now self.now.levels) self.now.spots) }
+    {
+        spot_pairs(alloc, firsts, self.levels.slice(), self.spots.slice())
     }
 }

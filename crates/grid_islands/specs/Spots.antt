@@ -1,0 +1,55 @@
+-- Where the ends of branches stand, and the pairs of buses that follow.
+use Rattle.std.specs.Prelude.{ℕ, ℤ, pos, negsuc, ◌+◌, ◌<◌, ◌^◌, ◌==◌, ◌≡◌, Option, Some, None, List, [], ◌∷◌, map, position, slice_get, option_and_then}
+use Rattle.std.specs.Option.{option_map}
+use Rattle.grid_level.specs.Passing.{nodes}
+use Rattle.grid_structure.specs.declared.Branch.{Branch}
+use Rattle.grid_structure.specs.declared.Branch.TheVariants.{Line, TwoWindings, ThreeWindings}
+use Rattle.grid_structure.specs.declared.End.{End}
+use Rattle.grid_structure.specs.Network.{Network}
+use Rattle.grid_structure.specs.Sites.{levels, branches, find_level}
+use Rattle.grid_islands.specs.declared.kept.KeptLevel.{KeptLevel}
+use Rattle.grid_islands.specs.declared.spots.Spot.{Spot}
+use Rattle.grid_islands.specs.declared.spots.BranchSpots.{BranchSpots}
+use Rattle.grid_islands.specs.Islands.{pairs_among}
+
+-- ---- spots
+
+-- the place of a node among a level's
+unfoldable pub node_index : List ℕ → ℤ → Option ℕ
+node_index ns (pos node) = position (λ n. n == node) ns
+node_index ns (negsuc node) = None
+
+abbrev pub spot_at : ℕ → ℕ → Spot
+spot_at level node = record { level = level; node = node }
+
+-- the place of an end's level, with that of its node among the level's nodes
+unfoldable pub spot_of_end : Network → End → Option Spot
+spot_of_end net end = option_and_then (λ place. option_and_then (λ level. option_map (spot_at place) (node_index (nodes level) end.node)) (slice_get (levels net) place)) (find_level net end.level)
+
+abbrev pub spots_at : Option Spot → Option Spot → Option Spot → BranchSpots
+spots_at first second third = record { first = first; second = second; third = third }
+
+unfoldable pub spots_of_branch : Network → Branch → BranchSpots
+spots_of_branch net (Line end1 end2) = spots_at (spot_of_end net end1) (spot_of_end net end2) None
+spots_of_branch net (TwoWindings substation end1 end2 rated_u1 rated_u2) = spots_at (spot_of_end net end1) (spot_of_end net end2) None
+spots_of_branch net (ThreeWindings substation end1 end2 end3 rated_u1 rated_u2 rated_u3) = spots_at (spot_of_end net end1) (spot_of_end net end2) (spot_of_end net end3)
+
+-- those of all branches
+unfoldable pub network_spots : Network → List BranchSpots
+network_spots net = map (λ b. spots_of_branch net b.shape) (branches net)
+
+-- ---- pairs of buses
+
+-- the number of the bus at a spot, by the numbers of the levels' first buses and by what is kept of the levels
+unfoldable pub number_of_spot : List ℕ → List KeptLevel → Spot → Option ℕ
+number_of_spot firsts kept spot =
+    option_and_then (λ first. option_and_then (λ own. option_and_then (option_map (λ place. first + place)) (slice_get own.buses.places spot.node)) (slice_get kept spot.level)) (slice_get firsts spot.level)
+
+unfoldable pub pairs_of_spots : List ℕ → List KeptLevel → BranchSpots → List (ℕ × ℕ)
+pairs_of_spots firsts kept branch = pairs_among (map (option_and_then (number_of_spot firsts kept)) (branch.first ∷ branch.second ∷ branch.third ∷ []))
+
+-- ---- what callers must give
+
+-- no bus has a number of 2^32 or more
+abbrev pub NumbersFit : List ℕ → List KeptLevel → Type 0
+NumbersFit firsts kept = (level node first place : ℕ) (own : KeptLevel) → slice_get firsts level ≡ Some first → slice_get kept level ≡ Some own → slice_get own.buses.places node ≡ Some (Some place) → first + place < 2 ^ 32

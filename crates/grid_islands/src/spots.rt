@@ -1,0 +1,157 @@
+// Where the ends of branches stand, and the pairs of buses that follow.
+ghost use Rattle.std.specs.Prelude.{◌≡◌, ◌++◌, IfOk, OnOk, flat_map, option_and_then};
+ghost use Rattle.grid_islands.specs.Spots as spots;
+ghost use Rattle.grid_islands.specs.Spots.{NumbersFit};
+
+use crate::kept::KeptLevel;
+use crate::pairs::{Pairs, node_index, push_between};
+use grid_ids::{Memory, Seq};
+use grid_structure::{Branch, End, Structure};
+use std::alloc::Global;
+
+/// Where an end of a branch stands.
+#[derive(Clone, Copy)]
+pub(crate) struct Spot {
+    /// The place of its level.
+    pub(crate) level: u32,
+    /// The place of its node among the level's nodes.
+    pub(crate) node: u32,
+}
+
+/// Where the ends of a branch stand: none for an end whose level or node there is not, or for a third end that there is not.
+#[derive(Clone, Copy)]
+pub(crate) struct BranchSpots {
+    pub(crate) first: Option<Spot>,
+    pub(crate) second: Option<Spot>,
+    pub(crate) third: Option<Spot>,
+}
+
+/// The spots of branches, in their order.
+pub(crate) type Spots = Seq<BranchSpots>;
+
+// Where an end of the branch at a place stands.
+#[tactic(auto, unfolding(crate::specs::Spots::spot_of_end))]
+fn spot_of_end(structure: &Structure, branch: u32, side: u8, end: &End) -> Option<Spot>
+    ensures { result ≡ spots.spot_of_end structure.now end.now }
+{
+    let level = match structure.level_of_end(branch, side, end) {
+        Some(level) => level,
+        None => return None,
+    };
+    match node_index(structure.level(level), end.node) {
+        Some(node) => Some(Spot { level, node }),
+        None => None,
+    }
+}
+
+// Where the ends of the branch at a place stand, by its first two ends and the spot of its third.
+fn spots_from(
+    structure: &Structure,
+    place: u32,
+    end1: &End,
+    end2: &End,
+    third: Option<Spot>,
+) -> BranchSpots
+    ensures { result
+        ≡ spots.spots_at (spots.spot_of_end structure.now end1.now)
+        (spots.spot_of_end structure.now end2.now) third }
+{
+    BranchSpots {
+        first: spot_of_end(structure, place, 1, end1),
+        second: spot_of_end(structure, place, 2, end2),
+        third,
+    }
+}
+
+// Where the ends of the branch at a place stand.
+#[tactic(auto, unfolding(crate::specs::Spots::spots_of_branch))]
+fn spots_of_branch(structure: &Structure, place: u32, branch: &Branch) -> BranchSpots
+    ensures { result ≡ spots.spots_of_branch structure.now branch.now }
+{
+    match branch {
+        Branch::Line { end1, end2 } => spots_from(structure, place, end1, end2, None),
+        Branch::TwoWindings { end1, end2, .. } => spots_from(structure, place, end1, end2, None),
+        Branch::ThreeWindings {
+            end1,
+            end2,
+            end3,
+            ..
+        } => {
+            let third = spot_of_end(structure, place, 3, end3);
+            spots_from(structure, place, end1, end2, third)
+        }
+    }
+}
+
+/// The spots of all branches.
+pub(crate) fn network_spots(alloc: Global, structure: &Structure) -> Result<Spots, Memory>
+    ensures { IfOk result (λ list. list ≡ spots.network_spots structure.now) }
+{
+    let count = structure.branch_count();
+    let mut list = Spots::from_vec(Vec::with_capacity(alloc, count as usize)?);
+    for place in 0..count {
+        list.push(spots_of_branch(structure, place, structure.branch(place)))?;
+    }
+    Ok(list)
+}
+
+// The number of the bus at a spot, by the numbers of the levels' first buses and by what is kept of the levels.
+#[tactic(auto, unfolding(crate::specs::Spots::number_of_spot))]
+fn number_of_spot(firsts: &[u32], kept: &[KeptLevel], spot: Option<Spot>) -> Option<u32>
+    requires { NumbersFit firsts.now kept.now }
+    ensures { result ≡ option_and_then (spots.number_of_spot firsts.now kept.now) spot }
+{
+    let spot = match spot {
+        Some(spot) => spot,
+        None => return None,
+    };
+    let first = match firsts.get(spot.level as usize) {
+        Some(first) => *first,
+        None => return None,
+    };
+    let own = match kept.get(spot.level as usize) {
+        Some(own) => own,
+        None => return None,
+    };
+    match own.buses.places.get(spot.node as usize) {
+        Some(Some(place)) => Some(first + *place),
+        _ => None,
+    }
+}
+
+// Puts the pairs of a branch last.
+fn push_branch(
+    pairs: &mut Pairs,
+    firsts: &[u32],
+    kept: &[KeptLevel],
+    branch: &BranchSpots,
+) -> Result<(), Memory>
+    requires { NumbersFit firsts.now kept.now }
+    ensures { OnOk result (pairs.new
+        ≡ pairs.old ++ spots.pairs_of_spots firsts.now kept.now branch.now) }
+{
+    let first = number_of_spot(firsts, kept, branch.first);
+    let second = number_of_spot(firsts, kept, branch.second);
+    let third = number_of_spot(firsts, kept, branch.third);
+    push_between(pairs, first, second)?;
+    push_between(pairs, first, third)?;
+    push_between(pairs, second, third)
+}
+
+/// The pairs that branches with these spots make of the buses that are kept, by the numbers of the levels' first buses.
+pub(crate) fn spot_pairs(
+    alloc: Global,
+    firsts: &[u32],
+    kept: &[KeptLevel],
+    branches: &[BranchSpots],
+) -> Result<Pairs, Memory>
+    requires { NumbersFit firsts.now kept.now }
+    ensures { IfOk result (λ pairs. pairs
+        ≡ flat_map (spots.pairs_of_spots firsts.now kept.now) branches.now) }
+{
+    let mut pairs = Pairs::from_vec(Vec::with_capacity(alloc, branches.len())?);
+    for branch in branches {
+        push_branch(&mut pairs, firsts, kept, branch)?;
+    }
+    Ok(pairs)
+}
