@@ -7,12 +7,11 @@ ghost use Rattle.grid_core.specs.Replies as replies;
 ghost use Rattle.grid_report.specs.Histories.{variant_view, variant_views};
 ghost use Rattle.grid_cli.specs.Views.{IsShown, IsStanding, IsAlike};
 
-use grid_busview::BusView;
 use grid_core::World;
 use grid_ids::{Duplicate, Id, Memory, Seq, same_items};
 use grid_level::{Level, Placed};
 use grid_powers::Powers;
-use grid_report::{BusViews, VariantView, VariantViews};
+use grid_report::{BusViews, SharedView, VariantView, VariantViews};
 use grid_states::States;
 use grid_watts::watts_at;
 use std::alloc::Global;
@@ -65,15 +64,16 @@ fn is_alike(level: &Level, place: u32, one: Standing<'_>, other: Standing<'_>) -
         && same_watts(level.placed(), one.powers, other.powers)
 }
 
-/// The view of the level at a place in a live variant: a copy of that in an earlier one, where the level is alike there.
+/// The view of the level at a place in a live variant: that in an earlier one, where the level is alike there.
 fn level_view(
+    alloc: Global,
     world: &World,
     name: &Id,
     own: Standing<'_>,
     earlier: &VariantView,
     other: Standing<'_>,
     place: u32,
-) -> Result<BusView, Memory>
+) -> Result<SharedView, Memory>
     requires own { IsStanding world.now name.now own.opened.now own.powers.now.listed }
     requires other { IsStanding world.now earlier.now.name other.opened.now
         other.powers.now.listed }
@@ -85,7 +85,8 @@ fn level_view(
     if is_alike(world.structure().level(place), place, own, other) {
         return earlier.views.slice()[place as usize].copy();
     }
-    world.view(name, place)
+    let view = world.view(name, place)?;
+    SharedView::new(alloc, view)
 }
 
 /// The view of each level in a live variant, by place, beside those of an earlier one.
@@ -105,7 +106,7 @@ fn views_beside(
     let other = standing_of(world, &earlier.name);
     let mut views = Seq::empty(alloc);
     for level in 0..world.level_count() {
-        let view = level_view(world, name, own, earlier, other, level)?;
+        let view = level_view(alloc, world, name, own, earlier, other, level)?;
         views.push(view)?;
     }
     Ok(views)
@@ -120,7 +121,8 @@ fn level_views(alloc: Global, world: &World, name: &Id) -> Result<BusViews, Memo
 {
     let mut views = Seq::empty(alloc);
     for level in 0..world.level_count() {
-        let view = world.view(name, level)?;
+        let made = world.view(name, level)?;
+        let view = SharedView::new(alloc, made)?;
         views.push(view)?;
     }
     Ok(views)

@@ -10,7 +10,7 @@ ghost use Rattle.grid_report.specs.Blocks.{block_text};
 use crate::bus::put_level;
 use crate::command::put_command;
 use crate::event::put_event_line;
-use crate::outcome::{Outcome, VariantView};
+use crate::outcome::{Outcome, SharedView, VariantView};
 use crate::reply::{put_answer, put_details};
 use crate::text::{Shown, Text, put_named};
 use grid_busview::BusView;
@@ -178,12 +178,12 @@ fn push_workers<'a>(
     Ok(())
 }
 
-fn push_levels<'a>(blocks: &mut Vec<Block<'a>>, views: &'a [BusView]) -> Result<(), Memory>
+fn push_levels<'a>(blocks: &mut Vec<Block<'a>>, views: &'a [SharedView]) -> Result<(), Memory>
     ensures { OnOk result (flat_map block_text blocks.new.items
         ≡ flat_map block_text blocks.old.items ++ flat_map level_text views.now) }
 {
     for view in views {
-        blocks.push(Block::Level(view))?;
+        blocks.push(Block::Level(view.view()))?;
     }
     Ok(())
 }

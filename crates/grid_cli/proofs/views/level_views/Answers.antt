@@ -1,6 +1,7 @@
-use Rattle.std.proofs.Common.{◌≡◌, sym, ap, ◌∙◌, [], ◌∷◌, ◌++◌, length, length-append, arith}
+use Rattle.std.proofs.Common.{◌≡◌, sym, ap, ◌∙◌, [], ◌∷◌, ◌++◌, length, length-append, arith, Some}
 use Rattle.std.specs.List.{filter_map, range_with_len}
 use Rattle.grid_structure.specs.Sites.{levels}
+use Rattle.grid_busview.specs.declared.BusView.{BusView}
 use Rattle.grid_core.specs.History.{structure}
 use Rattle.grid_core.specs.Replies.{view}
 use Rattle.grid_report.specs.Histories.{variant_view}
@@ -12,7 +13,7 @@ loop-level-preserved c = record {
   within = omega (arith, c.level_count-level-end.ensures, c.loop-level-test.true);
   views =
       c.in_ok-push.ensures.ok ∙ ap (λ vs. vs ++ c.in_ok-view.view ∷ []) c.loop-level.invariant.views
-      ∙ sym (given_more (view c.args.world.now.origin c.args.world.now.steps c.args.name.now) c.loop-level.level c.in_ok-view.view c.in_ok-view.ensures);
+      ∙ sym (given_more (view c.args.world.now.origin c.args.world.now.steps c.args.name.now) c.loop-level.level c.in_ok-view.view (c.in_ok-made.ensures ∙ ap (λ (v : BusView). Some v) (sym c.in_ok-view.ensures)));
   count = omega (arith, ap length c.in_ok-push.ensures.ok, length-append c.loop-level.views (c.in_ok-view.view ∷ []), c.loop-level.invariant.count);
 }
 
