@@ -11,7 +11,7 @@ use Rattle.grid_queue.specs.Net.{NetShape, shape}
 use Rattle.grid_busbreaker.specs.Labelled.{passing_flags}
 use Rattle.grid_bench.specs.Nets.{switch_net_edge, internal_net_edge, switch_net_edges, net_edges, net_where, closed_flags}
 use Rattle.grid_level.specs.Passing as passing
-use Rattle.grid_bench.specs.Ends.{switch_ends, SameEnds}
+use Rattle.grid_bench.specs.Ends.{all_ends, SameEnds}
 use Rattle.grid_bench.specs.declared.shown.Shown.{Shown}
 use Rattle.grid_bench.specs.Contents.{content, IsShownOf, IsKept}
 
@@ -25,7 +25,7 @@ pub same_many : (level other : VoltageLevel) → SameEnds level other → length
 same_many level other same =
     sym (length-map level.switches passing.switch_ends) ∙ ap length same.same_switches ∙ length-map other.switches passing.switch_ends
 
-edges_as : (ns : List ℕ) (ss ts : List Switch) (flags : List Bool) → switch_ends ss ≡ switch_ends ts → switch_net_edges ns ss flags ≡ switch_net_edges ns ts flags
+edges_as : (ns : List ℕ) (ss ts : List Switch) (flags : List Bool) → all_ends ss ≡ all_ends ts → switch_net_edges ns ss flags ≡ switch_net_edges ns ts flags
 unfolding switch_net_edges ends
 edges_as ns [] [] flags e = refl
 edges_as ns [] (t ∷ ts) flags e = absurd (cc)
@@ -35,7 +35,7 @@ edges_as ns (s ∷ ss) (t ∷ ts) (f ∷ flags) e =
     let edge : ℕ × ℕ → NetEdge = λ pair. record { a = index_in ns pair.0; b = index_in ns pair.1; passing = f } in
     let pair : Switch → ℕ × ℕ = λ x. (x.node1, x.node2) in
     let here : pair s ≡ pair t = cc in
-    let rest : switch_ends ss ≡ switch_ends ts = cc in
+    let rest : all_ends ss ≡ all_ends ts = cc in
     ap (λ z. edge z ∷ switch_net_edges ns ss flags) here ∙ ap (λ z. switch_net_edge ns t f ∷ z) (edges_as ns ss ts flags rest)
 
 pub net_as : (level other : VoltageLevel) (passes : List Bool) → SameEnds level other → net_where level passes ≡ net_where other passes

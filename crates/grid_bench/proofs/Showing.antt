@@ -17,7 +17,7 @@ use Rattle.grid_busview.specs.Views.{fed_among, is_load, is_generation, watts_ov
 use Rattle.grid_bench.specs.declared.base.BaseLevel.{BaseLevel}
 use Rattle.grid_bench.specs.declared.shown.Shown.{Shown}
 use Rattle.grid_bench.specs.Bases.{placed_open}
-use Rattle.grid_bench.specs.Ends.{switch_ends, SameEnds}
+use Rattle.grid_bench.specs.Ends.{all_ends, SameEnds}
 use Rattle.grid_bench.specs.Shown.{LookSame}
 use Rattle.grid_bench.specs.Contents.{Content, content, IsViewOf, IsShownOf}
 use Rattle.grid_bench.specs.Stores.{Store, kept_for, IsViewIn}
@@ -29,7 +29,7 @@ use Rattle.grid_bench.proofs.Alike.{same_many}
 abbrev marked : List Switch → List Bool → List (ℕ × ℕ)
 marked ss flags = map (λ pair. ends (switch_edge pair.0)) (filter (λ pair. pair.1) (zip ss flags))
 
-marked_as : (ss ts : List Switch) (flags : List Bool) → switch_ends ss ≡ switch_ends ts → marked ss flags ≡ marked ts flags
+marked_as : (ss ts : List Switch) (flags : List Bool) → all_ends ss ≡ all_ends ts → marked ss flags ≡ marked ts flags
 unfolding ends
 marked_as [] [] flags e = refl
 marked_as [] (t ∷ ts) flags e = absurd (cc)
@@ -37,9 +37,9 @@ marked_as (s ∷ ss) [] flags e = absurd (cc)
 marked_as (s ∷ ss) (t ∷ ts) [] e = refl
 marked_as (s ∷ ss) (t ∷ ts) (true ∷ flags) e =
     let here : ends (switch_edge s) ≡ ends (switch_edge t) = cc in
-    let rest : switch_ends ss ≡ switch_ends ts = cc in
+    let rest : all_ends ss ≡ all_ends ts = cc in
     ap (λ z. z ∷ marked ss flags) here ∙ ap (λ z. ends (switch_edge t) ∷ z) (marked_as ss ts flags rest)
-marked_as (s ∷ ss) (t ∷ ts) (false ∷ flags) e = let rest : switch_ends ss ≡ switch_ends ts = cc in marked_as ss ts flags rest
+marked_as (s ∷ ss) (t ∷ ts) (false ∷ flags) e = let rest : all_ends ss ≡ all_ends ts = cc in marked_as ss ts flags rest
 
 where_as : (level other : VoltageLevel) (flags : List Bool) → SameEnds level other → passing_where level flags ≡ passing_where other flags
 unfolding passing_where

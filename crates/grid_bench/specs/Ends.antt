@@ -6,11 +6,11 @@ use Rattle.grid_level.specs.Passing as passing
 use Rattle.grid_level.specs.Passing.{nodes}
 
 -- the two nodes of each switch
-abbrev pub switch_ends : List Switch → List (ℕ × ℕ)
-switch_ends switches = map passing.switch_ends switches
+abbrev pub all_ends : List Switch → List (ℕ × ℕ)
+all_ends switches = map passing.switch_ends switches
 
 -- both levels have the same nodes, and their switches and internal connections stand between the same ones
 pub record SameEnds (level other : VoltageLevel) : Type 0 where
   pub same_nodes : nodes level ≡ nodes other
-  pub same_switches : switch_ends level.switches ≡ switch_ends other.switches
+  pub same_switches : all_ends level.switches ≡ all_ends other.switches
   pub same_internals : level.internals ≡ other.internals

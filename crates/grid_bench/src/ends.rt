@@ -20,6 +20,15 @@ fn same_nodes(level: &Level, other: &Level) -> bool
     same
 }
 
+// Zero exactly where both pairs are equal. Each is taken as one number, so that several can be compared at once.
+fn difference(pair: (u16, u16), other: (u16, u16)) -> u32
+    ensures { (result ≡ 0) ↔ (pair ≡ other) }
+{
+    let number = u32::from(pair.1) * 0x1_0000 + u32::from(pair.0);
+    let other_number = u32::from(other.1) * 0x1_0000 + u32::from(other.0);
+    number ^ other_number
+}
+
 // Whether both lists have the same pairs of nodes. The loop goes to its end, so that many can be compared at once.
 fn same_pairs(list: &[(u16, u16)], others: &[(u16, u16)]) -> bool
     ensures { IsTrue result ↔ (list.now ≡ others.now) }
@@ -27,14 +36,11 @@ fn same_pairs(list: &[(u16, u16)], others: &[(u16, u16)]) -> bool
     if list.len() != others.len() {
         return false;
     }
-    let mut same = true;
+    let mut differences = 0;
     for place in 0..list.len() {
-        let (first, second) = list[place];
-        let (other_first, other_second) = others[place];
-        same &= first == other_first;
-        same &= second == other_second;
+        differences |= difference(list[place], others[place]);
     }
-    same
+    differences == 0
 }
 
 /// Whether both levels have the same nodes, and their switches and internal connections stand between the same ones. The

@@ -1,65 +1,87 @@
--- The order of two lists with equal fronts.
-use Rattle.std.proofs.Common.{◌≡◌, ◌≢◌, refl, sym, ap, ◌∙◌, subst, ℕ, zero, suc, ◌+◌, ◌<◌, ◌≤◌, Bool, true, false, nat_lt, List, [], ◌∷◌, length, get_or, ◌⊎◌, inl, inr, arith}
-use Rattle.std.specs.Prelude.{eqb}
-use Rattle.std.proofs.lemmas.Bool.{eqb-true, eqb-false, ltb-true, ltb-false}
+-- Texts that are told apart by their first bytes.
+use Rattle.std.proofs.Common.{◌≡◌, ◌≢◌, refl, sym, ap, ◌∙◌, subst, ℕ, zero, suc, ◌+◌, ◌*◌, ◌^◌, ◌<◌, ◌≤◌, Bool, true, false, nat_lt, List, [], ◌∷◌, get_or, drop, arith}
+use Rattle.std.proofs.Math.Nat.{pow-suc}
+use Rattle.std.proofs.lemmas.Bool.{ltb-true, ltb-false}
+use Rattle.std.proofs.lemmas.Nat.{mul-le}
 use Rattle.std.specs.declared.cmp.Ordering.{Ordering}
 use Rattle.std.specs.declared.cmp.Ordering.TheVariants.{Less, Equal, Greater}
 use Rattle.std.specs.Ordering.{MatchOrdering, nat_cmp, ordering_then}
 use Rattle.std.specs.Cmp.{nat_cmp_is, ranked}
 use Rattle.std.specs.Cmp.Lexicographic.{slice_cmp}
+use Rattle.grid_ids.specs.Front.{front_bytes, front_of, AreBytes}
 
--- equal heads leave the order to what is behind them
-same_head : (x y : ℕ) (rest : Ordering) → x ≡ y → ordering_then (nat_cmp x y) rest ≡ rest
-same_head x y rest e = ap (λ r. ordering_then r rest) (sym (nat_cmp_is x y Equal e))
+behind : (xs : List ℕ) → AreBytes xs → AreBytes (drop 1 xs)
+behind [] few k = few k
+behind (x ∷ xs) few k = few (suc k)
 
-other_head : (x y : ℕ) (rest : Ordering) (r : Ordering) → r ≡ nat_cmp x y → x ≢ y → ordering_then r rest ≡ r
-other_head x y rest Less e n = refl
-other_head x y rest Greater e n = refl
-other_head x y rest Equal e n = absurd (n (ranked x y Equal e))
+fits : (p x r : ℕ) → x < 256 → r < p → x * p + r < p * 256
+fits p x r few less = let most = mul-le x p 255 p (omega arith) (omega arith) in omega (arith, most)
 
--- the first place that differs decides
-pub differ_at : (xs ys : List ℕ) (k : ℕ) → k < length xs → k < length ys → ((i : ℕ) → i < k → get_or xs i 0 ≡ get_or ys i 0) → get_or xs k 0 ≢ get_or ys k 0
-    → slice_cmp nat_cmp xs ys ≡ nat_cmp (get_or xs k 0) (get_or ys k 0)
-differ_at [] ys k few less same n = absurd (omega arith)
-differ_at (x ∷ xs) [] k few less same n = absurd (omega arith)
-differ_at (x ∷ xs) (y ∷ ys) zero few less same n = other_head x y (slice_cmp nat_cmp xs ys) (nat_cmp x y) refl n
-differ_at (x ∷ xs) (y ∷ ys) (suc k) few less same n =
-    same_head x y (slice_cmp nat_cmp xs ys) (same 0 (omega arith))
-    ∙ differ_at xs ys k (omega arith) (omega arith) (λ i lt. same (suc i) (omega arith)) n
+-- so many bytes are below 256 to their count
+front_fits : (n : ℕ) (xs : List ℕ) → AreBytes xs → front_bytes n xs < 256 ^ n
+unfolding front_bytes
+front_fits zero xs few = omega arith
+front_fits (suc n) xs few =
+    let made = fits (256 ^ n) (get_or xs 0 0) (front_bytes n (drop 1 xs)) (few 0) (front_fits n (drop 1 xs) (behind xs few)) in
+    omega (arith, made, pow-suc 256 n)
 
-longer : (a b : ℕ) → nat_cmp a b ≡ nat_cmp (suc a) (suc b)
-longer a b = nat_cmp_is (suc a) (suc b) (nat_cmp a b) (moved (nat_cmp a b) refl)
+front_none : (n : ℕ) → front_bytes n [] ≡ 0
+unfolding front_bytes
+front_none zero = refl
+front_none (suc n) = let rest = front_none n in omega (arith, rest)
+
+-- what both begin with leaves the order to the rest
+shifted : (c a b : ℕ) → nat_cmp (c + a) (c + b) ≡ nat_cmp a b
+shifted c a b = sym (nat_cmp_is (c + a) (c + b) (nat_cmp a b) (moved (nat_cmp a b) refl))
   where
-    moved : (r : Ordering) → r ≡ nat_cmp a b → MatchOrdering r (suc a < suc b) (suc a ≡ suc b) (suc b < suc a)
+    moved : (r : Ordering) → r ≡ nat_cmp a b → MatchOrdering r (c + a < c + b) (c + a ≡ c + b) (c + b < c + a)
     moved Less e = (let less : a < b = ranked a b Less e in omega (arith, less))
-    moved Equal e = ap suc (ranked a b Equal e)
+    moved Equal e = ap (λ n. c + n) (ranked a b Equal e)
     moved Greater e = (let less : b < a = ranked a b Greater e in omega (arith, less))
 
--- where one is a front of the other, the lengths decide
-pub differ_in_length : (xs ys : List ℕ) (k : ℕ) → (length xs ≤ k) ⊎ (length ys ≤ k) → k ≤ length xs → k ≤ length ys → ((i : ℕ) → i < k → get_or xs i 0 ≡ get_or ys i 0)
-    → slice_cmp nat_cmp xs ys ≡ nat_cmp (length xs) (length ys)
-differ_in_length [] [] k end few less same = nat_cmp_is 0 0 Equal refl
-differ_in_length [] (y ∷ ys) k end few less same = nat_cmp_is 0 (length (y ∷ ys)) Less (omega arith)
-differ_in_length (x ∷ xs) [] k end few less same = nat_cmp_is (length (x ∷ xs)) 0 Greater (omega arith)
-differ_in_length (x ∷ xs) (y ∷ ys) zero (inl end) few less same = absurd (omega (arith, end))
-differ_in_length (x ∷ xs) (y ∷ ys) zero (inr end) few less same = absurd (omega (arith, end))
-differ_in_length (x ∷ xs) (y ∷ ys) (suc k) end few less same =
-    same_head x y (slice_cmp nat_cmp xs ys) (same 0 (omega arith))
-    ∙ differ_in_length xs ys k (elim end [ inl e ↦ inl (omega (arith, e)) | inr e ↦ inr (omega (arith, e)) ]) (omega arith) (omega arith) (λ i lt. same (suc i) (omega arith))
-    ∙ longer (length xs) (length ys)
+-- the greater first byte decides
+greater : (p x y a b : ℕ) → a < p → x < y → x * p + a < y * p + b
+greater p x y a b fit less = let most = mul-le (suc x) p y p (omega arith) (omega arith) in omega (arith, most)
 
--- one place more is equal
-pub one_more : (xs ys : List ℕ) (k : ℕ) → ((i : ℕ) → i < k → get_or xs i 0 ≡ get_or ys i 0) → get_or xs k 0 ≡ get_or ys k 0 → (i : ℕ) → i < k + 1 → get_or xs i 0 ≡ get_or ys i 0
-one_more xs ys k same here i lt = by (eqb i k) refl
-  where
-    by : (t : Bool) → eqb i k ≡ t → get_or xs i 0 ≡ get_or ys i 0
-    by true e = (let P : ℕ → Type 0 = λ j. get_or xs j 0 ≡ get_or ys j 0 in subst P (sym (eqb-true i k e)) here)
-    by false e = (let n = eqb-false i k e in same i (omega (arith, lt, n)))
+decided : (x y : ℕ) (rest : Ordering) (r : Ordering) → r ≡ nat_cmp x y → x ≢ y → ordering_then (nat_cmp x y) rest ≡ r
+decided x y rest Less e n = ap (λ o. ordering_then o rest) (sym e)
+decided x y rest Greater e n = ap (λ o. ordering_then o rest) (sym e)
+decided x y rest Equal e n = absurd (n (ranked x y Equal e))
 
--- the lesser of two lengths is one of them
-pub shortest : (a b k : ℕ) → k ≡ Prim.Native.Nat.min a b → (a ≤ k) ⊎ (b ≤ k)
-shortest a b k e = by (nat_lt b a) refl
+told_heads : (p x y a b : ℕ) (rest : Ordering) → a < p → b < p → x * p + a ≢ y * p + b → (a ≢ b → nat_cmp a b ≡ rest) → nat_cmp (x * p + a) (y * p + b) ≡ ordering_then (nat_cmp x y) rest
+told_heads p x y a b rest first second differ same = by (nat_cmp x y) refl
   where
-    by : (t : Bool) → nat_lt b a ≡ t → (a ≤ k) ⊎ (b ≤ k)
-    by true less = (let r = ltb-true b a less in inr (omega (arith, r, e)))
-    by false less = (let r = ltb-false b a less in inl (omega (arith, r, e)))
+    by : (r : Ordering) → r ≡ nat_cmp x y → nat_cmp (x * p + a) (y * p + b) ≡ ordering_then (nat_cmp x y) rest
+    by Less e =
+        (let less : x < y = ranked x y Less e in
+        sym (nat_cmp_is (x * p + a) (y * p + b) Less (greater p x y a b first less)) ∙ ap (λ o. ordering_then o rest) e)
+    by Greater e =
+        (let less : y < x = ranked x y Greater e in
+        sym (nat_cmp_is (x * p + a) (y * p + b) Greater (greater p y x b a second less)) ∙ ap (λ o. ordering_then o rest) e)
+    by Equal e =
+        (let alike : x ≡ y = ranked x y Equal e in
+        ap (λ z. nat_cmp (x * p + a) (z * p + b)) (sym alike) ∙ shifted (x * p) a b ∙ same (λ is. differ (ap (λ z. z * p + a) alike ∙ ap (λ z. y * p + z) is)) ∙ ap (λ o. ordering_then o rest) e)
+
+-- where the first bytes differ, they decide
+pub told : (n : ℕ) (xs ys : List ℕ) → AreBytes xs → AreBytes ys → front_bytes n xs ≢ front_bytes n ys → nat_cmp (front_bytes n xs) (front_bytes n ys) ≡ slice_cmp nat_cmp xs ys
+unfolding front_bytes
+told zero xs ys first second differ = absurd (differ refl)
+told (suc n) [] [] first second differ = absurd (differ refl)
+told (suc n) [] (y ∷ ys) first second differ =
+    let none = front_none (suc n) in sym (nat_cmp_is (front_bytes (suc n) []) (front_bytes (suc n) (y ∷ ys)) Less (omega (arith, none, differ)))
+told (suc n) (x ∷ xs) [] first second differ =
+    let none = front_none (suc n) in sym (nat_cmp_is (front_bytes (suc n) (x ∷ xs)) (front_bytes (suc n) []) Greater (omega (arith, none, differ)))
+told (suc n) (x ∷ xs) (y ∷ ys) first second differ =
+    told_heads (256 ^ n) x y (front_bytes n xs) (front_bytes n ys) (slice_cmp nat_cmp xs ys) (front_fits n xs (behind (x ∷ xs) first)) (front_fits n ys (behind (y ∷ ys) second)) differ (told n xs ys (behind (x ∷ xs) first) (behind (y ∷ ys) second))
+
+next_byte : (xs : List ℕ) (k : ℕ) → get_or (drop 1 xs) k 0 ≡ get_or xs (suc k) 0
+next_byte [] k = refl
+next_byte (x ∷ xs) k = refl
+
+-- one byte more
+pub front_more : (n k : ℕ) (xs : List ℕ) → front_bytes (suc n) (drop k xs) ≡ get_or xs k 0 * 256 ^ n + front_bytes n (drop (suc k) xs)
+unfolding front_bytes
+front_more n zero [] = refl
+front_more n zero (x ∷ xs) = refl
+front_more n (suc k) [] = refl
+front_more n (suc k) (x ∷ xs) = front_more n k xs

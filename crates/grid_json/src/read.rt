@@ -11,7 +11,7 @@ ghost use Rattle.grid_json.specs.Reading.{Gives, whole_at, flag_at, id_at, membe
 use crate::format::Format;
 use crate::{ReadError, Reason};
 use grid_ids::{Id, IdFault, Seq};
-use grid_value::Value;
+use grid_value::{Value, same_text};
 use std::alloc::Global;
 
 /// What is read from a JSON value.
@@ -129,19 +129,27 @@ pub fn object(alloc: Global, value: &Value) -> Result<(), ReadError>
     }
 }
 
-/// Whether the name is among those given.
-fn is_among(names: &[&str], name: &str) -> bool
+/// Whether the name is among those given. The one at `likely` is looked at first.
+fn is_among(names: &[&str], name: &str, likely: usize) -> bool
     ensures { result ≡ list_any (λ known. bytes_eq known.now name.now) names.now }
 {
-    names.iter().any(|known| *known == name)
+    if likely < names.len() && same_text(names[likely], name) {
+        return true;
+    }
+    names.iter().any(|known| same_text(known, name))
 }
 
-/// Whether each member's name is among those given.
+/// Whether each member's name is among those given. Most objects have their members in the order in which the names stand.
 fn has_only(names: &[&str], members: &[(&str, Value)]) -> bool
     ensures { result ≡ list_all
         (λ member. list_any (λ known. bytes_eq known.now member.0.now) names.now) members.now }
 {
-    members.iter().all(|member| is_among(names, member.0))
+    for (place, member) in members.iter().enumerate() {
+        if !is_among(names, member.0, place) {
+            return false;
+        }
+    }
+    true
 }
 
 /// The value is an object that has no member but these.

@@ -21,13 +21,13 @@ pub data Edge : Type 0 where
 unfoldable pub edges : VoltageLevel → List Edge
 edges level = map switch_edge level.switches ++ map internal_edge level.internals
 
-unfoldable pub ends : Edge → ℕ × ℕ
-ends (switch_edge s) = (s.node1, s.node2)
-ends (internal_edge i) = (i.node1, i.node2)
-
 -- the two nodes of a switch
 abbrev pub switch_ends : Switch → ℕ × ℕ
 switch_ends s = (s.node1, s.node2)
+
+unfoldable pub ends : Edge → ℕ × ℕ
+ends (switch_edge s) = switch_ends s
+ends (internal_edge i) = (i.node1, i.node2)
 
 -- a rising list with one more number, where it is not there yet
 unfoldable pub with_node : ℕ → List ℕ → List ℕ

@@ -14,6 +14,9 @@ use std::alloc::{AllocError, AllocFailed, Global};
 /// How deep arrays and objects may nest, as in `serde_json`.
 pub const MAX_DEPTH: usize = 127;
 
+/// For how many members an object has room from the start, as the longest of a job's usual objects have.
+const USUAL_MEMBERS: usize = 8;
+
 /// Why bytes are no JSON value.
 #[derive(Clone, Copy, Debug, Drop, PartialEq, Eq)]
 pub enum ByteFault {
@@ -163,7 +166,7 @@ fn read_members<'t>(
         → converted (λ ms. of_members ms no_members)
         (members (value depth) (length reader.old) reader.old) ≡ None }
 {
-    let mut found = Vec::new(alloc);
+    let mut found = Vec::with_capacity(alloc, USUAL_MEMBERS)?;
     'members: while let Some(name) = reader.next_key()? {
         let member = read(alloc, reader, depth)?;
         found.push((name, member))?;

@@ -4,6 +4,7 @@ ghost use Rattle.serde_json.specs.Find.{get, get_member, as_bool, as_number, as_
 ghost use Rattle.grid_value.specs.View.{view, items_view, members_view};
 
 use crate::number::Number;
+use crate::text::same_text;
 
 /// A JSON value. Its texts and its members' names are lent by the text that it was read from, or by the scratch where they
 /// were written with escapes. It is seen as the data that `serde_json` reads of the same text: of members of one name the
@@ -105,7 +106,7 @@ fn find<'v, 't>(members: &'v Vec<(&'t str, Value<'t>)>, name: &str) -> Option<&'
     while left > 0 {
         left -= 1;
         let member = &members[left];
-        if member.0 == name {
+        if same_text(member.0, name) {
             return Some(&member.1);
         }
     }

@@ -6,8 +6,8 @@ use Rattle.grid_value.specs.View.{view, members_view}
 use Rattle.grid_value.proofs.Growing.{get_member-push}
 use Rattle.grid_value.proofs.value.find.Goals as goal
 
-pub returns-then-eq : goal.returns-then-eq
-returns-then-eq c =
+pub returns-then-same_text : goal.returns-then-same_text
+returns-then-same_text c =
     let xs = c.args.members.now.items in
     let i = c.loop-left.left - 1 in
     let m = c.index-member.result.now in
