@@ -13,7 +13,7 @@ use crate::read::{FromJson, member, member_otherwise, object, only, optional};
 use crate::{ReadError, Reason};
 use grid_ids::Id;
 use grid_requests::Request;
-use grid_structure::{Branch, Edit, End};
+use grid_structure::{BoxedBranch, Branch, Edit, End};
 use grid_value::Value;
 use std::alloc::Global;
 
@@ -383,7 +383,7 @@ fn add_branch_of(alloc: Global, format: Format, value: &Value) -> Result<Edit, R
     let kind = member(alloc, format, value, "kind")?;
     only(alloc, value, names_of_branch(kind))?;
     let id = member(alloc, format, value, "id")?;
-    let shape = shape_of(alloc, format, kind, value)?;
+    let shape = BoxedBranch::new(alloc, shape_of(alloc, format, kind, value)?)?;
     Ok(Edit::AddBranch { id, shape })
 }
 

@@ -10,7 +10,7 @@ use crate::draws::Draws;
 use crate::names::{feeder_injection, feeder_switch, id_of, numbered, part};
 use grid_ids::Memory;
 use grid_kinds::{Injection, SwitchKind};
-use grid_structure::{ApplyFault, Branch, Edit, End, Structure};
+use grid_structure::{ApplyFault, BoxedBranch, Branch, Edit, End, Structure};
 use std::alloc::Global;
 
 /// How many feeders a level has.
@@ -292,14 +292,15 @@ fn add_line(alloc: Global, structure: &mut Structure, level: u32) -> Result<(), 
     requires accepted { IsOk (unrefused (line_edits level 0) structure.now) }
     ensures { OnOk result (unrefused (line_edits level 0) structure.old ≡ Ok structure.new) }
 {
-    let line = Edit::AddBranch {
-        id: numbered(alloc, "T", level)?,
-        shape: Branch::Line {
-            end1: end(alloc, level, 100)?,
-            end2: end(alloc, level + 1, 101)?,
-        },
+    let line = Branch::Line {
+        end1: end(alloc, level, 100)?,
+        end2: end(alloc, level + 1, 101)?,
     };
-    change(structure, line)
+    let edit = Edit::AddBranch {
+        id: numbered(alloc, "T", level)?,
+        shape: BoxedBranch::new(alloc, line)?,
+    };
+    change(structure, edit)
 }
 
 /// So many lines, from the first level on.

@@ -250,7 +250,7 @@ impl ToJson for Edit {
                 node,
                 item,
             } => add_injection(alloc, id, level, *node, item),
-            Edit::AddBranch { id, shape } => add_branch(alloc, id, shape),
+            Edit::AddBranch { id, shape } => add_branch(alloc, id, shape.branch()),
             Edit::RemoveEquipment { id } => one(alloc, "remove_equipment", "id", id),
         }
     }
