@@ -8,3 +8,4 @@ pub mod Results
 pub mod IdSets
 pub mod Streams
 pub mod Filling
+pub mod Limits

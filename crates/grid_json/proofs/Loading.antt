@@ -4,7 +4,7 @@ use Rattle.std.specs.Prelude.{decimal}
 use Rattle.grid_json.specs.declared.fault.Fault.{Fault}
 use Rattle.grid_json.specs.declared.fault.ReadError.{ReadError}
 use Rattle.grid_json.specs.declared.fault.ReadError.TheVariants as errors
-use Rattle.grid_json.specs.Reading.{◌>>=◌, Fails, IsUnder, placed, under}
+use Rattle.grid_json.specs.Reading.{Fails, IsUnder, placed, under}
 use Rattle.grid_json.specs.Loading.{load_items}
 
 pub goes_on : {A S : Type 0} (load : A → List ℕ → S → Result S Fault) (i : ℕ) (rest more : List A) (x : A) (owner : List ℕ) (s after : S) (total : Result S Fault) → rest ≡ x ∷ more → load x owner s ≡ Ok after

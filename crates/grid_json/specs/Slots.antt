@@ -3,14 +3,39 @@ use Rattle.std.specs.Prelude.{◌≡◌, ℕ, List, [], ◌∷◌, true, unwrap_
 use Rattle.serde_json.specs.Data.{Members}
 use Rattle.grid_json.specs.declared.format.Format.{Format}
 use Rattle.grid_json.specs.declared.format.Format.TheVariants.{One}
+use Rattle.grid_json.specs.declared.slots.SwitchSlots.{SwitchSlots}
+use Rattle.grid_json.specs.declared.slots.InternalSlots.{InternalSlots}
 use Rattle.grid_json.specs.declared.slots.LevelSlots.{LevelSlots}
 use Rattle.grid_json.specs.declared.slots.SubstationSlots.{SubstationSlots}
 use Rattle.grid_json.specs.declared.slots.NetworkSlots.{NetworkSlots}
 use Rattle.grid_json.specs.declared.stream.JobSlots.{JobSlots}
-use Rattle.grid_json.specs.Reading.{id_at, whole_at, array_at, all_known}
-use Rattle.grid_json.specs.Network.{busbar_at, switch_at, internal_at, injection_at, level_names, level_at, transformer_at, substation_at, line_at, network_at}
+use Rattle.grid_json.specs.Reading.{id_at, whole_at, flag_at, array_at, all_known}
+use Rattle.grid_json.specs.Kinds.{switch_kind_at}
+use Rattle.grid_json.specs.Network.{busbar_at, switch_names, switch_at, internal_at, injection_at, level_names, level_at, transformer_at, substation_at, line_at, network_at}
 use Rattle.grid_json.specs.Job.{format_at, listeners_at, workers_at}
 use Rattle.grid_json.specs.Streams.{Holds}
+
+abbrev pub SwitchHolds : Format → SwitchSlots → Members → Type 0
+SwitchHolds format slots found = record {
+  known : all_known switch_names found ≡ true;
+  id : Holds id_at (codes "id") found slots.id;
+  kind : Holds (switch_kind_at format) (codes "kind") found slots.kind;
+  node1 : Holds whole_at (codes "node1") found slots.node1;
+  node2 : Holds whole_at (codes "node2") found slots.node2;
+  opened : Holds flag_at (codes "open") found slots.opened;
+  retained : Holds flag_at (codes "retained") found slots.retained;
+  fictitious : Holds flag_at (codes "fictitious") found slots.fictitious;
+}
+
+abbrev pub internal_names : List (List ℕ)
+internal_names = codes "node1" ∷ codes "node2" ∷ []
+
+abbrev pub InternalHolds : Format → InternalSlots → Members → Type 0
+InternalHolds format slots found = record {
+  known : all_known internal_names found ≡ true;
+  node1 : Holds whole_at (codes "node1") found slots.node1;
+  node2 : Holds whole_at (codes "node2") found slots.node2;
+}
 
 abbrev pub LevelHolds : Format → LevelSlots → Members → Type 0
 LevelHolds format slots found = record {

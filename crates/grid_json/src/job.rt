@@ -1,8 +1,8 @@
 // The whole job: the first pass over its value.
-ghost use Rattle.std.specs.Prelude.{◌≡◌, ◌≤◌, [], nat_lt, length, unwrap_or, IfOk, codes, false};
+ghost use Rattle.std.specs.Prelude.{◌≡◌, ◌≤◌, [], nat_lt, length, unwrap_or, IfOk, IfSome, OnSome, codes, false};
 ghost use Rattle.grid_value.specs.View.{view};
 ghost use Rattle.grid_json.specs.Reading.{Gives, member_or, optional_at};
-ghost use Rattle.grid_json.specs.Job.{same_kind, has_kind, listeners_at, workers_at, command_total, max_commands, few_at, order_at, draft_at};
+ghost use Rattle.grid_json.specs.Job.{same_kind, has_kind, listeners_at, workers_at, command_total, max_commands, max_workers, few_at, order_at, draft_at};
 
 use crate::format::Format;
 use crate::kinds::EventKind;
@@ -171,6 +171,19 @@ impl FromJson for Workers {
         }
         Ok(Workers { scripts })
     }
+}
+
+/// The scripts as a job has them, where it may have so many.
+#[tactic(auto, unfolding(crate::specs::Job::command_total))]
+pub fn workers_of(scripts: Scripts) -> Option<Workers>
+    ensures scripts { IfSome result (λ workers. workers ≡ scripts) }
+    ensures few { OnSome result (length scripts ≤ max_workers) }
+    ensures total { OnSome result (nat_lt max_commands (command_total scripts) ≡ false) }
+{
+    if scripts.len() > MOST_WORKERS || are_too_many(scripts.slice()) {
+        return None;
+    }
+    Some(Workers { scripts })
 }
 
 /// The listeners that were found, or none.

@@ -8,8 +8,131 @@ use crate::network::{
 };
 use crate::tokens::{FromTokens, Slots, fill, object_of, or_none};
 use grid_ids::{Id, Seq};
+use grid_kinds::SwitchKind;
 use json::Reader;
 use std::alloc::Global;
+
+/// The members of a switch.
+#[derive(Drop)]
+struct SwitchSlots {
+    id: Option<Id>,
+    kind: Option<SwitchKind>,
+    node1: Option<i64>,
+    node2: Option<i64>,
+    opened: Option<bool>,
+    retained: Option<bool>,
+    fictitious: Option<bool>,
+}
+
+impl Slots for SwitchSlots {
+    ghost use Rattle.grid_json.specs.Slots.{SwitchHolds};
+
+    ghost holds = { SwitchHolds };
+
+    fn empty() -> SwitchSlots {
+        SwitchSlots {
+            id: None,
+            kind: None,
+            node1: None,
+            node2: None,
+            opened: None,
+            retained: None,
+            fictitious: None,
+        }
+    }
+
+    fn take(
+        &mut self,
+        alloc: Global,
+        format: Format,
+        name: &str,
+        reader: &mut Reader<'_>,
+        depth: usize,
+    ) -> Option<()> {
+        match name {
+            "id" => fill(alloc, format, &mut self.id, reader, depth),
+            "kind" => fill(alloc, format, &mut self.kind, reader, depth),
+            "node1" => fill(alloc, format, &mut self.node1, reader, depth),
+            "node2" => fill(alloc, format, &mut self.node2, reader, depth),
+            "open" => fill(alloc, format, &mut self.opened, reader, depth),
+            "retained" => fill(alloc, format, &mut self.retained, reader, depth),
+            "fictitious" => fill(alloc, format, &mut self.fictitious, reader, depth),
+            _ => None,
+        }
+    }
+}
+
+impl FromTokens for SwitchDraft {
+    #[tactic(auto, unfolding(crate::specs::Network::switch_at))]
+    fn from_tokens(
+        alloc: Global,
+        format: Format,
+        reader: &mut Reader<'_>,
+        depth: usize,
+    ) -> Option<SwitchDraft> {
+        let slots: SwitchSlots = object_of(alloc, format, reader, depth)?;
+        Some(SwitchDraft {
+            id: slots.id?,
+            kind: slots.kind?,
+            node1: slots.node1?,
+            node2: slots.node2?,
+            opened: slots.opened.unwrap_or(false),
+            retained: slots.retained.unwrap_or(false),
+            fictitious: slots.fictitious.unwrap_or(false),
+        })
+    }
+}
+
+/// The members of an internal connection.
+#[derive(Drop)]
+struct InternalSlots {
+    node1: Option<i64>,
+    node2: Option<i64>,
+}
+
+impl Slots for InternalSlots {
+    ghost use Rattle.grid_json.specs.Slots.{InternalHolds};
+
+    ghost holds = { InternalHolds };
+
+    fn empty() -> InternalSlots {
+        InternalSlots {
+            node1: None,
+            node2: None,
+        }
+    }
+
+    fn take(
+        &mut self,
+        alloc: Global,
+        format: Format,
+        name: &str,
+        reader: &mut Reader<'_>,
+        depth: usize,
+    ) -> Option<()> {
+        match name {
+            "node1" => fill(alloc, format, &mut self.node1, reader, depth),
+            "node2" => fill(alloc, format, &mut self.node2, reader, depth),
+            _ => None,
+        }
+    }
+}
+
+impl FromTokens for InternalDraft {
+    #[tactic(auto, unfolding(crate::specs::Network::internal_at))]
+    fn from_tokens(
+        alloc: Global,
+        format: Format,
+        reader: &mut Reader<'_>,
+        depth: usize,
+    ) -> Option<InternalDraft> {
+        let slots: InternalSlots = object_of(alloc, format, reader, depth)?;
+        Some(InternalDraft {
+            node1: slots.node1?,
+            node2: slots.node2?,
+        })
+    }
+}
 
 /// The members of a level.
 #[derive(Drop)]

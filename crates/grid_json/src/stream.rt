@@ -7,11 +7,12 @@ ghost use Rattle.grid_json.specs.Slots.{JobHolds};
 ghost use Rattle.grid_json.specs.Whole.{draft_of};
 
 use crate::format::Format;
-use crate::job::{JobDraft, Listeners, Workers, filters_or_none, scripts_or_none};
+use crate::job::{JobDraft, Listeners, Workers, filters_or_none, scripts_or_none, workers_of};
 use crate::network::NetworkDraft;
 use crate::order::order_of_some;
-use crate::tokens::{FromTokens, Slots, fill, object_of, small};
+use crate::tokens::{FromTokens, Slots, fill, leaf, object_of, small};
 use grid_ids::Seq;
+use grid_requests::{Request, Scripts};
 use grid_value::{MAX_DEPTH, Scratch};
 use json::Reader;
 use std::alloc::Global;
@@ -21,9 +22,9 @@ impl FromTokens for Format {
         alloc: Global,
         format: Format,
         reader: &mut Reader<'_>,
-        depth: usize,
+        _depth: usize,
     ) -> Option<Format> {
-        small(alloc, format, reader, depth)
+        leaf(alloc, format, reader)
     }
 }
 
@@ -38,6 +39,18 @@ impl FromTokens for Listeners {
     }
 }
 
+/// A command by way of a tree of it alone, so that the trees of a script are not in memory together.
+impl FromTokens for Request {
+    fn from_tokens(
+        alloc: Global,
+        format: Format,
+        reader: &mut Reader<'_>,
+        depth: usize,
+    ) -> Option<Request> {
+        small(alloc, format, reader, depth)
+    }
+}
+
 impl FromTokens for Workers {
     fn from_tokens(
         alloc: Global,
@@ -45,7 +58,9 @@ impl FromTokens for Workers {
         reader: &mut Reader<'_>,
         depth: usize,
     ) -> Option<Workers> {
-        small(alloc, format, reader, depth)
+        let scripts = Scripts::from_tokens(alloc, format, reader, depth)?;
+        let workers = workers_of(scripts)?;
+        Some(workers)
     }
 }
 

@@ -1,15 +1,14 @@
 // Reading straight from tokens, where there is no fault: None promises nothing.
-ghost use Rattle.std.specs.Prelude.{◌≡◌, ◌<◌, [], length, unwrap_or, IfSome, OnSome};
+ghost use Rattle.std.specs.Prelude.{◌≡◌, ◌<◌, ℕ, [], length, unwrap_or, IfSome, OnSome};
 ghost use Rattle.serde_json.specs.Data.{Members as MembersData, no_members};
 ghost use Rattle.grid_json.specs.declared.format.Format.{Format as FormatAt};
 ghost use Rattle.grid_json.specs.Streams.{Streams, Fills, Takes, IsObject};
 
 use crate::format::Format;
-use crate::network::{
-    BusbarDraft, InjectionDraft, InternalDraft, LineDraft, SwitchDraft, TransformerDraft,
-};
+use crate::network::{BusbarDraft, InjectionDraft, LineDraft, TransformerDraft};
 use crate::read::FromJson;
 use grid_ids::{Id, Seq};
+use grid_kinds::SwitchKind;
 use grid_value::Value;
 use json::{Reader, Token};
 use std::alloc::Global;
@@ -41,14 +40,35 @@ pub fn small<T: FromJson>(
     T::from_json(alloc, format, &value).ok()
 }
 
+/// The next value, which is neither an array nor an object, so that it takes no memory of its own.
+pub fn leaf<T: FromJson>(alloc: Global, format: Format, reader: &mut Reader<'_>) -> Option<T>
+    ensures read { IfSome result (λ read. (depth : ℕ) → Streams (T.reads format) depth reader.old
+        reader.new read) }
+    ensures shorter { OnSome result (length reader.new < length reader.old) }
+{
+    let value = Value::next_leaf(reader)?;
+    T::from_json(alloc, format, &value).ok()
+}
+
 impl FromTokens for i64 {
     fn from_tokens(
         alloc: Global,
         format: Format,
         reader: &mut Reader<'_>,
-        depth: usize,
+        _depth: usize,
     ) -> Option<i64> {
-        small(alloc, format, reader, depth)
+        leaf(alloc, format, reader)
+    }
+}
+
+impl FromTokens for bool {
+    fn from_tokens(
+        alloc: Global,
+        format: Format,
+        reader: &mut Reader<'_>,
+        _depth: usize,
+    ) -> Option<bool> {
+        leaf(alloc, format, reader)
     }
 }
 
@@ -57,9 +77,20 @@ impl FromTokens for Id {
         alloc: Global,
         format: Format,
         reader: &mut Reader<'_>,
-        depth: usize,
+        _depth: usize,
     ) -> Option<Id> {
-        small(alloc, format, reader, depth)
+        leaf(alloc, format, reader)
+    }
+}
+
+impl FromTokens for SwitchKind {
+    fn from_tokens(
+        alloc: Global,
+        format: Format,
+        reader: &mut Reader<'_>,
+        _depth: usize,
+    ) -> Option<SwitchKind> {
+        leaf(alloc, format, reader)
     }
 }
 
@@ -70,28 +101,6 @@ impl FromTokens for BusbarDraft {
         reader: &mut Reader<'_>,
         depth: usize,
     ) -> Option<BusbarDraft> {
-        small(alloc, format, reader, depth)
-    }
-}
-
-impl FromTokens for SwitchDraft {
-    fn from_tokens(
-        alloc: Global,
-        format: Format,
-        reader: &mut Reader<'_>,
-        depth: usize,
-    ) -> Option<SwitchDraft> {
-        small(alloc, format, reader, depth)
-    }
-}
-
-impl FromTokens for InternalDraft {
-    fn from_tokens(
-        alloc: Global,
-        format: Format,
-        reader: &mut Reader<'_>,
-        depth: usize,
-    ) -> Option<InternalDraft> {
         small(alloc, format, reader, depth)
     }
 }

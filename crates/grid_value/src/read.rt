@@ -1,5 +1,5 @@
 // From bytes to a JSON value, in one pass over the tokens.
-ghost use Rattle.std.specs.Prelude.{◌≡◌, ◌<◌, length, Some, None, Err, IfOk, OnOk};
+ghost use Rattle.std.specs.Prelude.{◌≡◌, ◌<◌, ℕ, length, Some, None, Err, IfOk, OnOk, IfSome, OnSome};
 ghost use Rattle.json.specs.Json.{value, items, members};
 ghost use Rattle.serde_json.specs.Data.{no_members};
 ghost use Rattle.serde_json.specs.Read.{of_json, of_items, of_members, converted};
@@ -91,6 +91,23 @@ impl<'t> Value<'t> {
         ensures shorter { OnOk result (length reader.new < length reader.old) }
     {
         read(alloc, reader, depth)
+    }
+
+    /// The next value of the reader, where it is neither an array nor an object, however deep those may nest. It takes no
+    /// memory.
+    #[inline]
+    pub fn next_leaf(reader: &mut Reader<'t>) -> Option<Value<'t>>
+        ensures leaf { IfSome result (λ v. (depth : ℕ) → converted of_json (value depth reader.old)
+            ≡ Some (view v, reader.new)) }
+        ensures shorter { OnSome result (length reader.new < length reader.old) }
+    {
+        match reader.next()? {
+            Token::String(text) => Some(Value::Text(text)),
+            Token::Number(text) => Some(Value::Number(Number::parse(text)?)),
+            Token::Bool(flag) => Some(Value::Bool(flag)),
+            Token::Null => Some(Value::Null),
+            _ => None,
+        }
     }
 }
 
