@@ -10,7 +10,7 @@ use Rattle.grid_level.specs.VoltageLevel.{VoltageLevel}
 use Rattle.grid_level.specs.Passing.{nodes, bus, passing, positioned, placed_among, switch_edge, internal_edge, ends}
 use Rattle.grid_groups.specs.Groups.{group_under, leaders, terminals_at}
 use Rattle.grid_groups.specs.Labels.{passing_where, graph_among, graph_under}
-use Rattle.grid_groups.proofs.Standing.{nodes-positioned, passing_bus}
+use Rattle.grid_groups.proofs.Standing.{nodes-positioned, passing_bus, marked}
 use Rattle.grid_busview.specs.declared.ViewBus.{ViewBus}
 use Rattle.grid_busview.specs.declared.BusView.{BusView}
 use Rattle.grid_busview.specs.Views.{fed_among, is_load, is_generation, watts_over, is_valid, is_bus, bus_of, bus_view_of}
@@ -25,9 +25,6 @@ use Rattle.grid_bench.specs.Answers.{content_of, IsKeptIn}
 use Rattle.grid_bench.proofs.Alike.{same_many}
 
 -- ---- what passes
-
-abbrev marked : List Switch → List Bool → List (ℕ × ℕ)
-marked ss flags = map (λ pair. ends (switch_edge pair.0)) (filter (λ pair. pair.1) (zip ss flags))
 
 marked_as : (ss ts : List Switch) (flags : List Bool) → all_ends ss ≡ all_ends ts → marked ss flags ≡ marked ts flags
 unfolding ends

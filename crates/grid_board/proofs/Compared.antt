@@ -6,6 +6,7 @@ use Rattle.std.proofs.lemmas.Bool.{and_parts, false≢true}
 use Rattle.std.proofs.lemmas.List.{take_more_same, take_all, length-map}
 use Rattle.std.proofs.lemmas.List.FromFn.{length-enumerate_from}
 use Rattle.std.proofs.lemmas.Option.{slice_get_within, get_or_from_slice_get}
+use Rattle.grid_lemmas.proofs.Options.{some_is}
 use Rattle.grid_level.specs.VoltageLevel.{VoltageLevel}
 use Rattle.grid_structure.specs.declared.NamedBranch.{NamedBranch}
 use Rattle.grid_structure.specs.declared.Branch.{Branch}
@@ -21,9 +22,6 @@ use Rattle.grid_board.proofs.Answering.{part_there}
 use Rattle.grid_board.proofs.Based.{branch_at}
 use Rattle.grid_board.proofs.Questioning.{alone_is}
 use Rattle.grid_board.proofs.Whole.{are_found, all_found, between}
-
-some_is : {X : Type 0} (x y : X) → ◌≡◌ {A = Option X} (Some x) (Some y) → x ≡ y
-some_is x y e = cc
 
 -- ---- answers
 

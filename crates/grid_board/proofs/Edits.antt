@@ -4,6 +4,7 @@ use Rattle.std.specs.Prelude.{slice_get, filter_map, option_map, option_and_then
 use Rattle.std.proofs.lemmas.Bool.{false≢true}
 use Rattle.std.proofs.lemmas.List.Sums.{count_by-le-length, sum_by-cons}
 use Rattle.std.proofs.lemmas.Option.{slice_get_within, slice_get-get_or}
+use Rattle.grid_lemmas.proofs.Options.{some_is}
 use Rattle.grid_level.specs.VoltageLevel.{VoltageLevel}
 use Rattle.grid_structure.specs.declared.Edit.{Edit}
 use Rattle.grid_structure.specs.Network.{Network}
@@ -27,9 +28,6 @@ use Rattle.grid_board.proofs.Answering.{part_there}
 use Rattle.grid_board.proofs.Compared.{part_count}
 use Rattle.grid_board.proofs.Copying.{no_edit_stays}
 use Rattle.grid_board.proofs.Questioning.{present_live, present_dead}
-
-some_is : {X : Type 0} (x y : X) → ◌≡◌ {A = Option X} (Some x) (Some y) → x ≡ y
-some_is x y e = cc
 
 -- ---- counting
 

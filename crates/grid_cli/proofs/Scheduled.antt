@@ -5,9 +5,9 @@ use Rattle.std.specs.List.{list_all}
 use Rattle.std.proofs.lemmas.Bool.{false≢true, and_parts, cases_lt, cases_eq, eqb-true, eq-eqb, ne_eqb, ltb-true, ltb-false}
 use Rattle.std.proofs.lemmas.Bool.Decides.{Decides-int_eq}
 use Rattle.std.proofs.lemmas.List.{get_or-map, get_or_past, length-map}
-use Rattle.std.proofs.lemmas.List.Sums.{sum_by-append}
 use Rattle.serde_json.specs.Data.{Data, Items, no_items, item}
 use Rattle.serde_json.specs.Find.{get, as_array}
+use Rattle.grid_lemmas.proofs.Counts.{count_cons}
 use Rattle.grid_structure.specs.Network.{Network}
 use Rattle.grid_events.specs.declared.filter.Filter.{Filter}
 use Rattle.grid_requests.specs.declared.request.Request.{Request}
@@ -43,7 +43,7 @@ use Rattle.grid_configured.specs.Names.{IsConfiguredRequest}
 use Rattle.grid_configured.specs.Jobs.{IsOrdered}
 use Rattle.grid_cli.specs.Configured.{IsRunnable}
 use Rattle.grid_cli.specs.Orders.{order_of, IsScheduled}
-use Rattle.grid_cli.proofs.Stepping.{script_at}
+use Rattle.grid_report.proofs.Stepping.{script_at}
 
 -- how often a worker stands
 abbrev pub times : ℕ → List ℕ → ℕ
@@ -51,12 +51,6 @@ times worker order = count_by (λ w. w == worker) order
 
 none_if : (b : Bool) → b ≡ false → ◌≡◌ {A = ℕ} (cond b 1 0) 0
 none_if b is = rw is refl
-
-count-first : {X : Type 0} (p : X → Bool) (x : X) (xs : List X) → count_by p (x ∷ xs) ≡ cond (p x) 1 0 + count_by p xs
-count-first p x xs =
-    let one : count_by p (x ∷ []) ≡ 0 + cond (p x) 1 0 = refl in
-    let first : count_by p (x ∷ []) ≡ cond (p x) 1 0 = omega (arith, one) in
-    sum_by-append (λ y. cond (p y) 1 0) (x ∷ []) xs ∙ ap (λ n. n + count_by p xs) first
 
 -- ---- an order that is given
 
@@ -90,10 +84,10 @@ as_often workers worker (x ∷ xs) all =
     let parts = and_parts (is_worker workers x) (list_all (is_worker workers) xs) all in
     let n = named workers x parts.0 in
     let same : (natural_of x == worker) ≡ stands_for (pos worker) x = ap (λ y. natural_of y == worker) n.is ∙ sym (same_number n.name worker) ∙ ap (stands_for (pos worker)) (sym n.is) in
-    count-first (λ w. w == worker) (natural_of x) (map natural_of xs)
+    count_cons (λ w. w == worker) (natural_of x) (map natural_of xs)
     ∙ ap (λ b. cond b 1 0 + times worker (map natural_of xs)) same
     ∙ ap (λ k. cond (stands_for (pos worker) x) 1 0 + k) (as_often workers worker xs parts.1)
-    ∙ sym (count-first (stands_for (pos worker)) x xs)
+    ∙ sym (count_cons (stands_for (pos worker)) x xs)
 
 -- a number beyond the workers stands nowhere
 beyond : (workers worker : ℕ) (numbers : List ℤ) → list_all (is_worker workers) numbers ≡ true → workers ≤ worker → times worker (map natural_of numbers) ≡ 0
@@ -103,7 +97,7 @@ beyond workers worker (x ∷ xs) all le =
     let n = named workers x parts.0 in
     let differ : (natural_of x == worker) ≡ false = ap (λ y. natural_of y == worker) n.is ∙ ne_eqb n.name worker (λ e. omega (arith, n.below, le, e)) in
     let sum : cond (natural_of x == worker) 1 0 + times worker (map natural_of xs) ≡ 0 = omega (arith, none_if (natural_of x == worker) differ, beyond workers worker xs parts.1 le) in
-    count-first (λ w. w == worker) (natural_of x) (map natural_of xs) ∙ sum
+    count_cons (λ w. w == worker) (natural_of x) (map natural_of xs) ∙ sum
 
 counted : (ns : List ℕ) (numbers : List ℤ) (first k worker : ℕ) → counts_from first ns numbers ≡ true → k < length ns → first + k ≡ worker → count_by (stands_for (pos worker)) numbers ≡ get_or ns k 0
 unfolding counts_from

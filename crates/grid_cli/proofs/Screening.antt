@@ -4,6 +4,7 @@ use Rattle.std.specs.Prelude.{not, ◌&&◌, ◌||◌, filter}
 use Rattle.std.specs.List.{list_any, flat_map}
 use Rattle.std.proofs.lemmas.Bool.{and_parts, false≢true, true≢false}
 use Rattle.std.proofs.lemmas.Slice.Eq.{bytes_eq-Decides}
+use Rattle.grid_lemmas.proofs.Bools.{or_right}
 use Rattle.grid_ids.specs.Name.{same_id, has_id, id_below}
 use Rattle.grid_slots.specs.Names.{initial_state, with_name, without_name, may_clone, may_remove}
 use Rattle.grid_requests.specs.declared.request.Request.{Request}
@@ -24,10 +25,6 @@ use Rattle.grid_cli.specs.Screen.{contingency_text, initial_after, initial_case,
 
 -- ---- names
 
-or_right : (a b : Bool) → b ≡ true → (a || b) ≡ true
-or_right true b h = refl
-or_right false b h = h
-
 -- a name stays where another one, or the same, is put in
 kept_with : (name q : List ℕ) (names : List (List ℕ)) → has_id names q ≡ true → has_id (with_name name names) q ≡ true
 unfolding has_id with_name
@@ -40,9 +37,6 @@ kept_with name q (n ∷ rest) h = by (id_below name n) (same_id name n) (same_id
     by false true here is h again = h
     by false false true is h again = ap (λ b. b || list_any (same_id q) (with_name name rest)) is
     by false false false is h again = ap (λ b. b || list_any (same_id q) (with_name name rest)) is ∙ again (sym (ap (λ b. b || list_any (same_id q) rest) is) ∙ h)
-
-same_sym : (a b : List ℕ) → same_id a b ≡ true → same_id b a ≡ true
-same_sym a b h = (bytes_eq-Decides b a).1 (sym ((bytes_eq-Decides a b).0 h))
 
 -- a name stays where another one is taken away
 kept_without : (name q : List ℕ) (names : List (List ℕ)) → same_id q name ≡ false → has_id names q ≡ true → has_id (without_name name names) q ≡ true

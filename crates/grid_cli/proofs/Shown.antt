@@ -6,6 +6,7 @@ use Rattle.std.specs.List.{cons_option, range_with_len}
 use Rattle.std.proofs.lemmas.Bool.{false≢true}
 use Rattle.std.proofs.lemmas.Option.{slice_get_within, slice_get-map}
 use Rattle.grid_ids.specs.Name.{has_id}
+use Rattle.grid_ids.proofs.Alike.{stands}
 use Rattle.grid_level.specs.VoltageLevel.{VoltageLevel}
 use Rattle.grid_level.specs.Passing.{positioned}
 use Rattle.grid_structure.specs.Network.{Network}
@@ -15,16 +16,16 @@ use Rattle.grid_powers.specs.Listed.{Listed}
 use Rattle.grid_watts.specs.Watts.{level_watts}
 use Rattle.grid_busview.specs.declared.BusView.{BusView}
 use Rattle.grid_busview.specs.Views.{bus_view_of}
+use Rattle.grid_islands.proofs.Assembling.{level_exists}
 use Rattle.grid_core.specs.Solo.{level_at}
 use Rattle.grid_core.specs.History.{History, Command, is_live, live, structure}
 use Rattle.grid_core.specs.Replies.{state_of, view}
 use Rattle.grid_core.proofs.Asking.{view_read}
 use Rattle.grid_core.proofs.Lineages.{structure_of_lineage}
-use Rattle.grid_core.proofs.Looking.{fits_at, level_exists}
+use Rattle.grid_core.proofs.Looking.{fits_at}
 use Rattle.grid_report.specs.declared.outcome.VariantView.{VariantView}
 use Rattle.grid_report.specs.Histories.{variant_view}
 use Rattle.grid_cli.specs.Views.{IsShown, IsStanding, IsAlike}
-use Rattle.grid_cli.proofs.Showing.{stands}
 
 -- where each number of a range is given something, the k-th thing is what the k-th number is given
 given_at : {Y : Type 0} (f : ℕ → Option Y) (a n : ℕ) → ((k : ℕ) → k < a + n → is_some (f k) ≡ true) → (k : ℕ) → k < n → slice_get (filter_map f (range_with_len a n)) k ≡ f (a + k)

@@ -4,14 +4,16 @@ use Rattle.std.specs.Prelude.{eqb, filter, count_by, nat_lt, map}
 use Rattle.std.specs.List.{range_with_len}
 use Rattle.std.proofs.lemmas.Bool.{false≢true, both_ways, cases_Bool, eq-eqb, ne_eqb, lt-ltb, le-ltb}
 use Rattle.std.proofs.lemmas.List.Sums.{length-filter}
+use Rattle.grid_lemmas.proofs.Bools.{and_true}
 use Rattle.grid_graph.specs.Components.{places}
 use Rattle.grid_graph.proofs.Reach.{In}
 use Rattle.grid_graph.proofs.Places.{AreBelow, In_places, places_In}
 use Rattle.grid_graph.specs.Graph.{Graph, joined_in, least_joined, count_joined}
+use Rattle.grid_graph.proofs.Filtered.{counts_none}
 use Rattle.grid_components.specs.Ranks.{is_key}
 use Rattle.grid_graph.proofs.Least.{least_same, joined_from_least, n_refl, n_same, In_filter}
 use Rattle.grid_graph.proofs.Least.{leads_itself}
-use Rattle.grid_components.proofs.Tallies.{counts_same, counts_none}
+use Rattle.grid_components.proofs.Tallies.{counts_same}
 
 -- ---- counts over a map, a filter, and the places below one
 
@@ -35,10 +37,6 @@ groups_step : (p : List ℕ → Bool) (f : ℕ → List ℕ) (q : ℕ → Bool) 
     → length (filter p (map f (cond t (x ∷ filter q xs) (filter q xs)))) ≡ length (cond (t && p (f x)) (x ∷ filter (λ y. q y && p (f y)) xs) (filter (λ y. q y && p (f y)) xs))
 groups_step p f q x xs true e = groups_cond (p (f x)) true (f x) x (filter p (map f (filter q xs))) (filter (λ y. q y && p (f y)) xs) e
 groups_step p f q x xs false e = e
-
-and_true : (a : Bool) → (a && true) ≡ a
-and_true true = refl
-and_true false = refl
 
 and_false : (a : Bool) → (a && false) ≡ false
 and_false true = refl

@@ -6,6 +6,7 @@ use Rattle.std.proofs.lemmas.Bool.{and_parts, not-true}
 use Rattle.std.proofs.lemmas.List.{append-nil, take_all}
 use Rattle.std.proofs.lemmas.Option.{slice_get-get_or}
 use Rattle.std.proofs.lemmas.List.Elements.{All-nil, All-cons}
+use Rattle.grid_lemmas.proofs.Lists.{map_got, take_got}
 use Rattle.grid_ids.specs.Name.{has_id}
 use Rattle.grid_level.specs.Passing.{is_busbar}
 use Rattle.grid_kinds.specs.declared.SwitchKind.TheVariants.{Breaker}
@@ -20,6 +21,7 @@ use Rattle.grid_structure.proofs.Adding.{with_bare}
 use Rattle.grid_paths.proofs.Least.{some_same, some_none}
 use Rattle.grid_json.specs.declared.fault.Fault.{Fault}
 use Rattle.grid_json.specs.Reading.{under}
+use Rattle.grid_json.proofs.Results.{bound, inside}
 use Rattle.grid_configured.specs.declared.network.BusSwitch.{BusSwitch}
 use Rattle.grid_configured.specs.declared.network.Item.{Item}
 use Rattle.grid_configured.specs.declared.network.ConfiguredLine.{ConfiguredLine}
@@ -33,7 +35,7 @@ use Rattle.grid_configured.specs.Levels.{bus_place, joint_of, item_outlet}
 use Rattle.grid_configured.specs.Translation.{breaker_id, substation_id, translated}
 use Rattle.grid_configured.specs.Partial.{first_levels, first_buses, first_switches, first_items, with_part, with_buses, with_switches, with_items}
 use Rattle.grid_configured.proofs.Nodes.{StandsWell}
-use Rattle.grid_configured.proofs.Checked.{right_first, right_under, NetworkRight, network_right, LevelRight, level_right, PartsRight, bus_there}
+use Rattle.grid_configured.proofs.Checked.{NetworkRight, network_right, LevelRight, level_right, PartsRight, bus_there}
 use Rattle.grid_configured.proofs.Stacked.{Each}
 use Rattle.grid_configured.proofs.Tagged.{Unmarked, PlainLevel, PlainNetwork}
 use Rattle.grid_configured.proofs.Building.{alone, levels_only, switch_right, item_right, bus_few, home_step, level_step, bus_step, joint_step, half, item_breaker, item_step}
@@ -51,20 +53,10 @@ made r x new h done = let k : Ok x ≡ Ok new = sym h ∙ done in cc
 
 -- ---- lists
 
-pub take_more : {X : Type 0} (xs : List X) (k : ℕ) (x : X) → slice_get xs k ≡ Some x → take (suc k) xs ≡ take k xs ++ x ∷ []
-take_more [] k x e = absurd (some_none x e)
-take_more (y ∷ xs) zero x e = ap (λ z. z ∷ []) (some_same y x e)
-take_more (y ∷ xs) (suc k) x e = ap (λ z. y ∷ z) (take_more xs k x e)
-
 pub take_length : {X : Type 0} (xs : List X) (k : ℕ) (x : X) → slice_get xs k ≡ Some x → length (take k xs) ≡ k
 take_length [] k x e = absurd (some_none x e)
 take_length (y ∷ xs) zero x e = refl
 take_length (y ∷ xs) (suc k) x e = ap suc (take_length xs k x e)
-
-pub get_mapped : {X Y : Type 0} (f : X → Y) (xs : List X) (k : ℕ) (x : X) → slice_get xs k ≡ Some x → slice_get (map f xs) k ≡ Some (f x)
-get_mapped f [] k x e = absurd (some_none x e)
-get_mapped f (y ∷ xs) zero x e = ap (λ z. Some (f z)) (some_same y x e)
-get_mapped f (y ∷ xs) (suc k) x e = get_mapped f xs k x e
 
 pub each_take : {X : Type 0} (P : X → Type 0) (xs : List X) (k : ℕ) → Each P xs → Each P (take k xs)
 each_take P [] zero h = tt
@@ -88,18 +80,18 @@ pub check_at : {A : Type 0} (check : List A → A → Result ⊤ Fault) (earlier
 unfolding each_check
 check_at check earlier i [] k x h e = absurd (some_none x e)
 check_at check earlier i (y ∷ xs) zero x h e =
-    let r = right_first (under (decimal i) (check earlier y)) (λ _. each_check check (earlier ++ y ∷ []) (suc i) xs) tt h in
-    ap (λ z. check z x) (append-nil earlier) ∙ ap (check earlier) (sym (some_same y x e)) ∙ right_under (decimal i) (check earlier y) tt r.1
+    let r = bound (under (decimal i) (check earlier y)) (λ _. each_check check (earlier ++ y ∷ []) (suc i) xs) tt h in
+    ap (λ z. check z x) (append-nil earlier) ∙ ap (check earlier) (sym (some_same y x e)) ∙ inside (decimal i) (check earlier y) tt r.1
 check_at check earlier i (y ∷ xs) (suc k) x h e =
-    let r = right_first (under (decimal i) (check earlier y)) (λ _. each_check check (earlier ++ y ∷ []) (suc i) xs) tt h in
+    let r = bound (under (decimal i) (check earlier y)) (λ _. each_check check (earlier ++ y ∷ []) (suc i) xs) tt h in
     ap (λ z. check z x) (sym (append_assoc earlier (y ∷ []) (take k xs))) ∙ check_at check (earlier ++ y ∷ []) (suc i) xs k x r.2 e
 
 check_each : {A : Type 0} (check : List A → A → Result ⊤ Fault) (P : A → Type 0) → ((earlier : List A) (x : A) → check earlier x ≡ Ok tt → P x) → (earlier : List A) (i : ℕ) (xs : List A) → each_check check earlier i xs ≡ Ok tt → Each P xs
 unfolding each_check
 check_each check P f earlier i [] h = tt
 check_each check P f earlier i (x ∷ xs) h =
-    let r = right_first (under (decimal i) (check earlier x)) (λ _. each_check check (earlier ++ x ∷ []) (suc i) xs) tt h in
-    (f earlier x (right_under (decimal i) (check earlier x) tt r.1), check_each check P f (earlier ++ x ∷ []) (suc i) xs r.2)
+    let r = bound (under (decimal i) (check earlier x)) (λ _. each_check check (earlier ++ x ∷ []) (suc i) xs) tt h in
+    (f earlier x (inside (decimal i) (check earlier x) tt r.1), check_each check P f (earlier ++ x ∷ []) (suc i) xs r.2)
 
 -- ---- plain networks
 
@@ -198,7 +190,7 @@ module _ (n : ConfiguredNetwork) (k : ℕ) (l : ConfiguredLevel) (h : LevelAt n 
       ap (λ z. apply z (edits.AddBusbar b l.id (pos i))) (part_is (λ level. first_buses level i) n k l h.at)
       ∙ ap (λ z. apply (translated (levels_only n (take k n.levels ++ first_buses l i ∷ []))) (edits.AddBusbar b l.id (pos z))) (sym (take_length l.buses i b at))
       ∙ bus_step n (take k n.levels) l level_is.fresh plain_before plain_here.own (take i l.buses) b right marked
-      ∙ ap (λ z. Ok (translated (levels_only n (take k n.levels ++ record l { buses = z; switches = []; items = [] } ∷ [])))) (sym (take_more l.buses i b at))
+      ∙ ap (λ z. Ok (translated (levels_only n (take k n.levels ++ record l { buses = z; switches = []; items = [] } ∷ [])))) (sym (take_got l.buses i b at))
       ∙ ap Ok (sym (part_is (λ level. first_buses level (suc i)) n k l h.at))
 
   pub all_buses : with_buses n k (length l.buses) ≡ with_switches n k 0
@@ -208,12 +200,6 @@ module _ (n : ConfiguredNetwork) (k : ℕ) (l : ConfiguredLevel) (h : LevelAt n 
       ∙ sym (part_is (λ level. first_switches level 0) n k l h.at)
 
   -- ---- what its switches and injections name is there
-
-  SwitchThere : BusSwitch → Type 0
-  SwitchThere s = (has_id l.buses s.bus1 ≡ true) × (has_id l.buses s.bus2 ≡ true)
-
-  ItemThere : Item → Type 0
-  ItemThere t = has_id l.buses t.bus ≡ true
 
   pub switches_there : Each (λ (s : BusSwitch). (has_id l.buses s.bus1 ≡ true) × (has_id l.buses s.bus2 ≡ true)) l.switches
   switches_there =
@@ -265,11 +251,11 @@ module _ (n : ConfiguredNetwork) (k : ℕ) (l : ConfiguredLevel) (h : LevelAt n 
       → apply (with_switches n k i) (edits.AddSwitch s.id l.id Breaker (pos (bus_place l.buses s.bus1)) (pos (bus_place l.buses s.bus2)) s.opened true false) ≡ Ok (with_switches n k (suc i))
   joint_law i s at =
       let right = check_at (switch_check ((ids_of (take k n.levels) ++ l.id ∷ []) ++ l.buses) l.buses (checks.switch_total (take k n.levels))) [] 0 l.switches i s parts.switches at in
-      let marked = each_get Unmarked (map (λ (s : BusSwitch). s.id) l.switches) i s.id plain_here.switches (get_mapped (λ (s : BusSwitch). s.id) l.switches i s at) in
+      let marked = each_get Unmarked (map (λ (s : BusSwitch). s.id) l.switches) i s.id plain_here.switches (map_got (λ (s : BusSwitch). s.id) l.switches i s at) in
       let fit = part_fits (take i l.switches) [] (each_take (λ (s : BusSwitch). (has_id l.buses s.bus1 ≡ true) × (has_id l.buses s.bus2 ≡ true)) l.switches i switches_there) tt in
       ap (λ z. apply z (edits.AddSwitch s.id l.id Breaker (pos (bus_place l.buses s.bus1)) (pos (bus_place l.buses s.bus2)) s.opened true false)) (part_is (λ level. first_switches level i) n k l h.at)
       ∙ joint_step n (take k n.levels) l level_is.fresh plain_before plain_here.own (take i l.switches) s right marked fit few_buses
-      ∙ ap (λ z. Ok (translated (levels_only n (take k n.levels ++ record l { switches = z; items = [] } ∷ [])))) (sym (take_more l.switches i s at))
+      ∙ ap (λ z. Ok (translated (levels_only n (take k n.levels ++ record l { switches = z; items = [] } ∷ [])))) (sym (take_got l.switches i s at))
       ∙ ap Ok (sym (part_is (λ level. first_switches level (suc i)) n k l h.at))
 
   pub all_switches : with_switches n k (length l.switches) ≡ with_items n k 0
@@ -284,7 +270,7 @@ module _ (n : ConfiguredNetwork) (k : ℕ) (l : ConfiguredLevel) (h : LevelAt n 
         check_at (item_check (ids_of (take k n.levels) ++ l.id ∷ [] ++ (l.buses ++ map (λ s. s.id) l.switches)) l.buses (length l.buses) (length l.switches) (checks.switch_total (take k n.levels) + length l.switches)) [] 0 l.items i t parts.items at
 
     item_marked : Unmarked t.id
-    item_marked = each_get Unmarked (map (λ (t : Item). t.id) l.items) i t.id plain_here.items (get_mapped (λ (t : Item). t.id) l.items i t at)
+    item_marked = each_get Unmarked (map (λ (t : Item). t.id) l.items) i t.id plain_here.items (map_got (λ (t : Item). t.id) l.items i t at)
 
     items_marked : PlainLevel (record l { items = take i l.items })
     items_marked = record {
@@ -320,11 +306,11 @@ module _ (n : ConfiguredNetwork) (k : ℕ) (l : ConfiguredLevel) (h : LevelAt n 
     item_law =
         ap (λ z. apply between (edits.AddInjection t.id l.id (pos (length l.buses + z)) t.item)) (sym (take_length l.items i t at))
         ∙ item_step n (take k n.levels) l level_is.fresh plain_before plain_here.own (take i l.items) t item_is item_marked items_marked items_fit
-        ∙ ap (λ z. Ok (translated (levels_only n (take k n.levels ++ record l { items = z } ∷ [])))) (sym (take_more l.items i t at))
+        ∙ ap (λ z. Ok (translated (levels_only n (take k n.levels ++ record l { items = z } ∷ [])))) (sym (take_got l.items i t at))
         ∙ ap Ok (sym (part_is (λ level. first_items level (suc i)) n k l h.at))
 
   pub all_items : with_items n k (length l.items) ≡ translated (first_levels n (suc k))
   all_items =
       part_is (λ level. first_items level (length l.items)) n k l h.at
       ∙ ap (λ z. translated (levels_only n (take k n.levels ++ record l { items = z } ∷ []))) (take_all (length l.items) l.items (omega arith))
-      ∙ ap (λ z. translated (levels_only n z)) (sym (take_more n.levels k l h.at))
+      ∙ ap (λ z. translated (levels_only n z)) (sym (take_got n.levels k l h.at))

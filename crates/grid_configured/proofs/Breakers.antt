@@ -7,6 +7,7 @@ use Rattle.std.proofs.lemmas.Option.{slice_get-get_or, slice_get_past}
 use Rattle.std.proofs.lemmas.List.{append-nil, length-append, length-map, get_or_append_left, get_or-append_right, get_or-map}
 use Rattle.std.proofs.lemmas.List.FromFn.{length-enumerate_from, get_or-enumerate_from}
 use Rattle.std.proofs.lemmas.List.Elements.{All-get_or}
+use Rattle.grid_lemmas.proofs.Lists.{map_twice}
 use Rattle.grid_level.specs.declared.Switch.{Switch}
 use Rattle.grid_level.specs.Passing.{switch_edge, edges, ends}
 use Rattle.grid_paths.specs.Paths.{across}
@@ -14,7 +15,7 @@ use Rattle.grid_paths.proofs.Least.{some_same, some_none}
 use Rattle.grid_connect.specs.Plans.{all_ends}
 use Rattle.grid_configured.specs.Places.{Joint, Outlet, PlacedLevel, PlacesFit}
 use Rattle.grid_configured.specs.Translation.{joint_breaker, outlet_breaker, outlets_at, translated_level}
-use Rattle.grid_configured.proofs.Nodes.{StandsWell, map_map}
+use Rattle.grid_configured.proofs.Nodes.{StandsWell}
 use Rattle.grid_configured.proofs.Hanging.{absent}
 
 -- what stands where no switch does
@@ -65,7 +66,7 @@ switch_ends s = (s.node1, s.node2)
 
 ends_are : (level : PlacedLevel) → all_ends (translated_level level) ≡ map switch_ends (translated_level level).switches
 unfolding all_ends edges ends translated_level
-ends_are level = ap (map ends) (append-nil (map switch_edge (map joint_breaker level.joints ++ map outlet_breaker (outlets_at level)))) ∙ map_map ends switch_edge (map joint_breaker level.joints ++ map outlet_breaker (outlets_at level))
+ends_are level = ap (map ends) (append-nil (map switch_edge (map joint_breaker level.joints ++ map outlet_breaker (outlets_at level)))) ∙ map_twice ends switch_edge (map joint_breaker level.joints ++ map outlet_breaker (outlets_at level))
 
 get_mapped : (ss : List Switch) (p : ℕ) (s : Switch) → slice_get ss p ≡ Some s → slice_get (map switch_ends ss) p ≡ Some (switch_ends s)
 get_mapped [] p s h = absurd (some_none s h)

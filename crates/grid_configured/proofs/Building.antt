@@ -12,6 +12,7 @@ use Rattle.std.proofs.lemmas.Option.{slice_get-get_or}
 use Rattle.std.proofs.lemmas.Slice.Eq.{bytes_eq-Decides}
 use Rattle.grid_ids.specs.Name.{same_id, has_id}
 use Rattle.grid_ids.specs.Refusing.{refuse_if, refuse_by}
+use Rattle.grid_ids.proofs.Alike.{same_itself}
 use Rattle.grid_kinds.specs.Records.{level_fault, injection_fault}
 use Rattle.grid_kinds.specs.declared.CheckFault.{CheckFault}
 use Rattle.grid_kinds.specs.declared.SwitchKind.TheVariants.{Breaker}
@@ -24,6 +25,7 @@ use Rattle.grid_structure.specs.Network.{Network}
 use Rattle.grid_structure.specs.Editing.{max_levels, max_switches, apply}
 use Rattle.grid_structure.proofs.Adding.{with_bare}
 use Rattle.grid_structure.proofs.Places.{position_none, position_found}
+use Rattle.grid_json.proofs.Results.{bound}
 use Rattle.grid_configured.specs.declared.network.BusSwitch.{BusSwitch}
 use Rattle.grid_configured.specs.declared.network.Item.{Item}
 use Rattle.grid_configured.specs.declared.network.ConfiguredLevel.{ConfiguredLevel}
@@ -33,10 +35,10 @@ use Rattle.grid_configured.specs.Checks.{level_ids, ids_of, level_edges, level_c
 use Rattle.grid_configured.specs.Places.{PlacedLevel, PlacesFit}
 use Rattle.grid_configured.specs.Levels.{bus_place, joint_of, item_outlet, line_outlets, outlets, placed_level, placed_levels}
 use Rattle.grid_configured.specs.Translation.{joint_breaker, breaker_id, outlet_breaker, bus_section, outlet_placed, outlets_at, translated_level, substation_id, translated}
-use Rattle.grid_configured.proofs.Stacked.{Each, each_join, Free, At, on, on_own, on_none, stack, free_switched, join_free, same_itself, empty_level, home_added, level_added, busbar_added, injection_added, switch_added}
+use Rattle.grid_configured.proofs.Stacked.{Each, each_join, Free, At, on, on_own, on_none, stack, free_switched, join_free, empty_level, home_added, level_added, busbar_added, injection_added, switch_added}
 use Rattle.grid_configured.proofs.Enlarged.{Under, switch_more, placed_more, switch_fits, switch_under, terminal_fit, next_node, outlet_grown, joint_grown, bus_grown, placed_below, level_under}
 use Rattle.grid_configured.proofs.Tagged.{Unmarked, tagged, tagged_marked, plain_apart, breaker_tagged, home_tagged, PlainLevel, PlainNetwork, Fresh, join_parts, shaped, translated_stack, free_plain, free_tagged}
-use Rattle.grid_configured.proofs.Checked.{right_first, not_refused, bus_there, fresh_bus, fresh_switch, fresh_item}
+use Rattle.grid_configured.proofs.Checked.{not_refused, bus_there, fresh_bus, fresh_switch, fresh_item}
 use Rattle.grid_configured.proofs.Located.{is_marked}
 
 -- ---- levels without lines
@@ -147,9 +149,9 @@ fresh_part ls l id a b c d e =
 level_few : (earlier : List ConfiguredLevel) (l : ConfiguredLevel) → level_check earlier l ≡ Ok tt → (length earlier < max_levels) × (level_fault l.nominal_v None None ≡ None)
 unfolding level_check level_reasons
 level_few earlier l h =
-    let one = right_first (level_reasons (has_id (ids_of earlier) l.id) (length earlier) (level_fault l.nominal_v None None)) _ tt h in
-    let two = right_first (id_reasons (has_id (ids_of earlier) l.id)) _ tt one.1 in
-    let three = right_first (refuse_if (nat_le max_levels (length earlier)) _) _ tt two.2 in
+    let one = bound (level_reasons (has_id (ids_of earlier) l.id) (length earlier) (level_fault l.nominal_v None None)) _ tt h in
+    let two = bound (id_reasons (has_id (ids_of earlier) l.id)) _ tt one.1 in
+    let three = bound (refuse_if (nat_le max_levels (length earlier)) _) _ tt two.2 in
     (leb-false max_levels (length earlier) (not_refused (nat_le max_levels (length earlier)) _ _ three.1), none_of (level_fault l.nominal_v None None) three.2)
   where
     none_of : (o : Option CheckFault) → refuse_by record_fault o ≡ Ok tt → o ≡ None
@@ -159,7 +161,7 @@ level_few earlier l h =
 pub bus_few : (ids earlier : List (List ℕ)) (bus : List ℕ) → bus_check ids earlier bus ≡ Ok tt → length earlier < max_nodes
 unfolding bus_check bus_reasons
 bus_few ids earlier bus h =
-    let one = right_first (id_reasons (has_id (ids ++ earlier) bus)) _ tt h in
+    let one = bound (id_reasons (has_id (ids ++ earlier) bus)) _ tt h in
     leb-false max_nodes (length earlier) (not_refused (nat_le max_nodes (length earlier)) _ _ one.2)
 
 -- what is right with a switch
@@ -174,10 +176,10 @@ pub switch_right : (ids buses : List (List ℕ)) (count : ℕ) (earlier : List B
 unfolding switch_check switch_reasons buses_reasons
 switch_right ids buses count earlier s h =
     let there = has_id buses s.bus1 && has_id buses s.bus2 in
-    let one = right_first (id_reasons _) _ tt h in
-    let two = right_first (buses_reasons there (same_id s.bus1 s.bus2)) _ tt one.2 in
-    let three = right_first (refuse_if (not there) _) _ tt two.1 in
-    let four = right_first (refuse_if (nat_le max_edges (length earlier)) _) _ tt two.2 in
+    let one = bound (id_reasons _) _ tt h in
+    let two = bound (buses_reasons there (same_id s.bus1 s.bus2)) _ tt one.2 in
+    let three = bound (refuse_if (not there) _) _ tt two.1 in
+    let four = bound (refuse_if (nat_le max_edges (length earlier)) _) _ tt two.2 in
     let both = and_parts (has_id buses s.bus1) (has_id buses s.bus2) (not-false there (not_refused (not there) _ _ three.1)) in
     record {
       one = both.0;
@@ -196,8 +198,8 @@ pub record TerminalRight (nodes edges switches : ℕ) : Type 0 where
 pub terminal_right : (nodes edges switches : ℕ) → terminal_reasons nodes edges switches ≡ Ok tt → TerminalRight nodes edges switches
 unfolding terminal_reasons
 terminal_right nodes edges switches h =
-    let one = right_first (refuse_if (nat_le max_nodes nodes) _) _ tt h in
-    let two = right_first (refuse_if (nat_le max_edges edges) _) _ tt one.2 in
+    let one = bound (refuse_if (nat_le max_nodes nodes) _) _ tt h in
+    let two = bound (refuse_if (nat_le max_edges edges) _) _ tt one.2 in
     record {
       nodes_few = leb-false max_nodes nodes (not_refused (nat_le max_nodes nodes) _ _ one.1);
       edges_few = leb-false max_edges edges (not_refused (nat_le max_edges edges) _ _ two.1);
@@ -213,9 +215,9 @@ pub record ItemRight (buses : List (List ℕ)) (nodes edges switches : ℕ) (t :
 pub item_right : (ids buses : List (List ℕ)) (nodes edges count : ℕ) (earlier : List Item) (t : Item) → item_check ids buses nodes edges count earlier t ≡ Ok tt → ItemRight buses (nodes + length earlier) (edges + length earlier) (count + length earlier) t
 unfolding item_check item_reasons
 item_right ids buses nodes edges count earlier t h =
-    let one = right_first (id_reasons _) _ tt h in
-    let two = right_first (refuse_if (not (has_id buses t.bus)) _) _ tt one.2 in
-    let three = right_first (refuse_by record_fault (injection_fault t.item)) _ tt two.2 in
+    let one = bound (id_reasons _) _ tt h in
+    let two = bound (refuse_if (not (has_id buses t.bus)) _) _ tt one.2 in
+    let three = bound (refuse_by record_fault (injection_fault t.item)) _ tt two.2 in
     record {
       there = not-false (has_id buses t.bus) (not_refused (not (has_id buses t.bus)) _ _ two.1);
       fault = none_of (injection_fault t.item) three.1;

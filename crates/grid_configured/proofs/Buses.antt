@@ -7,6 +7,7 @@ use Rattle.std.proofs.lemmas.Bool.{or_parts}
 use Rattle.std.proofs.lemmas.List.Folds.{find-append}
 use Rattle.grid_ids.specs.Name.{same_id, has_id}
 use Rattle.grid_ids.specs.Refusing.{◌>>=◌, found_or}
+use Rattle.grid_ids.proofs.Alike.{has_join}
 use Rattle.grid_level.specs.declared.Placed.{Placed}
 use Rattle.grid_level.specs.declared.Stand.TheVariants.{BranchEnd}
 use Rattle.grid_structure.specs.Sites as sites
@@ -29,7 +30,7 @@ use Rattle.grid_configured.specs.Sites.{bus_ids, item_ids, line_ids, sides}
 use Rattle.grid_configured.proofs.Flagged.{places_stood}
 use Rattle.grid_configured.proofs.Connecting.{connect_bus}
 use Rattle.grid_configured.proofs.Parting.{disconnect_bus}
-use Rattle.grid_configured.proofs.Located.{placed_test, level_test, has_join, site_is, buses_from}
+use Rattle.grid_configured.proofs.Located.{placed_test, level_test, site_is, buses_from}
 use Rattle.grid_configured.specs.Machine.{Flags}
 use Rattle.grid_configured.proofs.Mirrored.{NetworkFits, Mirrors}
 use Rattle.grid_configured.proofs.Plugged.{fits_at, level_there, level_now}

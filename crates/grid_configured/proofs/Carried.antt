@@ -1,5 +1,5 @@
 -- What the calls that put a network with configured buses into node/breaker form answer.
-use Rattle.std.proofs.Common.{◌≡◌, refl, sym, ap, ◌∙◌, subst, ℕ, zero, suc, ◌+◌, ◌<◌, ◌≤◌, Bool, true, false, cond, not, ◌&&◌, List, [], ◌∷◌, ◌++◌, length, Result, Ok, Err, append_assoc, arith}
+use Rattle.std.proofs.Common.{◌≡◌, refl, sym, ap, ◌∙◌, subst, ℕ, suc, ◌+◌, ◌<◌, ◌≤◌, Bool, true, false, cond, not, ◌&&◌, List, [], ◌++◌, length, Result, Ok, Err, append_assoc, arith}
 use Rattle.std.specs.Prelude.{ℤ, pos, eqb, nat_lt, Option, Some, None, IsSome, IfSome, map, find, slice_get, slice_index_or, codes, ⊤, IsTrue, IsOk, IfOk, OnOk, option_map}
 use Rattle.std.specs.List.{list_any, list_all}
 use Rattle.std.specs.Fmt.{digits}
@@ -7,6 +7,7 @@ use Rattle.std.specs.Option.{option_or}
 use Rattle.std.proofs.lemmas.Bool.{false≢true, and_parts, leb-true, le-ltb, ne_eqb}
 use Rattle.std.proofs.lemmas.List.{length-append, take_all}
 use Rattle.std.proofs.lemmas.List.Folds.{find-append}
+use Rattle.grid_lemmas.proofs.Lists.{all_at, get_there}
 use Rattle.grid_ids.specs.Fault.{id_fault, is_control}
 use Rattle.grid_ids.specs.Name.{same_id}
 use Rattle.std.proofs.lemmas.Slice.Eq.{bytes_eq-Decides}
@@ -22,7 +23,6 @@ use Rattle.grid_structure.specs.declared.ApplyFault.{ApplyFault}
 use Rattle.grid_structure.specs.Network.{Network}
 use Rattle.grid_structure.specs.Editing.{apply}
 use Rattle.grid_structure.proofs.Adding.{with_bare}
-use Rattle.grid_structure.proofs.Places.{get_there}
 use Rattle.grid_structure.proofs.ListOfLevels.{level_at}
 use Rattle.grid_paths.proofs.Least.{some_same, some_none}
 use Rattle.grid_configured.specs.declared.network.Item.{Item}
@@ -62,16 +62,11 @@ node_from (Some x) at node e h = h ∙ ap (λ (z : ℕ × ℕ). z.1) (some_same 
 
 -- ---- plain ids
 
-all_get : {X : Type 0} (test : X → Bool) (xs : List X) (k : ℕ) (x : X) → list_all test xs ≡ true → slice_get xs k ≡ Some x → test x ≡ true
-all_get test [] k x h e = absurd (some_none x e)
-all_get test (y ∷ xs) zero x h e = ap test (sym (some_same y x e)) ∙ (and_parts (test y) (list_all test xs) h).0
-all_get test (y ∷ xs) (suc k) x h e = all_get test xs k x (and_parts (test y) (list_all test xs) h).1 e
-
 pub level_is_plain : (n : ConfiguredNetwork) (k : ℕ) (l : ConfiguredLevel) → IsTranslatable n → slice_get n.levels k ≡ Some l → level_plain l ≡ true
 unfolding network_plain
 level_is_plain n k l h at =
     let one = and_parts (is_plain n.id && list_all level_plain n.levels) (list_all line_plain n.lines) h.0 in
-    all_get level_plain n.levels k l (and_parts (is_plain n.id) (list_all level_plain n.levels) one.0).1 at
+    all_at level_plain n.levels k l (and_parts (is_plain n.id) (list_all level_plain n.levels) one.0).1 at
 
 pub own_is_plain : (l : ConfiguredLevel) → level_plain l ≡ true → is_plain l.id ≡ true
 unfolding level_plain
@@ -79,11 +74,11 @@ own_is_plain l h = (and_parts (is_plain l.id) _ (and_parts (is_plain l.id && _) 
 
 pub item_is_plain : (l : ConfiguredLevel) (k : ℕ) (t : Item) → level_plain l ≡ true → slice_get l.items k ≡ Some t → is_plain t.id ≡ true
 unfolding level_plain item_plain
-item_is_plain l k t h at = (and_parts (is_plain t.id) (is_plain t.bus) (all_get item_plain l.items k t (and_parts _ (list_all item_plain l.items) h).1 at)).0
+item_is_plain l k t h at = (and_parts (is_plain t.id) (is_plain t.bus) (all_at item_plain l.items k t (and_parts _ (list_all item_plain l.items) h).1 at)).0
 
 pub line_is_plain : (n : ConfiguredNetwork) (k : ℕ) (line : ConfiguredLine) → IsTranslatable n → slice_get n.lines k ≡ Some line → is_plain line.id ≡ true
 unfolding network_plain line_plain
-line_is_plain n k line h at = (and_parts (is_plain line.id) _ (and_parts (is_plain line.id && _) _ (all_get line_plain n.lines k line (and_parts _ (list_all line_plain n.lines) h.0).1 at)).0).0
+line_is_plain n k line h at = (and_parts (is_plain line.id) _ (and_parts (is_plain line.id && _) _ (all_at line_plain n.lines k line (and_parts _ (list_all line_plain n.lines) h.0).1 at)).0).0
 
 -- a plain id with a tag is an id
 no_control : (id : List ℕ) → id_fault id ≡ None → find is_control id ≡ None

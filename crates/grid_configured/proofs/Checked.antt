@@ -1,7 +1,7 @@
 -- What a network in which no fault is found keeps: its ids differ, and what names a bus names one that is there.
 use Rattle.std.proofs.Common.{◌≡◌, refl, sym, ap, ◌∙◌, subst, ℕ, zero, suc, ◌+◌, ◌<◌, ◌≤◌, Bool, true, false, cond, not, ◌&&◌, List, [], ◌∷◌, ◌++◌, length, get_or, Result, Ok, Err, append_assoc, arith}
 use Rattle.std.specs.Prelude.{Option, Some, None, map, find, flat_map, position, unwrap_or, slice_get, decimal, codes, ⊤, All}
-use Rattle.std.proofs.lemmas.Bool.{true≢false, and_parts, not-false, false_from_ne_true}
+use Rattle.std.proofs.lemmas.Bool.{true≢false, and_parts, not-false}
 use Rattle.std.proofs.lemmas.List.{append-nil, map-append, map-id}
 use Rattle.std.proofs.lemmas.List.Concat.{flat_map-append}
 use Rattle.std.proofs.lemmas.List.Elements.{All-append, All-map, All-nil, All-cons, All-head, All-tail}
@@ -13,9 +13,11 @@ use Rattle.grid_level.specs.declared.Stand.TheVariants.{BranchEnd}
 use Rattle.grid_level.specs.Passing.{is_busbar}
 use Rattle.grid_structure.proofs.Counts.{times, times-append, not_there, there}
 use Rattle.grid_structure.proofs.Places.{position_none, position_found}
+use Rattle.grid_structure.proofs.Homed.{none_there}
 use Rattle.grid_paths.proofs.Least.{some_same, some_none}
 use Rattle.grid_json.specs.declared.fault.Fault.{Fault}
-use Rattle.grid_json.specs.Reading.{◌>>=◌, under}
+use Rattle.grid_json.specs.Reading.{under}
+use Rattle.grid_json.proofs.Results.{bound, inside}
 use Rattle.grid_configured.specs.declared.network.BusSwitch.{BusSwitch}
 use Rattle.grid_configured.specs.declared.network.Item.{Item}
 use Rattle.grid_configured.specs.declared.network.BusEnd.{BusEnd}
@@ -32,14 +34,6 @@ use Rattle.grid_configured.proofs.Mirrored.{NetworkFits}
 
 -- ---- steps that are right
 
-pub right_first : {A B : Type 0} (r : Result A Fault) (next : A → Result B Fault) (b : B) → (r >>= next) ≡ Ok b → (x : A) × (r ≡ Ok x) × (next x ≡ Ok b)
-right_first (Ok x) next b h = (x, refl, h)
-right_first (Err e) next b h = absurd (let k : Err e ≡ Ok b = h in cc)
-
-pub right_under : {A : Type 0} (name : List ℕ) (r : Result A Fault) (x : A) → under name r ≡ Ok x → r ≡ Ok x
-right_under name (Ok y) x h = h
-right_under name (Err f) x h = absurd (let k : under name (Err f) ≡ Ok x = h in cc)
-
 pub not_refused : (t : Bool) (f : Fault) (u : ⊤) → refuse_if t f ≡ Ok u → t ≡ false
 not_refused true f u h = absurd (let k : Err f ≡ Ok u = h in cc)
 not_refused false f u h = refl
@@ -49,8 +43,8 @@ pub each_right : {A : Type 0} (check : List A → A → Result ⊤ Fault) (P : A
 unfolding each_check
 each_right check P f earlier i [] h = All-nil P
 each_right check P f earlier i (x ∷ xs) h =
-    let r = right_first (under (decimal i) (check earlier x)) (λ _. each_check check (earlier ++ x ∷ []) (suc i) xs) tt h in
-    All-cons P x xs (f earlier x (right_under (decimal i) (check earlier x) tt r.1)) (each_right check P f (earlier ++ x ∷ []) (suc i) xs r.2)
+    let r = bound (under (decimal i) (check earlier x)) (λ _. each_check check (earlier ++ x ∷ []) (suc i) xs) tt h in
+    All-cons P x xs (f earlier x (inside (decimal i) (check earlier x) tt r.1)) (each_right check P f (earlier ++ x ∷ []) (suc i) xs r.2)
 
 -- ---- ids that differ
 
@@ -83,8 +77,8 @@ each_once : {A : Type 0} (check : List A → A → Result ⊤ Fault) (key : A �
 unfolding each_check
 each_once check key base fresh earlier i [] h once = let P : _ → Type 0 = λ z. Once (base ++ map key z) in subst P (sym (append-nil earlier)) once
 each_once {A} check key base fresh earlier i (x ∷ xs) h once =
-    let r = right_first (under (decimal i) (check earlier x)) (λ _. each_check check (earlier ++ x ∷ []) (suc i) xs) tt h in
-    let more = once_more (base ++ map key earlier) (key x) once (fresh earlier x (right_under (decimal i) (check earlier x) tt r.1)) in
+    let r = bound (under (decimal i) (check earlier x)) (λ _. each_check check (earlier ++ x ∷ []) (suc i) xs) tt h in
+    let more = once_more (base ++ map key earlier) (key x) once (fresh earlier x (inside (decimal i) (check earlier x) tt r.1)) in
     let same : (base ++ map key earlier) ++ key x ∷ [] ≡ base ++ map key (earlier ++ x ∷ []) = append_assoc base (map key earlier) (key x ∷ []) ∙ ap (λ z. base ++ z) (sym (map-append key earlier (x ∷ []))) in
     let P : List A → Type 0 = λ z. Once (base ++ map key z) in
     subst P (append_assoc earlier (x ∷ []) xs) (each_once check key base fresh (earlier ++ x ∷ []) (suc i) xs r.2 (subst Once same more))
@@ -93,19 +87,19 @@ each_once {A} check key base fresh earlier i (x ∷ xs) h once =
 
 pub fresh_bus : (ids earlier : List (List ℕ)) (bus : List ℕ) → bus_check ids earlier bus ≡ Ok tt → has_id (ids ++ map (λ b. b) earlier) bus ≡ false
 unfolding bus_check bus_reasons id_reasons
-fresh_bus ids earlier bus h = ap (λ z. has_id (ids ++ z) bus) (map-id earlier) ∙ not_refused (has_id (ids ++ earlier) bus) _ _ (right_first (refuse_if (has_id (ids ++ earlier) bus) _) _ tt h).1
+fresh_bus ids earlier bus h = ap (λ z. has_id (ids ++ z) bus) (map-id earlier) ∙ not_refused (has_id (ids ++ earlier) bus) _ _ (bound (refuse_if (has_id (ids ++ earlier) bus) _) _ tt h).1
 
 pub fresh_switch : (ids buses : List (List ℕ)) (count : ℕ) (earlier : List BusSwitch) (s : BusSwitch) → switch_check ids buses count earlier s ≡ Ok tt → has_id (ids ++ map (λ s. s.id) earlier) s.id ≡ false
 unfolding switch_check switch_reasons id_reasons
-fresh_switch ids buses count earlier s h = not_refused (has_id (ids ++ map (λ s. s.id) earlier) s.id) _ _ (right_first (refuse_if (has_id (ids ++ map (λ s. s.id) earlier) s.id) _) _ tt h).1
+fresh_switch ids buses count earlier s h = not_refused (has_id (ids ++ map (λ s. s.id) earlier) s.id) _ _ (bound (refuse_if (has_id (ids ++ map (λ s. s.id) earlier) s.id) _) _ tt h).1
 
 pub fresh_item : (ids buses : List (List ℕ)) (nodes edges count : ℕ) (earlier : List Item) (t : Item) → item_check ids buses nodes edges count earlier t ≡ Ok tt → has_id (ids ++ map (λ t. t.id) earlier) t.id ≡ false
 unfolding item_check item_reasons id_reasons
-fresh_item ids buses nodes edges count earlier t h = not_refused (has_id (ids ++ map (λ t. t.id) earlier) t.id) _ _ (right_first (refuse_if (has_id (ids ++ map (λ t. t.id) earlier) t.id) _) _ tt h).1
+fresh_item ids buses nodes edges count earlier t h = not_refused (has_id (ids ++ map (λ t. t.id) earlier) t.id) _ _ (bound (refuse_if (has_id (ids ++ map (λ t. t.id) earlier) t.id) _) _ tt h).1
 
 pub fresh_line : (levels : List ConfiguredLevel) (earlier : List ConfiguredLine) (line : ConfiguredLine) → line_check levels earlier line ≡ Ok tt → has_id (ids_of levels ++ map (λ l. l.id) earlier) line.id ≡ false
 unfolding line_check id_reasons
-fresh_line levels earlier line h = not_refused (has_id (ids_of levels ++ map (λ l. l.id) earlier) line.id) _ _ (right_first (refuse_if (has_id (ids_of levels ++ map (λ l. l.id) earlier) line.id) _) _ tt h).1
+fresh_line levels earlier line h = not_refused (has_id (ids_of levels ++ map (λ l. l.id) earlier) line.id) _ _ (bound (refuse_if (has_id (ids_of levels ++ map (λ l. l.id) earlier) line.id) _) _ tt h).1
 
 -- the parts of a level that are right
 pub record PartsRight (ids : List (List ℕ)) (count : ℕ) (l : ConfiguredLevel) : Type 0 where
@@ -116,12 +110,12 @@ pub record PartsRight (ids : List (List ℕ)) (count : ℕ) (l : ConfiguredLevel
 pub parts_right : (ids : List (List ℕ)) (count : ℕ) (l : ConfiguredLevel) → parts_check ids count l ≡ Ok tt → PartsRight ids count l
 unfolding parts_check
 parts_right ids count l h =
-    let one = right_first (list_check (bus_check ids) (codes "buses") l.buses) _ tt h in
-    let two = right_first (list_check (switch_check (ids ++ l.buses) l.buses count) (codes "switches") l.switches) _ tt one.2 in
+    let one = bound (list_check (bus_check ids) (codes "buses") l.buses) _ tt h in
+    let two = bound (list_check (switch_check (ids ++ l.buses) l.buses count) (codes "switches") l.switches) _ tt one.2 in
     record {
-      buses = right_under (codes "buses") (each_check (bus_check ids) [] 0 l.buses) tt one.1;
-      switches = right_under (codes "switches") (each_check (switch_check (ids ++ l.buses) l.buses count) [] 0 l.switches) tt two.1;
-      items = right_under (codes "injections") (each_check (item_check (ids ++ (l.buses ++ map (λ s. s.id) l.switches)) l.buses (length l.buses) (length l.switches) (count + length l.switches)) [] 0 l.items) tt two.2;
+      buses = inside (codes "buses") (each_check (bus_check ids) [] 0 l.buses) tt one.1;
+      switches = inside (codes "switches") (each_check (switch_check (ids ++ l.buses) l.buses count) [] 0 l.switches) tt two.1;
+      items = inside (codes "injections") (each_check (item_check (ids ++ (l.buses ++ map (λ s. s.id) l.switches)) l.buses (length l.buses) (length l.switches) (count + length l.switches)) [] 0 l.items) tt two.2;
     }
 
 -- a level that is right behind some earlier ones
@@ -132,16 +126,13 @@ pub record LevelRight (earlier : List ConfiguredLevel) (l : ConfiguredLevel) : T
 pub level_right : (earlier : List ConfiguredLevel) (l : ConfiguredLevel) → level_check earlier l ≡ Ok tt → LevelRight earlier l
 unfolding level_check level_reasons id_reasons
 level_right earlier l h =
-    let one = right_first (level_reasons (has_id (ids_of earlier) l.id) (length earlier) _) _ tt h in
+    let one = bound (level_reasons (has_id (ids_of earlier) l.id) (length earlier) _) _ tt h in
     record {
-      fresh = not_refused (has_id (ids_of earlier) l.id) _ _ (right_first (refuse_if (has_id (ids_of earlier) l.id) _) _ tt one.1).1;
+      fresh = not_refused (has_id (ids_of earlier) l.id) _ _ (bound (refuse_if (has_id (ids_of earlier) l.id) _) _ tt one.1).1;
       parts = parts_right (ids_of earlier ++ l.id ∷ []) (checks.switch_total earlier) l one.2;
     }
 
 -- ---- all ids differ
-
-times_parts : (q : List ℕ) (xs ys zs : List (List ℕ)) → times q ((xs ++ ys) ++ zs) ≡ times q xs + times q ys + times q zs
-times_parts q xs ys zs = let one = times-append q (xs ++ ys) zs in let two = times-append q xs ys in omega (arith, one, two)
 
 parts_once : (ids : List (List ℕ)) (count : ℕ) (l : ConfiguredLevel) → PartsRight ids count l → Once ids → Once ((ids ++ (l.buses ++ map (λ s. s.id) l.switches)) ++ map (λ t. t.id) l.items)
 parts_once ids count l right once =
@@ -174,8 +165,8 @@ levels_once : (earlier : List ConfiguredLevel) (i : ℕ) (ls : List ConfiguredLe
 unfolding each_check
 levels_once earlier i [] h once = let P : List ConfiguredLevel → Type 0 = λ z. Once (ids_of z) in subst P (sym (append-nil earlier)) once
 levels_once earlier i (l ∷ ls) h once =
-    let r = right_first (under (decimal i) (level_check earlier l)) (λ _. each_check level_check (earlier ++ l ∷ []) (suc i) ls) tt h in
-    let more = level_once earlier l (level_right earlier l (right_under (decimal i) (level_check earlier l) tt r.1)) once in
+    let r = bound (under (decimal i) (level_check earlier l)) (λ _. each_check level_check (earlier ++ l ∷ []) (suc i) ls) tt h in
+    let more = level_once earlier l (level_right earlier l (inside (decimal i) (level_check earlier l) tt r.1)) once in
     let P : List ConfiguredLevel → Type 0 = λ z. Once (ids_of z) in
     subst P (append_assoc earlier (l ∷ []) ls) (levels_once (earlier ++ l ∷ []) (suc i) ls r.2 more)
 
@@ -187,10 +178,10 @@ pub record NetworkRight (n : ConfiguredNetwork) : Type 0 where
 pub network_right : (n : ConfiguredNetwork) → network_check n ≡ Ok tt → NetworkRight n
 unfolding network_check
 network_right n h =
-    let r = right_first (list_check level_check (codes "levels") n.levels) _ tt h in
+    let r = bound (list_check level_check (codes "levels") n.levels) _ tt h in
     record {
-      levels = right_under (codes "levels") (each_check level_check [] 0 n.levels) tt r.1;
-      lines = right_under (codes "lines") (each_check (line_check n.levels) [] 0 n.lines) tt r.2;
+      levels = inside (codes "levels") (each_check level_check [] 0 n.levels) tt r.1;
+      lines = inside (codes "lines") (each_check (line_check n.levels) [] 0 n.lines) tt r.2;
     }
 
 none_once : Once []
@@ -216,9 +207,6 @@ times_spread q (l ∷ ls) =
     let e = times-append q (map (λ s. s.id) l.switches) (map (λ t. t.id) l.items) in
     omega (arith, rest, a, b, c, d, e)
 
-pub absent_by : (id : List ℕ) (ids : List (List ℕ)) → times id ids ≡ 0 → has_id ids id ≡ false
-absent_by id ids none = false_from_ne_true (has_id ids id) (λ h. let some = there id ids h in omega (arith, some, none))
-
 -- no injection and no line has the id of a bus
 pub buses_apart : (n : ConfiguredNetwork) → NetworkRight n → (id : List ℕ) → has_id (bus_ids n) id ≡ true → sides n id ≡ None
 unfolding sides bus_ids item_ids line_ids
@@ -227,8 +215,8 @@ buses_apart n right id h =
     let all = times-append id (ids_of n.levels) (map (λ l. l.id) n.lines) in
     let spread = times_spread id n.levels in
     let some = there id (flat_map (λ l. l.buses) n.levels) h in
-    let no_items = absent_by id (flat_map (λ l. map (λ i. i.id) l.items) n.levels) (omega (arith, most, all, spread, some)) in
-    let no_lines = absent_by id (map (λ l. l.id) n.lines) (omega (arith, most, all, spread, some)) in
+    let no_items = none_there id (flat_map (λ l. map (λ i. i.id) l.items) n.levels) (omega (arith, most, all, spread, some)) in
+    let no_lines = none_there id (map (λ l. l.id) n.lines) (omega (arith, most, all, spread, some)) in
     rw (no_items, no_lines) refl
 
 -- ---- places of buses
@@ -248,9 +236,9 @@ SwitchStands buses s = (has_id buses s.bus1 ≡ true) × (has_id buses s.bus2 �
 switch_stands : (ids buses : List (List ℕ)) (count : ℕ) (earlier : List BusSwitch) (s : BusSwitch) → switch_check ids buses count earlier s ≡ Ok tt → SwitchStands buses s
 unfolding switch_check switch_reasons buses_reasons SwitchStands
 switch_stands ids buses count earlier s h =
-    let one = right_first (id_reasons _) _ tt h in
-    let two = right_first (buses_reasons (has_id buses s.bus1 && has_id buses s.bus2) (same_id s.bus1 s.bus2)) _ tt one.2 in
-    let three = right_first (refuse_if (not (has_id buses s.bus1 && has_id buses s.bus2)) _) _ tt two.1 in
+    let one = bound (id_reasons _) _ tt h in
+    let two = bound (buses_reasons (has_id buses s.bus1 && has_id buses s.bus2) (same_id s.bus1 s.bus2)) _ tt one.2 in
+    let three = bound (refuse_if (not (has_id buses s.bus1 && has_id buses s.bus2)) _) _ tt two.1 in
     and_parts (has_id buses s.bus1) (has_id buses s.bus2) (not-false (has_id buses s.bus1 && has_id buses s.bus2) (not_refused (not (has_id buses s.bus1 && has_id buses s.bus2)) _ _ three.1))
 
 ItemStands : List (List ℕ) → Item → Type 0
@@ -259,8 +247,8 @@ ItemStands buses t = has_id buses t.bus ≡ true
 item_stands : (ids buses : List (List ℕ)) (nodes edges count : ℕ) (earlier : List Item) (t : Item) → item_check ids buses nodes edges count earlier t ≡ Ok tt → ItemStands buses t
 unfolding item_check item_reasons ItemStands
 item_stands ids buses nodes edges count earlier t h =
-    let one = right_first (id_reasons _) _ tt h in
-    let two = right_first (refuse_if (not (has_id buses t.bus)) _) _ tt one.2 in
+    let one = bound (id_reasons _) _ tt h in
+    let two = bound (refuse_if (not (has_id buses t.bus)) _) _ tt one.2 in
     not-false (has_id buses t.bus) (not_refused (not (has_id buses t.bus)) _ _ two.1)
 
 -- an end's level is there, and has its bus
@@ -269,15 +257,15 @@ record EndStands (levels : List ConfiguredLevel) (e : BusEnd) : Type 0 where
   found : checks.level_of levels e.level ≡ Some level
   there : has_id level.buses e.bus ≡ true
 
-found_right : {A : Type 0} (o : Option A) (f : Fault) (x : A) → found_or o f ≡ Ok x → o ≡ Some x
+pub found_right : {A : Type 0} (o : Option A) (f : Fault) (x : A) → found_or o f ≡ Ok x → o ≡ Some x
 found_right None f x h = absurd (let k : Err f ≡ Ok x = h in cc)
 found_right (Some y) f x h = let k : Ok y ≡ Ok x = h in cc
 
 end_stands : (levels : List ConfiguredLevel) (earlier : List BusEnd) (e : BusEnd) → end_check levels earlier e ≡ Ok tt → EndStands levels e
 unfolding end_check end_reasons
 end_stands levels earlier e h =
-    let one = right_first (found_or (checks.level_of levels e.level) _) _ tt h in
-    let two = right_first (refuse_if (not (has_id one.0.buses e.bus)) _) _ tt one.2 in
+    let one = bound (found_or (checks.level_of levels e.level) _) _ tt h in
+    let two = bound (refuse_if (not (has_id one.0.buses e.bus)) _) _ tt one.2 in
     record {
       level = one.0;
       found = found_right (checks.level_of levels e.level) _ one.0 one.1;
@@ -291,8 +279,8 @@ record LineStands (levels : List ConfiguredLevel) (line : ConfiguredLine) : Type
 line_stands : (levels : List ConfiguredLevel) (earlier : List ConfiguredLine) (line : ConfiguredLine) → line_check levels earlier line ≡ Ok tt → LineStands levels line
 unfolding line_check
 line_stands levels earlier line h =
-    let one = right_first (id_reasons _) _ tt h in
-    let two = right_first (end_check levels (checks.line_ends earlier) line.end1) _ tt one.2 in
+    let one = bound (id_reasons _) _ tt h in
+    let two = bound (end_check levels (checks.line_ends earlier) line.end1) _ tt one.2 in
     record { first = end_stands levels (checks.line_ends earlier) line.end1 two.1; second = end_stands levels (checks.line_ends earlier ++ line.end1 ∷ []) line.end2 two.2 }
 
 -- what a level's switches and injections name is there

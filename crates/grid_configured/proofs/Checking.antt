@@ -1,7 +1,8 @@
 -- Checking things one after the other, as a loop does.
 use Rattle.std.proofs.Common.{◌≡◌, refl, sym, ap, ◌∙◌, ℕ, suc, ◌+◌, ◌<◌, ◌≤◌, List, [], ◌∷◌, ◌++◌, length, get_or, take, drop, Result, Ok, Err, add-one, drop-cons, arith}
 use Rattle.std.specs.Prelude.{decimal, ⊤}
-use Rattle.std.proofs.lemmas.List.{take_more, drop_all, length-take-le}
+use Rattle.std.proofs.lemmas.List.{drop_all, length-take-le}
+use Rattle.grid_lemmas.proofs.Lists.{take_next}
 use Rattle.grid_json.specs.declared.fault.Fault.{Fault}
 use Rattle.grid_json.specs.declared.fault.ReadError.{ReadError}
 use Rattle.grid_json.specs.declared.fault.ReadError.TheVariants as errors
@@ -11,10 +12,6 @@ use Rattle.grid_configured.specs.Checks.{each_check}
 -- as many as were taken
 pub taken : {A : Type 0} (xs : List A) (i : ℕ) → i < length xs → length (take i xs) ≡ i
 taken xs i lt = length-take-le i xs (omega (arith, lt))
-
--- one thing more
-pub next_one : {A : Type 0} (xs : List A) (i : ℕ) (x : A) → i < length xs → x ≡ get_or xs i x → take (i + 1) xs ≡ take i xs ++ x ∷ []
-next_one xs i x lt is = take_more xs i x lt ∙ ap (λ z. take i xs ++ z ∷ []) (sym is)
 
 module _ {A : Type 0} (check : List A → A → Result ⊤ Fault) (xs : List A) (i : ℕ) (x : A) (total : Result ⊤ Fault) (lt : i < length xs) (is : x ≡ get_or xs i x)
     (so_far : each_check check (take i xs) i (drop i xs) ≡ total) where
@@ -26,7 +23,7 @@ module _ {A : Type 0} (check : List A → A → Result ⊤ Fault) (xs : List A) 
   unfolding each_check
   goes_on right =
       let one : each_check check (take i xs) i (drop i xs) ≡ each_check check (take i xs ++ x ∷ []) (suc i) (drop (suc i) xs) = rw (cut, right) refl in
-      rw (next_one xs i x lt is) (rw add-one (sym one ∙ so_far))
+      rw (take_next xs i x lt is) (rw add-one (sym one ∙ so_far))
 
   -- a thing that is wrong
   pub ends : (e r : ReadError) → Fails e (check (take i xs) x) → IsUnder (decimal i) e r → Fails r total

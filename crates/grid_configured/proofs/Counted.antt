@@ -9,7 +9,8 @@ use Rattle.std.proofs.lemmas.List.Sums.{sum_by-append, sum_by-cons}
 use Rattle.grid_graph.specs.Joined.{joined, is_least, least_nodes, group_of}
 use Rattle.grid_graph.specs.Components.{places}
 use Rattle.grid_graph.proofs.Reach.{In, joined_refl}
-use Rattle.grid_graph.proofs.Places.{places_In}
+use Rattle.grid_graph.proofs.Places.{places_In, range_In}
+use Rattle.grid_graph.proofs.Filtered.{filters_same}
 use Rattle.grid_level.specs.declared.Placed.{Placed}
 use Rattle.grid_level.specs.Passing.{bus, passing, is_busbar, is_branch_end}
 use Rattle.grid_groups.specs.Groups.{leaders}
@@ -20,8 +21,8 @@ use Rattle.grid_configured.specs.Translation.{bus_section, outlet_placed, outlet
 use Rattle.grid_configured.specs.Views.{connects_among, is_view_bus}
 use Rattle.grid_configured.proofs.Nodes.{StandsWell, level_nodes, level_passing, numbers_from, filter_map_of}
 use Rattle.grid_configured.proofs.Hanging.{outlet_of}
-use Rattle.grid_configured.proofs.Joined.{pairs_of, node_total, buses_joined, places_split, range_bounds, least_bus, least_hanging}
-use Rattle.grid_configured.proofs.Grouped.{filter_same, filter_neither, at_places, at_nodes, sections, feeders, in_places, standing, standing_alone}
+use Rattle.grid_configured.proofs.Joined.{pairs_of, node_total, buses_joined, places_split, least_bus, least_hanging}
+use Rattle.grid_configured.proofs.Grouped.{filter_neither, at_places, at_nodes, sections, feeders, in_places, standing, standing_alone}
 
 -- ---- counts
 
@@ -112,7 +113,7 @@ module _ (level : PlacedLevel) (fit : PlacesFit level) where
   section_places a =
       sym (filter_map_of (λ n. list_any (eqb n) (joined_places level a)) (λ (e : ℕ × List ℕ). e.0) (enumerate_from 0 level.buses))
       ∙ ap (filter (λ n. list_any (eqb n) (joined_places level a))) (numbers_from 0 level.buses)
-      ∙ filter_same (λ n. list_any (eqb n) (joined_places level a)) (joined (places (length level.buses)) (closed_pairs level) a) (places (length level.buses)) (in_joined a)
+      ∙ filters_same (λ n. list_any (eqb n) (joined_places level a)) (joined (places (length level.buses)) (closed_pairs level) a) (places (length level.buses)) (in_joined a)
 
   pub section_count : (a : ℕ) → length (sections level a) ≡ length (joined_places level a)
   section_count a = sym (length-map (sections level a) (λ (e : ℕ × List ℕ). e.0)) ∙ ap length (section_places a)
@@ -163,7 +164,7 @@ module _ (level : PlacedLevel) (fit : PlacesFit level) where
   -- none of the nodes behind the buses leads a bus
   behind_none : (n : ℕ) → In n (range_with_len (length level.buses) (length level.outlets)) → is_least (places (node_total level)) (pairs_of level) n ≡ true → is_bus (translated_level level) n ≡ false
   behind_none n i least =
-      let r = range_bounds n (length level.buses) (length level.outlets) i in
+      let r = range_In n (length level.buses) (length level.outlets) i in
       no_bus n r.0 (false_from_ne_true (outlet_of level n).connected (λ h. both_ways (is_least (places (node_total level)) (pairs_of level) n) (least_hanging level fit n r.0 r.1 h) least))
 
   -- the buses of the two views have the same places
@@ -177,5 +178,5 @@ module _ (level : PlacedLevel) (fit : PlacesFit level) where
       ∙ filter-append (is_bus (translated_level level)) (filter least low) (filter least high)
       ∙ ap (λ z. filter (is_bus (translated_level level)) (filter least low) ++ z) (filter_neither (is_bus (translated_level level)) least high behind_none)
       ∙ append-nil (filter (is_bus (translated_level level)) (filter least low))
-      ∙ ap (filter (is_bus (translated_level level))) (filter_same least (is_least low (closed_pairs level)) low (λ n i. least_bus level fit n (places_In n (length level.buses) i)))
-      ∙ filter_same (is_bus (translated_level level)) (is_view_bus level) (filter (is_least low (closed_pairs level)) low) (λ n i. bus_is n (places_In n (length level.buses) (filter_In (is_least low (closed_pairs level)) n low i)))
+      ∙ ap (filter (is_bus (translated_level level))) (filters_same least (is_least low (closed_pairs level)) low (λ n i. least_bus level fit n (places_In n (length level.buses) i)))
+      ∙ filters_same (is_bus (translated_level level)) (is_view_bus level) (filter (is_least low (closed_pairs level)) low) (λ n i. bus_is n (places_In n (length level.buses) (filter_In (is_least low (closed_pairs level)) n low i)))

@@ -4,6 +4,7 @@ use Rattle.std.specs.Prelude.{pos, Some, map, find, slice_get, take, drop, decim
 use Rattle.std.proofs.lemmas.List.{append-nil, map-append}
 use Rattle.std.proofs.lemmas.List.Concat.{flat_map-append}
 use Rattle.std.proofs.lemmas.List.Elements.{All-head, All-tail}
+use Rattle.grid_lemmas.proofs.Lists.{map_got, take_got}
 use Rattle.grid_ids.specs.Name.{same_id, has_id}
 use Rattle.grid_kinds.specs.declared.SwitchKind.TheVariants.{Breaker}
 use Rattle.grid_level.specs.VoltageLevel.{VoltageLevel}
@@ -16,9 +17,11 @@ use Rattle.grid_structure.specs.Sites as sites
 use Rattle.grid_structure.specs.Sites.{levels, level_named}
 use Rattle.grid_structure.specs.Editing.{apply}
 use Rattle.grid_structure.proofs.Counts.{times, times-append, there}
+use Rattle.grid_structure.proofs.Homed.{none_there}
 use Rattle.grid_paths.proofs.Least.{some_same, some_none}
 use Rattle.grid_json.specs.declared.fault.Fault.{Fault}
 use Rattle.grid_json.specs.Reading.{◌>>=◌, under}
+use Rattle.grid_json.proofs.Results.{bound, inside}
 use Rattle.grid_configured.specs.declared.network.BusSwitch.{BusSwitch}
 use Rattle.grid_configured.specs.declared.network.Item.{Item}
 use Rattle.grid_configured.specs.declared.network.ConfiguredLine.{ConfiguredLine}
@@ -29,7 +32,7 @@ use Rattle.grid_configured.specs.Places.{PlacesFit}
 use Rattle.grid_configured.specs.Levels.{bus_place, placed_level, placed_levels}
 use Rattle.grid_configured.specs.Translation.{breaker_id, outlet_breaker, translated_line, translated}
 use Rattle.grid_configured.specs.Partial.{first_switches, first_items, with_switches, with_items, with_lines}
-use Rattle.grid_configured.proofs.Checked.{right_first, right_under, NetworkRight, network_right, network_once, times_levels, absent_by, translatable_fits}
+use Rattle.grid_configured.proofs.Checked.{NetworkRight, network_right, network_once, times_levels, translatable_fits}
 use Rattle.grid_configured.proofs.Stacked.{Each, each_join, on, stack, levels_stack}
 use Rattle.grid_configured.proofs.Enlarged.{switch_more, next_node}
 use Rattle.grid_configured.proofs.Tagged.{Unmarked, PlainLevel, PlainNetwork, shaped, shaped_lines, translated_stack, line_ids_are}
@@ -38,7 +41,7 @@ use Rattle.grid_configured.proofs.Lining as lining
 use Rattle.grid_configured.proofs.Lining.{shape, shaped_is}
 use Rattle.grid_configured.proofs.Sighted as sighted
 use Rattle.grid_configured.proofs.Sighted.{bus_site, nodes_counted}
-use Rattle.grid_configured.proofs.Applied.{take_more, take_length, each_take, each_get, get_mapped, take_ids, check_at, plain_network, LevelAt, part_is, plain_before, plain_here, switches_there, items_there}
+use Rattle.grid_configured.proofs.Applied.{take_length, each_take, each_get, take_ids, check_at, plain_network, LevelAt, part_is, plain_before, plain_here, switches_there, items_there}
 
 -- ---- counts of first things
 
@@ -141,8 +144,8 @@ unfolding each_check
 check_take check earlier i xs zero h = refl
 check_take check earlier i [] (suc k) h = refl
 check_take check earlier i (x ∷ xs) (suc k) h =
-    let r = right_first (under (decimal i) (check earlier x)) (λ _. each_check check (earlier ++ x ∷ []) (suc i) xs) tt h in
-    ap (λ z. z >>= λ _. each_check check (earlier ++ x ∷ []) (suc i) (take k xs)) (ap (under (decimal i)) (right_under (decimal i) (check earlier x) tt r.1)) ∙ check_take check (earlier ++ x ∷ []) (suc i) xs k r.2
+    let r = bound (under (decimal i) (check earlier x)) (λ _. each_check check (earlier ++ x ∷ []) (suc i) xs) tt h in
+    ap (λ z. z >>= λ _. each_check check (earlier ++ x ∷ []) (suc i) (take k xs)) (ap (under (decimal i)) (inside (decimal i) (check earlier x) tt r.1)) ∙ check_take check (earlier ++ x ∷ []) (suc i) xs k r.2
 
 cut_here : {X : Type 0} (xs : List X) (k : ℕ) (x : X) → slice_get xs k ≡ Some x → xs ≡ take k xs ++ x ∷ drop (suc k) xs
 cut_here [] k x e = absurd (some_none x e)
@@ -211,7 +214,7 @@ module _ (n : ConfiguredNetwork) (i : ℕ) (line : ConfiguredLine) (h : LineAt n
   line_right = check_at (line_check n.levels) [] 0 n.lines i line h.right.lines h.at
 
   line_marked : Unmarked line.id
-  line_marked = each_get Unmarked (map (λ (l : ConfiguredLine). l.id) n.lines) i line.id h.plain.lines (get_mapped (λ (l : ConfiguredLine). l.id) n.lines i line h.at)
+  line_marked = each_get Unmarked (map (λ (l : ConfiguredLine). l.id) n.lines) i line.id h.plain.lines (map_got (λ (l : ConfiguredLine). l.id) n.lines i line h.at)
 
   levels_once : (q : List ℕ) → times q (map (λ (l : ConfiguredLevel). l.id) n.levels) ≤ 1
   levels_once q =
@@ -241,7 +244,7 @@ module _ (n : ConfiguredNetwork) (i : ℕ) (line : ConfiguredLine) (h : LineAt n
       let first = times_first bus n.levels at.0 l at.1 in
       let own = sighted.times_level bus l in
       let some = there bus l.buses has in
-      let lines = absent_by bus (map (λ l. l.id) (take i n.lines)) (omega (arith, most, all, first, own, some)) in
+      let lines = none_there bus (map (λ l. l.id) (take i n.lines)) (omega (arith, most, all, first, own, some)) in
       (at.0, bus_site before before_plain bus lines (with_lines n i) at.0 l levels_are (omega (arith, most, all)) at.1 has)
 
   abbrev one : ConfiguredLevel
@@ -299,7 +302,7 @@ module _ (n : ConfiguredNetwork) (i : ℕ) (line : ConfiguredLine) (h : LineAt n
   next_stack : with_lines n (suc i) ≡ stack n.id (shaped (record n { lines = take i n.lines ++ line ∷ [] })) (drawn ++ branch_of (next_node (placed_level before one)) (next_node (placed_level before two) + more) ∷ [])
   unfolding with_lines stack
   next_stack =
-      ap (λ z. record (translated (record n { lines = z })) { lines = map (translated_line n) z }) (take_more n.lines i line h.at)
+      ap (λ z. record (translated (record n { lines = z })) { lines = map (translated_line n) z }) (take_got n.lines i line h.at)
       ∙ ap (λ (z : Network). record z { lines = map (translated_line n) (take i n.lines ++ line ∷ []) }) (translated_stack (record n { lines = take i n.lines ++ line ∷ [] }))
       ∙ ap (λ z. stack n.id (shaped (record n { lines = take i n.lines ++ line ∷ [] })) z) (map-append (translated_line n) (take i n.lines) (line ∷ []) ∙ ap (λ z. drawn ++ z ∷ []) drawn_more)
 

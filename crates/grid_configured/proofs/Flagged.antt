@@ -65,25 +65,6 @@ level_positioned level opened connected e f =
     ∙ ap (λ z. map joint_breaker (with_opened level.joints opened) ++ z) (outlets_flagged (length level.buses) level.outlets connected f) in
     rw (switches, placed_flagged (length level.buses) level.outlets connected) refl
 
-retained_same : (ss : List Switch) → levels.with_retained ss (map (λ (s : Switch). s.retained) ss) ≡ ss
-unfolding levels.with_retained
-retained_same [] = refl
-retained_same (s ∷ ss) = ap (λ z. s ∷ z) (retained_same ss)
-
-retained_again : (ss : List Switch) (flags : List Bool) → levels.with_retained (levels.with_opened ss flags) (map (λ (s : Switch). s.retained) ss) ≡ levels.with_opened ss flags
-unfolding levels.with_retained levels.with_opened
-retained_again [] flags = refl
-retained_again (s ∷ ss) [] = retained_same (s ∷ ss)
-retained_again (s ∷ ss) (f ∷ flags) = ap (λ z. record s { opened = f } ∷ z) (retained_again ss flags)
-
--- and with the flags retained of the records
-pub level_stood : (level : PlacedLevel) (opened connected : List Bool) → length opened ≡ length level.joints → length connected ≡ length level.outlets
-    → levels.stood (translated_level level) (opened ++ map not connected) (map (λ (s : Switch). s.retained) (translated_level level).switches) ≡ translated_level (stood level opened connected)
-unfolding levels.stood levels.positioned
-level_stood level opened connected e f =
-    ap (λ (z : List Switch). record (translated_level level) { switches = z }) (retained_again (translated_level level).switches (opened ++ map not connected))
-    ∙ level_positioned level opened connected e f
-
 -- ---- the places stay
 
 joints_fit : (most : ℕ) (js : List Joint) (flags : List Bool) → All (λ (s : Joint). (s.place1 < most) × (s.place2 < most)) js → All (λ (s : Joint). (s.place1 < most) × (s.place2 < most)) (with_opened js flags)

@@ -21,16 +21,6 @@ use Rattle.grid_configured.proofs.Joined.{node_total, nodes_joined, buses_joined
 
 -- ---- filters
 
-pub filter_same : (p q : ℕ → Bool) (xs : List ℕ) → ((n : ℕ) → In n xs → p n ≡ q n) → filter p xs ≡ filter q xs
-filter_same p q [] same = refl
-filter_same p q (x ∷ xs) same =
-    ap (λ t. cond t (x ∷ filter p xs) (filter p xs)) (same x (In_here x xs))
-    ∙ ap (λ z. cond (q x) (x ∷ z) z) (filter_same p q xs (λ n i. same n (In_there n x xs i)))
-
-pub filter_none : (p : ℕ → Bool) (xs : List ℕ) → ((n : ℕ) → In n xs → p n ≡ false) → filter p xs ≡ []
-filter_none p [] none = refl
-filter_none p (x ∷ xs) none = ap (λ t. cond t (x ∷ filter p xs) (filter p xs)) (none x (In_here x xs)) ∙ filter_none p xs (λ n i. none n (In_there n x xs i))
-
 filter_twice_by : (p : ℕ → Bool) (x : ℕ) (rest : List ℕ) (t : Bool) → (t ≡ true → p x ≡ false) → filter p rest ≡ [] → filter p (cond t (x ∷ rest) rest) ≡ []
 filter_twice_by p x rest true h k = ap (λ t. cond t (x ∷ filter p rest) (filter p rest)) (h refl) ∙ k
 filter_twice_by p x rest false h k = k

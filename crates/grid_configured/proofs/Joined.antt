@@ -1,13 +1,13 @@
 -- Which nodes of a level in node/breaker form are joined.
-use Rattle.std.proofs.Common.{◌≡◌, refl, sym, ap, ◌∙◌, ℕ, zero, suc, ◌+◌, ◌<◌, ◌≤◌, Bool, true, false, not, ◌&&◌, ◌||◌, List, [], ◌∷◌, ◌++◌, length, inl, inr, arith}
+use Rattle.std.proofs.Common.{◌≡◌, refl, sym, ap, ◌∙◌, ℕ, ◌+◌, ◌<◌, ◌≤◌, Bool, true, false, not, ◌&&◌, ◌||◌, List, [], ◌∷◌, ◌++◌, length, arith}
 use Rattle.std.specs.Prelude.{eqb, nat_lt}
 use Rattle.std.specs.List.{list_any, range_with_len}
-use Rattle.std.proofs.lemmas.Bool.{false≢true, or_cases, and_left, le-ltb, lt-ltb, eqb-true}
+use Rattle.std.proofs.lemmas.Bool.{and_left, le-ltb, lt-ltb}
 use Rattle.std.proofs.lemmas.List.Folds.{list_any-append}
 use Rattle.grid_graph.specs.Joined.{joined, is_least}
 use Rattle.grid_graph.specs.Components.{places}
 use Rattle.grid_graph.proofs.Reach.{In, In_here, In_there, any_of, joined_refl}
-use Rattle.grid_graph.proofs.Places.{In_places, places_In}
+use Rattle.grid_graph.proofs.Places.{In_places, places_In, range_In}
 use Rattle.grid_level.specs.Passing.{bus, passing, joined_under}
 use Rattle.grid_configured.specs.Places.{PlacedLevel, PlacesFit, closed_pairs}
 use Rattle.grid_configured.specs.Translation.{translated_level}
@@ -26,13 +26,6 @@ any_alike p q (x ∷ xs) same =
 pub any_none : (p : ℕ → Bool) (xs : List ℕ) → ((n : ℕ) → In n xs → p n ≡ false) → list_any p xs ≡ false
 any_none p [] none = refl
 any_none p (x ∷ xs) none = ap (λ t. t || list_any p xs) (none x (In_here x xs)) ∙ any_none p xs (λ n i. none n (In_there n x xs i))
-
-pub range_bounds : (n low count : ℕ) → In n (range_with_len low count) → (low ≤ n) × (n < low + count)
-range_bounds n low zero i = absurd (false≢true i)
-range_bounds n low (suc count) i = elim (or_cases (eqb n low) (list_any (eqb n) (range_with_len (low + 1) count)) i) [
-  | inl e ↦ (let same : n ≡ low = eqb-true n low e in (omega (arith, same), omega (arith, same)))
-  | inr j ↦ (let r = range_bounds n (low + 1) count j in let one : low + 1 ≤ n = r.0 in let two : n < low + 1 + count = r.1 in (omega (arith, one), omega (arith, two)))
-]
 
 -- the places of buses, then the nodes behind them
 pub places_split : (level : PlacedLevel) → places (length level.buses + length level.outlets) ≡ places (length level.buses) ++ range_with_len (length level.buses) (length level.outlets)
@@ -111,7 +104,7 @@ module _ (level : PlacedLevel) (fit : PlacesFit level) where
 
       past : (n : ℕ) → In n (range_with_len (length level.buses) (length level.outlets)) → nat_lt n a && joined (places (node_total level)) (pairs_of level) a n ≡ false
       past n i =
-          let low : length level.buses ≤ n = (range_bounds n (length level.buses) (length level.outlets) i).0 in
+          let low : length level.buses ≤ n = (range_In n (length level.buses) (length level.outlets) i).0 in
           and_left (nat_lt n a) (joined (places (node_total level)) (pairs_of level) a n) (le-ltb n a (omega (arith, low, lt)))
 
       same : (n : ℕ) → In n (places (length level.buses)) → (nat_lt n a && joined (places (node_total level)) (pairs_of level) a n) ≡ (nat_lt n a && joined (places (length level.buses)) (closed_pairs level) a n)

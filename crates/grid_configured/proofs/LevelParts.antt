@@ -3,6 +3,7 @@ use Rattle.std.proofs.Common.{◌≡◌, refl, sym, ap, ◌∙◌, ℕ, ◌+◌,
 use Rattle.std.specs.Prelude.{⊤, codes}
 use Rattle.std.specs.Result.{IsErrAnd}
 use Rattle.std.proofs.lemmas.List.{map-append}
+use Rattle.grid_lemmas.proofs.Lists.{take_next}
 use Rattle.grid_ids.specs.Name.{has_id, same_id}
 use Rattle.grid_json.specs.declared.fault.Fault.{Fault}
 use Rattle.grid_json.specs.declared.fault.ReadError.{ReadError}
@@ -14,7 +15,7 @@ use Rattle.grid_configured.specs.declared.network.Item.{Item}
 use Rattle.grid_configured.specs.declared.network.ConfiguredLevel.{ConfiguredLevel}
 use Rattle.grid_configured.specs.Checks.{bus_check, bus_reasons, item_check, item_ids, item_reasons, list_check, part_ids, parts_check, switch_check, switch_ids, switch_reasons}
 use Rattle.grid_json.specs.Seen.{Knows}
-use Rattle.grid_configured.proofs.Checking.{each_alike, next_one, taken}
+use Rattle.grid_configured.proofs.Checking.{each_alike, taken}
 use Rattle.grid_json.proofs.IdSets.{knows-append, knows_next}
 
 module _ (ids seen : List (List ℕ)) where
@@ -26,7 +27,7 @@ module _ (ids seen : List (List ℕ)) where
     bus_as = ap (λ t. bus_reasons t (length (take i buses))) (sym (known bus)) ∙ ap (bus_reasons (has_id seen bus)) (taken buses i lt)
 
     pub buses_known : (now : List (List ℕ)) → Knows now (seen ++ bus ∷ []) → Knows now (ids ++ take (i + 1) buses)
-    buses_known now h q = knows_next seen now ids (take i buses) bus known h q ∙ ap (λ z. has_id (ids ++ z) q) (sym (next_one buses i bus lt is))
+    buses_known now h q = knows_next seen now ids (take i buses) bus known h q ∙ ap (λ z. has_id (ids ++ z) q) (sym (take_next buses i bus lt is))
 
   -- ---- switches
 
@@ -40,7 +41,7 @@ module _ (ids seen : List (List ℕ)) where
     pub switches_known : (now : List (List ℕ)) → Knows now (seen ++ s.id ∷ []) → Knows now (ids ++ switch_ids (take (i + 1) switches))
     switches_known now h q =
         knows_next seen now ids (switch_ids (take i switches)) s.id known h q
-        ∙ ap (λ z. has_id (ids ++ z) q) (sym (ap switch_ids (next_one switches i s lt is) ∙ map-append (λ (s : BusSwitch). s.id) (take i switches) (s ∷ [])))
+        ∙ ap (λ z. has_id (ids ++ z) q) (sym (ap switch_ids (take_next switches i s lt is) ∙ map-append (λ (s : BusSwitch). s.id) (take i switches) (s ∷ [])))
 
   -- ---- injections
 
@@ -54,7 +55,7 @@ module _ (ids seen : List (List ℕ)) where
     pub items_known : (now : List (List ℕ)) → Knows now (seen ++ t.id ∷ []) → Knows now (ids ++ item_ids (take (i + 1) items))
     items_known now h q =
         knows_next seen now ids (item_ids (take i items)) t.id known h q
-        ∙ ap (λ z. has_id (ids ++ z) q) (sym (ap item_ids (next_one items i t lt is) ∙ map-append (λ (t : Item). t.id) (take i items) (t ∷ [])))
+        ∙ ap (λ z. has_id (ids ++ z) q) (sym (ap item_ids (take_next items i t lt is) ∙ map-append (λ (t : Item). t.id) (take i items) (t ∷ [])))
 
 -- ---- what stands in a level, by sets that have its ids
 

@@ -1,5 +1,5 @@
 -- Levels behind the earlier ones, by what is kept.
-use Rattle.std.proofs.Common.{◌≡◌, refl, sym, ap, ◌∙◌, ℕ, ◌+◌, Bool, true, false, cond, ◌||◌, List, [], ◌∷◌, ◌++◌, length, append_assoc, subst, arith, Option, Some, None, Ok}
+use Rattle.std.proofs.Common.{◌≡◌, refl, sym, ap, ◌∙◌, ℕ, ◌+◌, Bool, true, false, cond, List, [], ◌∷◌, ◌++◌, length, append_assoc, subst, arith, Option, Some, None, Ok}
 use Rattle.std.specs.BTreeMap.{BTreeMap}
 use Rattle.std.specs.Str.{bytes_eq}
 use Rattle.std.specs.Option.{option_or}
@@ -8,7 +8,9 @@ use Rattle.std.proofs.lemmas.List.{append-nil}
 use Rattle.std.proofs.lemmas.List.Folds.{find-append}
 use Rattle.std.proofs.lemmas.List.Sums.{sum_by-append}
 use Rattle.std.proofs.lemmas.Slice.Eq.{bytes_eq-Decides}
+use Rattle.grid_lemmas.proofs.Bools.{not_either}
 use Rattle.grid_ids.specs.Name.{has_id, same_id}
+use Rattle.grid_ids.proofs.Alike.{has_join}
 use Rattle.grid_kinds.specs.Records.{level_fault}
 use Rattle.grid_json.specs.declared.fault.ReadError.{ReadError}
 use Rattle.grid_json.specs.declared.fault.ReadError.TheVariants as errors
@@ -21,7 +23,7 @@ use Rattle.grid_json.specs.Seen.{Knows}
 use Rattle.grid_configured.specs.Standing.{IsTally, Stands, count_at, tally_at, tally_of}
 use Rattle.grid_configured.proofs.Ends.{after_none}
 use Rattle.grid_configured.proofs.LevelParts.{parts_alike}
-use Rattle.grid_json.proofs.IdSets.{has-append, knows-append, same_flip}
+use Rattle.grid_json.proofs.IdSets.{knows-append, same_flip}
 use Rattle.grid_configured.proofs.Tables.{no_count, no_tally}
 
 -- ---- nothing stands
@@ -38,19 +40,15 @@ nothing_stands seen levels ends no_ids no_levels no_ends = record {
 
 -- ---- a level that is not there
 
-either_none : (a b : Bool) → (a || b) ≡ false → (a ≡ false) × (b ≡ false)
-either_none true b e = absurd (cc)
-either_none false b e = (refl, e)
-
 apart_from : (id : List ℕ) (more : List (List ℕ)) (q : List ℕ) → has_id (id ∷ more) q ≡ false → same_id q id ≡ false
 unfolding has_id
-apart_from id more q e = (either_none (same_id q id) (has_id more q) e).0
+apart_from id more q e = (not_either (same_id q id) (has_id more q) e).0
 
 pub no_level_of : (levels : List ConfiguredLevel) (q : List ℕ) → has_id (ids_of levels) q ≡ false → level_of levels q ≡ None
 unfolding level_of level_ids
 no_level_of [] q e = refl
 no_level_of (l ∷ levels) q e =
-    let parts = either_none (has_id (level_ids l) q) (has_id (ids_of levels) q) (sym (has-append (level_ids l) (ids_of levels) q) ∙ e) in
+    let parts = not_either (has_id (level_ids l) q) (has_id (ids_of levels) q) (sym (has_join (level_ids l) (ids_of levels) q) ∙ e) in
     rw (apart_from l.id (part_ids l) q parts.0) (no_level_of levels q parts.1)
 
 -- ---- one level more

@@ -1,16 +1,19 @@
 -- What the edits make of a network in node/breaker form that gets one line more.
-use Rattle.std.proofs.Common.{◌≡◌, refl, sym, ap, ◌∙◌, subst, ℕ, suc, ◌+◌, ◌<◌, ◌≤◌, Bool, true, false, cond, not, ◌&&◌, ◌||◌, List, [], ◌∷◌, ◌++◌, length, Ok, Err, append_assoc, arith}
-use Rattle.std.specs.Prelude.{pos, eqb, Option, Some, None, map, find, flat_map, position, unwrap_or, option_map, decimal, count_by}
+use Rattle.std.proofs.Common.{◌≡◌, refl, sym, ap, ◌∙◌, subst, ℕ, suc, ◌+◌, ◌<◌, ◌≤◌, Bool, true, false, cond, not, ◌&&◌, ◌||◌, List, [], ◌∷◌, ◌++◌, length, Ok, append_assoc, arith}
+use Rattle.std.specs.Prelude.{pos, eqb, Some, None, map, find, flat_map, position, unwrap_or, option_map, decimal, count_by}
 use Rattle.std.specs.Fmt.{digits}
 use Rattle.std.specs.List.{list_any, list_all, enumerate_from}
-use Rattle.std.proofs.lemmas.Bool.{false_from_ne_true, and_parts, and_from, or_parts, true≢false, not-false, eq-eqb, both_ways, lt-ltb, ltb-true}
+use Rattle.std.proofs.lemmas.Bool.{false_from_ne_true, true≢false, not-false, eq-eqb, both_ways}
 use Rattle.std.proofs.lemmas.List.{append-nil, length-append, length-map}
 use Rattle.std.proofs.lemmas.List.Concat.{flat_map-append}
 use Rattle.std.proofs.lemmas.List.Sums.{sum_by-append, sum_by-cons}
 use Rattle.std.proofs.lemmas.List.FromFn.{length-enumerate_from}
 use Rattle.std.proofs.lemmas.Slice.Eq.{bytes_eq-Decides}
+use Rattle.grid_lemmas.proofs.Counts.{count_cons}
+use Rattle.grid_lemmas.proofs.Lists.{map_twice, position-cons, position_behind}
 use Rattle.grid_ids.specs.Name.{same_id, has_id}
 use Rattle.grid_ids.specs.Refusing.{refuse_if, found_or}
+use Rattle.grid_ids.proofs.Alike.{same_itself}
 use Rattle.grid_kinds.specs.declared.SwitchKind.TheVariants.{Breaker}
 use Rattle.grid_level.specs.declared.Switch.{Switch}
 use Rattle.grid_level.specs.declared.Placed.{Placed}
@@ -22,9 +25,8 @@ use Rattle.grid_structure.specs.declared.Branch.TheVariants.{Line}
 use Rattle.grid_structure.specs.declared.Edit.TheVariants as edits
 use Rattle.grid_structure.specs.Editing.{max_switches, apply}
 use Rattle.grid_structure.proofs.Counts.{times}
-use Rattle.grid_structure.proofs.Places.{position-cons}
 use Rattle.grid_paths.proofs.Least.{some_same, some_none}
-use Rattle.grid_json.specs.declared.fault.Fault.{Fault}
+use Rattle.grid_json.proofs.Results.{bound}
 use Rattle.grid_configured.specs.declared.network.BusEnd.{BusEnd}
 use Rattle.grid_configured.specs.declared.network.ConfiguredLine.{ConfiguredLine}
 use Rattle.grid_configured.specs.declared.network.ConfiguredLevel.{ConfiguredLevel}
@@ -35,9 +37,8 @@ use Rattle.grid_configured.specs.Places.{Outlet, PlacedLevel, PlacesFit}
 use Rattle.grid_configured.specs.Levels.{bus_place, joint_of, item_outlet, end_outlets, line_outlets, outlets, placed_level, placed_levels}
 use Rattle.grid_configured.specs.Sites.{is_outlet}
 use Rattle.grid_configured.specs.Translation.{joint_breaker, breaker_id, outlet_breaker, outlet_placed, outlets_at, translated_level, terminal_node, node_in, translated_end, translated_line}
-use Rattle.grid_configured.proofs.Nodes.{map_map}
-use Rattle.grid_configured.proofs.Checked.{right_first, not_refused, bus_there, fresh_line}
-use Rattle.grid_configured.proofs.Stacked.{Each, each_same, Free, Keeps, At, at_changed, on, on_own, on_other, on_id, stack, free_switched, same_itself, same_back, switch_added, end_added, line_added}
+use Rattle.grid_configured.proofs.Checked.{not_refused, bus_there, fresh_line, found_right}
+use Rattle.grid_configured.proofs.Stacked.{Each, each_same, Free, Keeps, At, at_changed, on, on_own, on_other, on_id, stack, free_switched, same_back, switch_added, end_added, line_added}
 use Rattle.grid_configured.proofs.Enlarged.{Under, switch_more, placed_more, below, switch_fits, switch_under, terminal_fit, terminal_under, below_more, next_node, outlet_more, outlet_grown, placed_below, level_under}
 use Rattle.grid_configured.proofs.Tagged.{Unmarked, tagged, tagged_marked, plain_apart, breaker_tagged, PlainNetwork, Fresh, Other, outlets_other, join_parts, shaped, shaped_lines, free_plain, free_tagged, line_ids_are}
 use Rattle.grid_configured.proofs.Building.{TerminalRight, terminal_right}
@@ -52,15 +53,11 @@ pub record EndRight (levels : List ConfiguredLevel) (earlier : List BusEnd) (e :
   pub there : has_id level.buses e.bus ≡ true
   pub few : TerminalRight (level_nodes level + ends_in e.level earlier) (level_edges level + ends_in e.level earlier) (checks.switch_total levels + length earlier)
 
-found_right : {A : Type 0} (o : Option A) (f : Fault) (x : A) → found_or o f ≡ Ok x → o ≡ Some x
-found_right None f x h = absurd (let k : Err f ≡ Ok x = h in cc)
-found_right (Some y) f x h = let k : Ok y ≡ Ok x = h in cc
-
 end_right : (levels : List ConfiguredLevel) (earlier : List BusEnd) (e : BusEnd) → end_check levels earlier e ≡ Ok tt → EndRight levels earlier e
 unfolding end_check end_reasons
 end_right levels earlier e h =
-    let one = right_first (found_or (level_of levels e.level) _) _ tt h in
-    let two = right_first (refuse_if (not (has_id one.0.buses e.bus)) _) _ tt one.2 in
+    let one = bound (found_or (level_of levels e.level) _) _ tt h in
+    let two = bound (refuse_if (not (has_id one.0.buses e.bus)) _) _ tt one.2 in
     record {
       level = one.0;
       found = found_right (level_of levels e.level) _ one.0 one.1;
@@ -75,8 +72,8 @@ pub record LineRight (levels : List ConfiguredLevel) (earlier : List ConfiguredL
 pub line_right : (levels : List ConfiguredLevel) (earlier : List ConfiguredLine) (line : ConfiguredLine) → line_check levels earlier line ≡ Ok tt → LineRight levels earlier line
 unfolding line_check
 line_right levels earlier line h =
-    let one = right_first (id_reasons _) _ tt h in
-    let two = right_first (end_check levels (line_ends earlier) line.end1) _ tt one.2 in
+    let one = bound (id_reasons _) _ tt h in
+    let two = bound (end_check levels (line_ends earlier) line.end1) _ tt one.2 in
     record { first = end_right levels (line_ends earlier) line.end1 two.1; second = end_right levels (line_ends earlier ++ line.end1 ∷ []) line.end2 two.2 }
 
 -- ---- the one level of an id
@@ -90,7 +87,7 @@ shape_id n l = refl
 
 pub shaped_is : (n : ConfiguredNetwork) → shaped n ≡ map (shape n) n.levels
 unfolding placed_levels
-shaped_is n = map_map translated_level (placed_level n) n.levels
+shaped_is n = map_twice translated_level (placed_level n) n.levels
 
 -- the level is the only one of an id
 abbrev pub Only : List ℕ → ConfiguredLevel → List ConfiguredLevel → Type 0
@@ -141,9 +138,6 @@ at_shape n id l found only = record {
 
 -- ---- counts
 
-count_more : {X : Type 0} (p : X → Bool) (x : X) (xs : List X) → count_by p (x ∷ xs) ≡ cond (p x) 1 0 + count_by p xs
-count_more p x xs = sum_by-cons (λ y. cond (p y) 1 0) x xs
-
 count_join : {X : Type 0} (p : X → Bool) (xs ys : List X) → count_by p (xs ++ ys) ≡ count_by p xs + count_by p ys
 count_join p xs ys = sum_by-append (λ y. cond (p y) 1 0) xs ys
 
@@ -163,8 +157,8 @@ line_count l (line ∷ lines) =
     let b = length-append (end_outlets l line.id 1 line.end1) (end_outlets l line.id 2 line.end2) in
     let c = end_count l line.id 1 line.end1 in
     let d = end_count l line.id 2 line.end2 in
-    let e = count_more (λ (e : BusEnd). same_id l.id e.level) line.end1 (line.end2 ∷ line_ends lines) in
-    let f = count_more (λ (e : BusEnd). same_id l.id e.level) line.end2 (line_ends lines) in
+    let e = count_cons (λ (e : BusEnd). same_id l.id e.level) line.end1 (line.end2 ∷ line_ends lines) in
+    let f = count_cons (λ (e : BusEnd). same_id l.id e.level) line.end2 (line_ends lines) in
     let g = line_count l lines in
     omega (arith, a, b, c, d, e, f, g)
 
@@ -200,7 +194,7 @@ ends_cons : (ls : List ConfiguredLevel) (e : BusEnd) (ends : List BusEnd) → en
 unfolding ends_total ends_in
 ends_cons [] e ends = refl
 ends_cons (l ∷ ls) e ends =
-    let a = count_more (λ (e : BusEnd). same_id l.id e.level) e ends in
+    let a = count_cons (λ (e : BusEnd). same_id l.id e.level) e ends in
     let b = ends_cons ls e ends in
     let c : ◌≡◌ {A = ℕ} (cond (same_id l.id e.level) 1 0) (cond (same_id e.level l.id) 1 0) = ap (λ t. cond t 1 0) (same_back l.id e.level) in
     omega (arith, a, b, c)
@@ -291,31 +285,7 @@ sides_apart : same_id (decimal 2) (decimal 1) ≡ false
 unfolding digits
 sides_apart = refl
 
-below_weaker : (low most : ℕ) (ns : List ℕ) → low ≤ most → list_all (below low) ns ≡ true → list_all (below most) ns ≡ true
-below_weaker low most [] le h = refl
-below_weaker low most (n ∷ ns) le h =
-    let parts = and_parts (below low n) (list_all (below low) ns) h in
-    let less : n < low = ltb-true n low parts.0 in
-    and_from (below most n) (list_all (below most) ns) (lt-ltb n most (omega (arith, less, le))) (below_weaker low most ns le parts.1)
-
 -- ---- places of terminals
-
-position_behind : {X : Type 0} (p : X → Bool) (xs ys : List X) → list_any p xs ≡ false → position p (xs ++ ys) ≡ option_map (λ k. length xs + k) (position p ys)
-position_behind p [] ys none = by (position p ys)
-  where
-    by : (o : Option ℕ) → o ≡ option_map (λ k. 0 + k) o
-    by None = refl
-    by (Some k) = let e : k ≡ 0 + k = omega arith in ap Some e
-position_behind p (x ∷ xs) ys none =
-    let parts = or_parts (p x) (list_any p xs) none in
-    position-cons p x (xs ++ ys)
-    ∙ ap (λ t. cond t (Some 0) (option_map suc (position p (xs ++ ys)))) parts.0
-    ∙ ap (option_map suc) (position_behind p xs ys parts.1)
-    ∙ by (position p ys)
-  where
-    by : (o : Option ℕ) → option_map suc (option_map (λ k. length xs + k) o) ≡ option_map (λ k. suc (length xs) + k) o
-    by None = refl
-    by (Some k) = let e : suc (length xs + k) ≡ suc (length xs) + k = omega arith in ap Some e
 
 pub none_other : (id : List ℕ) (side : ℕ) (ts : List Outlet) → Each (Other id) ts → list_any (is_outlet id side) ts ≡ false
 unfolding is_outlet
@@ -417,7 +387,7 @@ module _ (n : ConfiguredNetwork) (line : ConfiguredLine) (right : line_check n.l
   unfolding ends_in
   ends_more =
       let x = count_join (λ (e : BusEnd). same_id b e.level) (line_ends n.lines) (line.end1 ∷ []) in
-      let y = count_more (λ (e : BusEnd). same_id b e.level) line.end1 [] in
+      let y = count_cons (λ (e : BusEnd). same_id b e.level) line.end1 [] in
       let z : count_by (λ (e : BusEnd). same_id b e.level) [] ≡ 0 = refl in
       let w : ◌≡◌ {A = ℕ} (cond (same_id b a) 1 0) (cond (same_id a b) 1 0) = ap (λ t. cond t 1 0) (same_back b a) in
       omega (arith, x, y, z, w)
@@ -780,10 +750,10 @@ module _ (n : ConfiguredNetwork) (line : ConfiguredLine) (right : line_check n.l
 
   all_grown : vs4 ≡ shaped more
   all_grown =
-      map_map (on b (placed_more p2)) (on a (placed_more p1)) vs2
-      ∙ map_map (λ v. on b (placed_more p2) (on a (placed_more p1) v)) (on b (switch_more s2)) vs1
-      ∙ map_map (λ v. on b (placed_more p2) (on a (placed_more p1) (on b (switch_more s2) v))) (on a (switch_more s1)) vs0
-      ∙ map_map all_on (shape n) n.levels
+      map_twice (on b (placed_more p2)) (on a (placed_more p1)) vs2
+      ∙ map_twice (λ v. on b (placed_more p2) (on a (placed_more p1) v)) (on b (switch_more s2)) vs1
+      ∙ map_twice (λ v. on b (placed_more p2) (on a (placed_more p1) (on b (switch_more s2) v))) (on a (switch_more s1)) vs0
+      ∙ map_twice all_on (shape n) n.levels
       ∙ each_same (λ l. all_on (shape n l)) (shape more) n.levels (levels_grow n.levels only1 only2)
       ∙ sym (shaped_is more)
 

@@ -8,7 +8,9 @@ use Rattle.std.proofs.lemmas.List.{map-append}
 use Rattle.std.proofs.lemmas.List.Folds.{list_any-append, find-append}
 use Rattle.std.proofs.lemmas.List.Elements.{filter-append}
 use Rattle.std.proofs.lemmas.Slice.Eq.{bytes_eq-Decides}
+use Rattle.grid_lemmas.proofs.Lists.{position-cons, position_map}
 use Rattle.grid_ids.specs.Name.{same_id, has_id}
+use Rattle.grid_ids.proofs.Alike.{has_join}
 use Rattle.grid_level.specs.declared.Switch.{Switch}
 use Rattle.grid_level.specs.declared.Placed.{Placed}
 use Rattle.grid_level.specs.declared.Terminal.{Terminal}
@@ -18,7 +20,7 @@ use Rattle.grid_level.specs.Passing.{is_branch_end}
 use Rattle.grid_structure.specs.declared.NamedBranch.{NamedBranch}
 use Rattle.grid_structure.specs.Sites as sites
 use Rattle.grid_structure.specs.Sites.{levels, first_found, branch_ends}
-use Rattle.grid_structure.proofs.Places.{position-cons, position_map, none_position, position_found}
+use Rattle.grid_structure.proofs.Places.{none_position, position_found}
 use Rattle.grid_paths.proofs.Least.{some_same, some_none}
 use Rattle.grid_configured.specs.declared.network.Item.{Item}
 use Rattle.grid_configured.specs.declared.network.BusEnd.{BusEnd}
@@ -57,10 +59,6 @@ found_alike {X} {B} at one two same (x ∷ xs) = by (one x) (two x) (same x) (fo
     by (Some y) None e rest = absurd (some_none y (sym e))
     by None (Some z) e rest = absurd (some_none z e)
     by None None e rest = rest
-
-pub has_join : (xs ys : List (List ℕ)) (id : List ℕ) → has_id (xs ++ ys) id ≡ (has_id xs id || has_id ys id)
-unfolding has_id
-has_join xs ys id = list_any-append (same_id id) xs ys
 
 -- ---- levels
 

@@ -7,13 +7,14 @@ use Rattle.grid_ids.specs.Name.{has_id}
 use Rattle.grid_level.specs.declared.Switch.{Switch}
 use Rattle.grid_level.specs.VoltageLevel.{VoltageLevel}
 use Rattle.grid_structure.specs.Sites as sites
-use Rattle.grid_structure.specs.Sites.{levels, first_found}
+use Rattle.grid_structure.specs.Sites.{first_found}
 use Rattle.grid_states.specs.Rows.{row_at, with_flag}
 use Rattle.grid_core.specs.declared.reply.Reply.TheVariants as replies
 use Rattle.grid_core.specs.Solo as solo
 use Rattle.grid_core.specs.Solo.{State, record_rows, flag_at, set_from}
 use Rattle.grid_paths.proofs.Least.{some_same, some_none}
 use Rattle.grid_structure.proofs.Places.{position_found}
+use Rattle.grid_core.proofs.Counting.{lengths-with_flag}
 use Rattle.grid_configured.specs.declared.network.ConfiguredNetwork.{ConfiguredNetwork}
 use Rattle.grid_configured.specs.declared.reply.ConfiguredReply.TheVariants as told
 use Rattle.grid_configured.specs.Places.{PlacedLevel, PlacesFit}
@@ -23,7 +24,7 @@ use Rattle.grid_configured.specs.Sites.{bus_ids, is_joint, find_joint, sides}
 use Rattle.grid_configured.specs.Machine.{Flags, Step, opening, refused, switched}
 use Rattle.grid_configured.specs.Told.{told_reply}
 use Rattle.grid_configured.proofs.Located.{levels_are, switch_found, is_marked}
-use Rattle.grid_configured.proofs.Rows.{joined_rows, flag_first, put_first, record_flags, length_flagged, row_long}
+use Rattle.grid_configured.proofs.Rows.{joined_rows, flag_first, put_first, record_flags, row_long}
 
 -- what each network that can be translated keeps: places of buses, and no bus has the id of an injection or a line
 pub record NetworkFits (network : ConfiguredNetwork) : Type 0 where
@@ -100,7 +101,7 @@ module _ (network : ConfiguredNetwork) (state : State) (flags : Flags) (m : Mirr
   put_switch p k b lt less here = record {
     structure = m.structure;
     opened = ap (λ z. with_flag z p k b) m.opened ∙ put_first flags.opened flags.connected p k b lt less here;
-    switches_fit = length_flagged flags.opened p k b ∙ m.switches_fit;
+    switches_fit = lengths-with_flag flags.opened p k b ∙ m.switches_fit;
     terminals_fit = m.terminals_fit;
   }
 

@@ -5,6 +5,8 @@ use Rattle.std.specs.List.{list_any, list_all, enumerate_from, range_with_len}
 use Rattle.std.proofs.lemmas.Bool.{false≢true, and_parts, and_from, or_cases, lt-ltb, ltb-true, le-ltb, eqb-true, eq-eqb}
 use Rattle.std.proofs.lemmas.List.{append-nil, map-append}
 use Rattle.std.proofs.lemmas.List.Elements.{filter-append, All-head, All-tail}
+use Rattle.grid_lemmas.proofs.Bools.{and_true}
+use Rattle.grid_lemmas.proofs.Lists.{map_twice}
 use Rattle.grid_graph.specs.Components.{places}
 use Rattle.grid_graph.proofs.Reach.{In, In_here, In_there, In_parts}
 use Rattle.grid_graph.proofs.Places.{In_places}
@@ -70,10 +72,6 @@ pub numbers_from : {X : Type 0} (at : ℕ) (xs : List X) → map (λ (e : ℕ ×
 numbers_from at [] = refl
 numbers_from at (x ∷ xs) = ap (λ z. at ∷ z) (numbers_from (at + 1) xs)
 
-pub map_map : {X Y Z : Type 0} (f : Y → Z) (g : X → Y) (xs : List X) → map f (map g xs) ≡ map (λ x. f (g x)) xs
-map_map f g [] = refl
-map_map f g (x ∷ xs) = ap (λ z. f (g x) ∷ z) (map_map f g xs)
-
 filter_by : {X Y : Type 0} (f : X → Y) (x : X) (rest : List X) (t : Bool) → cond t (f x ∷ map f rest) (map f rest) ≡ map f (cond t (x ∷ rest) rest)
 filter_by f x rest true = refl
 filter_by f x rest false = refl
@@ -82,10 +80,6 @@ pub filter_map_of : {X Y : Type 0} (p : Y → Bool) (f : X → Y) (xs : List X) 
 filter_map_of p f [] = refl
 filter_map_of p f (x ∷ xs) = ap (λ z. cond (p (f x)) (f x ∷ z) z) (filter_map_of p f xs) ∙ filter_by f x (filter (λ x. p (f x)) xs) (p (f x))
 
-pub map_alike : {X Y : Type 0} (f g : X → Y) → ((x : X) → f x ≡ g x) → (xs : List X) → map f xs ≡ map g xs
-map_alike f g same [] = refl
-map_alike f g same (x ∷ xs) = ap (λ y. y ∷ map f xs) (same x) ∙ ap (λ z. g x ∷ z) (map_alike f g same xs)
-
 -- ---- the nodes of a level
 
 pub node_numbers : (level : PlacedLevel) → map (λ (p : Placed). p.node) (translated_level level).placed ≡ places (length level.buses + length level.outlets)
@@ -93,9 +87,9 @@ unfolding translated_level outlets_at bus_section outlet_placed places
 node_numbers level =
     map-append (λ (p : Placed). p.node) (map bus_section (enumerate_from 0 level.buses)) (map outlet_placed (enumerate_from (length level.buses) level.outlets))
     ∙ ap (λ z. z ++ map (λ (p : Placed). p.node) (map outlet_placed (enumerate_from (length level.buses) level.outlets)))
-    (map_map (λ (p : Placed). p.node) bus_section (enumerate_from 0 level.buses) ∙ numbers_from 0 level.buses)
+    (map_twice (λ (p : Placed). p.node) bus_section (enumerate_from 0 level.buses) ∙ numbers_from 0 level.buses)
     ∙ ap (λ z. range_with_len 0 (length level.buses) ++ z)
-    (map_map (λ (p : Placed). p.node) outlet_placed (enumerate_from (length level.buses) level.outlets) ∙ numbers_from (length level.buses) level.outlets)
+    (map_twice (λ (p : Placed). p.node) outlet_placed (enumerate_from (length level.buses) level.outlets) ∙ numbers_from (length level.buses) level.outlets)
     ∙ range_join 0 (length level.buses) (length level.buses) (length level.outlets) (omega arith)
 
 -- both ends of each switch are below a count
@@ -191,10 +185,6 @@ not_not : (t : Bool) → not (not t) && true ≡ t
 not_not true = refl
 not_not false = refl
 
-and_true : (t : Bool) → t && true ≡ t
-and_true true = refl
-and_true false = refl
-
 filter_alike : {X : Type 0} (p q : X → Bool) → ((x : X) → p x ≡ q x) → (xs : List X) → filter p xs ≡ filter q xs
 filter_alike p q same [] = refl
 filter_alike p q same (x ∷ xs) = ap (λ t. cond t (x ∷ filter p xs) (filter p xs)) (same x) ∙ ap (λ z. cond (q x) (x ∷ z) z) (filter_alike p q same xs)
@@ -203,14 +193,14 @@ joints_pass : (js : List Joint) → map (λ s. ends (switch_edge s)) (filter (sw
 unfolding ends joint_breaker switch_passes passes_closed
 joints_pass js =
     ap (map (λ s. ends (switch_edge s))) (filter_map_of (switch_passes bus) joint_breaker js)
-    ∙ map_map (λ s. ends (switch_edge s)) joint_breaker (filter (λ j. switch_passes bus (joint_breaker j)) js)
+    ∙ map_twice (λ s. ends (switch_edge s)) joint_breaker (filter (λ j. switch_passes bus (joint_breaker j)) js)
     ∙ ap (map (λ (s : Joint). (s.place1, s.place2))) (filter_alike (λ j. switch_passes bus (joint_breaker j)) (λ (s : Joint). not s.opened) (λ s. and_true (not s.opened)) js)
 
 outlets_pass : (es : List (ℕ × Outlet)) → map (λ s. ends (switch_edge s)) (filter (switch_passes bus) (map outlet_breaker es)) ≡ map (λ e. (e.1.place, e.0)) (filter (λ (e : ℕ × Outlet). e.1.connected) es)
 unfolding ends outlet_breaker switch_passes passes_closed
 outlets_pass es =
     ap (map (λ s. ends (switch_edge s))) (filter_map_of (switch_passes bus) outlet_breaker es)
-    ∙ map_map (λ s. ends (switch_edge s)) outlet_breaker (filter (λ j. switch_passes bus (outlet_breaker j)) es)
+    ∙ map_twice (λ s. ends (switch_edge s)) outlet_breaker (filter (λ j. switch_passes bus (outlet_breaker j)) es)
     ∙ ap (map (λ (e : ℕ × Outlet). (e.1.place, e.0))) (filter_alike (λ j. switch_passes bus (outlet_breaker j)) (λ (e : ℕ × Outlet). e.1.connected) (λ e. not_not e.1.connected) es)
 
 -- the closed switches between buses, and the breakers of the connected terminals

@@ -19,6 +19,7 @@ use Rattle.grid_core.specs.declared.reply.Refusal.TheVariants as refusals
 use Rattle.grid_core.specs.Solo as solo
 use Rattle.grid_core.specs.Solo.{State, flag_at, side_of, site_of_side, level_at, positioned_at, with_all_opened, connected, connected_from, connected_at, disconnected, disconnected_from, disconnected_at}
 use Rattle.grid_paths.proofs.Least.{some_same, some_none}
+use Rattle.grid_core.proofs.Counting.{lengths-with_flag}
 use Rattle.grid_configured.specs.declared.network.ConfiguredNetwork.{ConfiguredNetwork}
 use Rattle.grid_configured.specs.declared.reply.ConfiguredReply.TheVariants as told
 use Rattle.grid_configured.specs.Places.{PlacedLevel, PlacesFit, stood}
@@ -32,7 +33,7 @@ use Rattle.grid_configured.proofs.Flagged.{length_opened, length_connected, leve
 use Rattle.grid_configured.proofs.Connecting.{connect_closes, connect_stays}
 use Rattle.grid_configured.proofs.Parting.{disconnect_opens, disconnect_stays}
 use Rattle.grid_configured.proofs.Located.{levels_are, sides_found, IsAt, sited}
-use Rattle.grid_configured.proofs.Rows.{row_joined, put_second, length_flagged}
+use Rattle.grid_configured.proofs.Rows.{row_joined, put_second}
 use Rattle.grid_configured.proofs.Mirrored.{NetworkFits, Mirrors, StepMirrors, rows_here}
 
 pub mapped_at : (ls : List PlacedLevel) (p : ℕ) (l : PlacedLevel) → slice_get ls p ≡ Some l → slice_get (map translated_level ls) p ≡ Some (translated_level l)
@@ -93,7 +94,7 @@ module _ (network : ConfiguredNetwork) (fits : NetworkFits network) (state : Sta
           structure = m.structure;
           opened = ap (λ z. with_flag z p (length now.joints + k) (not b)) m.opened ∙ put_second flags.opened flags.connected p k (length now.joints + k) b r.0 r.1 now_place;
           switches_fit = m.switches_fit;
-          terminals_fit = length_flagged flags.connected p k b ∙ m.terminals_fit;
+          terminals_fit = lengths-with_flag flags.connected p k b ∙ m.terminals_fit;
         }
 
     connect_by : (t : Bool) → flag_at flags.connected (p, k) ≡ t

@@ -1,8 +1,8 @@
 -- Rows of flags of the node/breaker form: a level's switches, then its terminals, whose breakers are open where they are not connected.
-use Rattle.std.proofs.Common.{◌≡◌, refl, sym, ap, ◌∙◌, ℕ, zero, suc, ◌+◌, ◌-◌, ◌<◌, Bool, true, false, not, List, [], ◌∷◌, ◌++◌, length, get_or, set, length-set, arith}
+use Rattle.std.proofs.Common.{◌≡◌, refl, sym, ap, ◌∙◌, ℕ, zero, suc, ◌+◌, ◌-◌, ◌<◌, Bool, false, not, List, [], ◌∷◌, ◌++◌, length, get_or, set, arith}
 use Rattle.std.specs.Prelude.{Some, map, slice_get}
 use Rattle.std.specs.List.{enumerate_from}
-use Rattle.std.proofs.lemmas.List.{map-append, map-set, get_or_append_left, get_or-append-add, set-append_left, set-append_right, get_or-map}
+use Rattle.std.proofs.lemmas.List.{map-append, map-set, get_or_append_left, set-append_left, set-append_right}
 use Rattle.grid_states.specs.Rows.{row_at, with_row, with_flag}
 use Rattle.grid_level.specs.declared.Switch.{Switch}
 use Rattle.grid_core.specs.Solo.{flag_at}
@@ -17,10 +17,6 @@ joined_row opened connected = opened ++ map not connected
 unfoldable pub joined_rows : List (List Bool) → List (List Bool) → List (List Bool)
 joined_rows (o ∷ os) (c ∷ cs) = joined_row o c ∷ joined_rows os cs
 joined_rows os cs = []
-
-not_not : (b : Bool) → not (not b) ≡ b
-not_not true = refl
-not_not false = refl
 
 pub row_joined : (os cs : List (List Bool)) (p : ℕ) → p < length os → p < length cs → row_at (joined_rows os cs) p ≡ joined_row (row_at os p) (row_at cs p)
 unfolding row_at joined_rows
@@ -59,13 +55,6 @@ put_first os cs p k b lt less here =
 
 -- ---- a terminal's breaker
 
-pub flag_second : (os cs : List (List Bool)) (p k : ℕ) → p < length os → p < length cs → k < length (row_at cs p) → flag_at (joined_rows os cs) (p, length (row_at os p) + k) ≡ not (flag_at cs (p, k))
-unfolding flag_at row_at
-flag_second os cs p k lt less here =
-    ap (λ z. get_or z (length (get_or os p []) + k) false) (row_joined os cs p lt less)
-    ∙ get_or-append-add (get_or os p []) (map not (get_or cs p [])) k false
-    ∙ get_or-map not (get_or cs p []) k false false here
-
 pub put_second : (os cs : List (List Bool)) (p k at : ℕ) (b : Bool) → p < length os → p < length cs → at ≡ length (row_at os p) + k → with_flag (joined_rows os cs) p at (not b) ≡ joined_rows os (with_flag cs p k b)
 unfolding with_flag with_row row_at
 put_second os cs p k at b lt less e =
@@ -102,12 +91,6 @@ record_flags [] = refl
 record_flags (l ∷ ls) = ap (λ z. z ∷ map (λ (l : PlacedLevel). map (λ (s : Switch). s.opened) (translated_level l).switches) ls) (level_flags l) ∙ ap (λ z. joined_row (map (λ s. s.opened) l.joints) (map (λ t. t.connected) l.outlets) ∷ z) (record_flags ls)
 
 -- ---- the length of rows
-
-pub length_flagged : (rows : List (List Bool)) (p k : ℕ) (b : Bool) → map length (with_flag rows p k b) ≡ map length rows
-unfolding with_flag with_row row_at
-length_flagged [] p k b = refl
-length_flagged (r ∷ rows) zero k b = ap (λ n. n ∷ map length rows) (length-set r k b)
-length_flagged (r ∷ rows) (suc p) k b = ap (λ z. length r ∷ z) (length_flagged rows p k b)
 
 -- the row of a level that is there is as long as its list
 pub row_long : (f : PlacedLevel → ℕ) (ls : List PlacedLevel) (rows : List (List Bool)) (p : ℕ) (l : PlacedLevel) → map length rows ≡ map f ls → slice_get ls p ≡ Some l → (p < length rows) × (length (row_at rows p) ≡ f l)

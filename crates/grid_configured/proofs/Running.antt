@@ -3,7 +3,7 @@ use Rattle.std.proofs.Common.{◌≡◌, refl, sym, ap, ◌∙◌, subst, ℕ, �
 use Rattle.std.specs.Prelude.{Option, Some, None, nat_lt, map, option_map, slice_get, IsTrue}
 use Rattle.std.proofs.lemmas.Bool.{cases_Bool, both_ways, lt-ltb, le-ltb, false≢true}
 use Rattle.std.proofs.lemmas.List.{length-map}
-use Rattle.std.proofs.lemmas.List.Elements.{All-head, All-tail, All-cons}
+use Rattle.std.proofs.lemmas.List.Elements.{All-head, All-tail}
 use Rattle.std.proofs.lemmas.Option.{slice_get-get_or}
 use Rattle.grid_ids.specs.Name.{has_id}
 use Rattle.grid_level.specs.VoltageLevel.{VoltageLevel}
@@ -35,7 +35,7 @@ use Rattle.grid_configured.specs.Places.{PlacedLevel}
 use Rattle.grid_configured.specs.Levels.{placed_level, placed_levels}
 use Rattle.grid_configured.specs.Translation.{translated_level, translated}
 use Rattle.grid_configured.specs.Sites.{bus_ids}
-use Rattle.grid_configured.specs.Histories.{ConfiguredHistory, ArePlain, longer, view, reply, reply_to}
+use Rattle.grid_configured.specs.Histories.{ConfiguredHistory, ArePlain, view, reply, reply_to}
 use Rattle.grid_configured.specs.Viewed.{told_view, seen_at}
 use Rattle.grid_configured.specs.declared.view.ConfiguredView.{ConfiguredView}
 use Rattle.grid_configured.specs.declared.reply.ConfiguredReply.TheVariants as told
@@ -154,9 +154,6 @@ module _ (network : ConfiguredNetwork) (world : History) (now : ConfiguredHistor
   pub own_steps : world.steps ≡ now.steps
   own_steps = ap (λ (h : ConfiguredHistory). h.steps) seen
 
-  pub own_workers : world.workers ≡ now.workers
-  own_workers = ap (λ (h : ConfiguredHistory). h.workers) seen
-
   pub now_fits : NetworkFits now.network
   now_fits = subst NetworkFits own_network (translatable_fits network keeps.translatable.1)
 
@@ -272,15 +269,6 @@ module _ (network : ConfiguredNetwork) (world : History) (now : ConfiguredHistor
         → live ≡ is_live now.steps (working now.steps worker) → answer ≡ answers.reply world.origin world.steps (command worker request) → cond bus (bus_refusal live) (told_reply answer) ≡ reply now.network now.steps (command worker request)
     worker_plugged request id answer true live plain view asked bus l e = worker_bus request live (asked ∙ sym bus) l
     worker_plugged request id answer false live plain view asked bus l e = worker_told request answer plain view (asked ∙ sym bus) e
-
-    -- the step is the newest one
-    pub step_seen : (request : Request) (after : History) → after ≡ histories.longer world (command worker request) → history_of network after ≡ longer now (command worker request)
-    step_seen request after e = ap (history_of network) e ∙ ap (λ z. longer z (command worker request)) seen
-
-    pub step_keeps : (request : Request) (after : History) → IsTrue (request_plain request) → after ≡ histories.longer world (command worker request) → IsConfiguredWorld network after
-    step_keeps request after plain e =
-        subst (IsConfiguredWorld network) (sym e)
-        (record { translatable = keeps.translatable; origin = keeps.origin; plain = All-cons IsPlainStep (command worker request) world.steps plain keeps.plain })
 
 -- ---- kinds of requests
 

@@ -1,10 +1,7 @@
 -- What comes of a history: the steps with their replies, and the live variants.
-use Rattle.std.proofs.Common.{◌≡◌, refl, sym, ap, ◌∙◌, ℕ, zero, suc, ◌+◌, Bool, true, false, List, [], ◌∷◌, ◌++◌, length, length-append, map, take, add-one, Some, arith}
-use Rattle.std.specs.Prelude.{zip, slice_get, option_map, ◌||◌}
-use Rattle.std.specs.List.{list_any}
+use Rattle.std.proofs.Common.{◌≡◌, refl, sym, ap, ◌∙◌, ℕ, ◌+◌, List, [], ◌∷◌, ◌++◌, length, length-append, map, arith}
+use Rattle.std.specs.Prelude.{zip}
 use Rattle.std.proofs.lemmas.List.{map-append}
-use Rattle.std.proofs.lemmas.Slice.Eq.{bytes_eq-Decides}
-use Rattle.grid_ids.specs.Name.{same_id, has_id}
 use Rattle.grid_structure.specs.Network.{Network}
 use Rattle.grid_core.specs.declared.journal.Entry.{Entry}
 use Rattle.grid_core.specs.History.{Command}
@@ -63,25 +60,3 @@ came origin world journal replies workers views is_journal is_replies is_workers
     ∙ ap (with_told (told_steps world.network world.steps) world.workers) is_views
 
 -- ---- variants
-
--- the first so many, and one more
-more : {X Y : Type 0} (f : X → Y) (xs : List X) (k : ℕ) (y : Y) → option_map f (slice_get xs k) ≡ Some y → map f (take (suc k) xs) ≡ map f (take k xs) ++ y ∷ []
-more f [] k y is = cc
-more f (x ∷ xs) zero y is = let same : f x ≡ y = cc in ap (λ z. z ∷ []) same
-more f (x ∷ xs) (suc k) y is = ap (λ ys. f x ∷ ys) (more f xs k y is)
-
-pub one_more : {X Y : Type 0} (f : X → Y) (xs : List X) (k : ℕ) (y : Y) → option_map f (slice_get xs k) ≡ Some y → map f (take (k + 1) xs) ≡ map f (take k xs) ++ y ∷ []
-one_more f xs k y is = rw (add-one k) (more f xs k y is)
-
--- a name that stands in the list is one of its names
-pub stands : (names : List (List ℕ)) (k : ℕ) (name : List ℕ) → slice_get names k ≡ Some name → has_id names name ≡ true
-unfolding has_id
-stands [] k name is = cc
-stands (n ∷ ns) zero name is =
-    let same : n ≡ name = cc in
-    rw (same, (bytes_eq-Decides name name).1 refl) refl
-stands (n ∷ ns) (suc k) name is = either (same_id name n) (stands ns k name is)
-  where
-    either : (b : Bool) → list_any (same_id name) ns ≡ true → (b || list_any (same_id name) ns) ≡ true
-    either true h = refl
-    either false h = h

@@ -6,6 +6,8 @@ use Rattle.std.specs.Option.{option_or}
 use Rattle.std.proofs.lemmas.Bool.{true≢false, eq-eqb}
 use Rattle.std.proofs.lemmas.List.Folds.{find-append}
 use Rattle.std.proofs.lemmas.List.FromFn.{length-range_with_len}
+use Rattle.grid_lemmas.proofs.Lists.{position-cons}
+use Rattle.grid_lemmas.proofs.Options.{none_added}
 use Rattle.grid_ids.specs.Name.{same_id, has_id}
 use Rattle.grid_graph.specs.Components.{places}
 use Rattle.grid_level.specs.declared.Placed.{Placed}
@@ -15,7 +17,8 @@ use Rattle.grid_structure.specs.Network.{Network}
 use Rattle.grid_structure.specs.Sites as sites
 use Rattle.grid_structure.specs.Sites.{levels, level_named, first_found}
 use Rattle.grid_structure.proofs.Counts.{times, times-append, there}
-use Rattle.grid_structure.proofs.Places.{position-cons, position_none, none_position}
+use Rattle.grid_structure.proofs.Places.{position_none, none_position}
+use Rattle.grid_structure.proofs.Homed.{none_there}
 use Rattle.grid_paths.proofs.Least.{some_same, some_none}
 use Rattle.grid_configured.specs.declared.network.BusSwitch.{BusSwitch}
 use Rattle.grid_configured.specs.declared.network.Item.{Item}
@@ -27,7 +30,6 @@ use Rattle.grid_configured.specs.Places.{Outlet, PlacedLevel, PlacesFit}
 use Rattle.grid_configured.specs.Levels.{bus_place, item_outlet, line_outlets, outlets, placed_level, placed_levels}
 use Rattle.grid_configured.specs.Translation.{bus_section, outlet_placed, outlets_at, translated_level}
 use Rattle.grid_configured.proofs.Nodes.{level_nodes}
-use Rattle.grid_configured.proofs.Checked.{absent_by}
 use Rattle.grid_configured.proofs.Located.{placed_test, level_test, found_mapped}
 use Rattle.grid_configured.proofs.Stacked.{Each, each_join}
 use Rattle.grid_configured.proofs.Enlarged.{next_node}
@@ -69,12 +71,8 @@ level_sections id p h =
     or_none None = refl
     or_none (Some x) = refl
 
-none_from : (o : Option ℕ) → option_map (λ k. 0 + k) o ≡ o
-none_from None = refl
-none_from (Some k) = let e : 0 + k ≡ k = omega arith in ap Some e
-
 tests_at : (id : List ℕ) (p : PlacedLevel) → Each (Other id) p.outlets → level_test id 1 p ≡ position (same_id id) p.buses
-tests_at id p h = ap (option_map (λ (p : Placed). p.node)) (level_sections id p h) ∙ section_at id 0 p.buses ∙ none_from (position (same_id id) p.buses)
+tests_at id p h = ap (option_map (λ (p : Placed). p.node)) (level_sections id p h) ∙ section_at id 0 p.buses ∙ none_added (position (same_id id) p.buses)
 
 place_found : (buses : List (List ℕ)) (id : List ℕ) → has_id buses id ≡ true → position (same_id id) buses ≡ Some (bus_place buses id)
 unfolding bus_place has_id
@@ -115,7 +113,7 @@ module _ (n : ConfiguredNetwork) (plain : PlainNetwork n) (bus : List ℕ) (line
       let all = times-append bus (level_ids m) (ids_of ls) in
       let own = times_level bus m in
       let one = there bus m.buses has_m in
-      let items = absent_by bus (map (λ (t : Item). t.id) m.items) (omega (arith, few, all, own, one)) in
+      let items = none_there bus (map (λ (t : Item). t.id) m.items) (omega (arith, few, all, own, one)) in
       let test : level_test bus 1 (placed_level n m) ≡ Some (bus_place l.buses bus) =
       tests_at bus (placed_level n m) (outlets_of n m bus plain p.0 items lines) ∙ ap (position (same_id bus)) (buses_same n m) ∙ place_found m.buses bus has_m ∙ ap (λ (z : ConfiguredLevel). Some (bus_place z.buses bus)) same in
       let zero_more : from ≡ from + 0 = omega arith in
@@ -125,7 +123,7 @@ module _ (n : ConfiguredNetwork) (plain : PlainNetwork n) (bus : List ℕ) (line
       let own = times_level bus m in
       let rest = site_from (from + 1) ls k l p.1 (omega (arith, few, all)) at has in
       let one = rest.0 in
-      let f = fresh_in m bus (absent_by bus (level_ids m) (omega (arith, few, all, one))) in
+      let f = fresh_in m bus (none_there bus (level_ids m) (omega (arith, few, all, one))) in
       let test : level_test bus 1 (placed_level n m) ≡ None =
       tests_at bus (placed_level n m) (outlets_of n m bus plain p.0 f.items lines) ∙ ap (position (same_id bus)) (buses_same n m) ∙ place_absent m.buses bus f.buses in
       let suc_more : from + 1 + k ≡ from + suc k = omega arith in

@@ -4,12 +4,14 @@ use Rattle.std.specs.Prelude.{eqb, nat_lt}
 use Rattle.std.specs.List.{flat_map}
 use Rattle.std.proofs.lemmas.Bool.{both_ways, and_parts, and_from, or_cases, or_left, or_right, lt-ltb, le-ltb, eqb-true, eq-eqb}
 use Rattle.std.proofs.lemmas.List.Concat.{flat_map-append}
+use Rattle.grid_lemmas.proofs.Bools.{same_test}
 use Rattle.grid_graph.specs.Joined.{end_across, neighbours, joined}
 use Rattle.grid_graph.specs.Components.{places}
 use Rattle.grid_graph.specs.Graph.{EndsBelow}
-use Rattle.grid_graph.proofs.Reach.{In, In_parts, In_left, In_right, neighbours_back}
-use Rattle.grid_graph.proofs.Places.{AreBelow, same_test, j_refl, j_near, j_step, j_along}
+use Rattle.grid_graph.proofs.Reach.{In, In_parts, In_right, neighbours_back}
+use Rattle.grid_graph.proofs.Places.{AreBelow, j_refl, j_near, j_step, j_along}
 use Rattle.grid_graph.proofs.Below.{pairs_below}
+use Rattle.grid_graph.proofs.Neighbours.{near_first}
 
 -- ---- neighbours by two lists of pairs
 
@@ -18,12 +20,6 @@ unfolding neighbours
 near_parts first second a c i =
     let P : List ℕ → Type 0 = λ z. In c z in
     In_parts c (flat_map (end_across a) first) (flat_map (end_across a) second) (subst P (flat_map-append (end_across a) first second) i)
-
-pub near_first : (first second : List (ℕ × ℕ)) (a c : ℕ) → In c (neighbours first a) → In c (neighbours (first ++ second) a)
-unfolding neighbours
-near_first first second a c i =
-    let P : List ℕ → Type 0 = λ z. In c z in
-    subst P (sym (flat_map-append (end_across a) first second)) (In_left c (flat_map (end_across a) first) (flat_map (end_across a) second) i)
 
 pub near_second : (first second : List (ℕ × ℕ)) (a c : ℕ) → In c (neighbours second a) → In c (neighbours (first ++ second) a)
 unfolding neighbours

@@ -1,11 +1,13 @@
 -- Networks in which each level stands in a substation of its own, and what edits make of them.
-use Rattle.std.proofs.Common.{◌≡◌, refl, sym, ap, ◌∙◌, subst, ℕ, ◌<◌, Bool, true, false, cond, not, ◌||◌, List, [], ◌∷◌, ◌++◌, length, Ok, inl, inr, arith}
+use Rattle.std.proofs.Common.{◌≡◌, refl, sym, ap, ◌∙◌, subst, ℕ, ◌<◌, Bool, true, false, cond, not, List, [], ◌∷◌, ◌++◌, length, Ok, inl, inr, arith}
 use Rattle.std.specs.Prelude.{ℤ, Some, None, map, filter, find, flat_map, option_map}
 use Rattle.std.proofs.lemmas.Bool.{cases_Bool, or_parts, lt-leb}
 use Rattle.std.proofs.lemmas.List.{append-nil, map-append}
 use Rattle.std.proofs.lemmas.List.Concat.{flat_map-append}
 use Rattle.std.proofs.lemmas.Slice.Eq.{bytes_eq-Decides}
+use Rattle.grid_lemmas.proofs.Bools.{neither}
 use Rattle.grid_ids.specs.Name.{same_id, has_id}
+use Rattle.grid_ids.proofs.Alike.{has_join, same_itself}
 use Rattle.grid_kinds.specs.Records.{level_fault, injection_fault}
 use Rattle.grid_kinds.specs.declared.Injection.{Injection}
 use Rattle.grid_kinds.specs.declared.SwitchKind.{SwitchKind}
@@ -23,8 +25,8 @@ use Rattle.grid_structure.specs.Network.{Network, Substation}
 use Rattle.grid_structure.specs.Sites.{levels, branches, switches, level_named, substation_named, level_ids, switch_ids, single_ids, branch_ids, equipment_ids, all_ids, taken, branch_ends, home_of}
 use Rattle.grid_structure.specs.Editing.{max_levels, max_switches, substation_with_levels, with_levels, with_level, with_substation, place_end, place_ends, refuse_home, with_branch, in_home, apply}
 use Rattle.grid_structure.proofs.Adding.{bare, with_bare, apply_bare}
+use Rattle.grid_structure.proofs.Framing.{put_keeps}
 use Rattle.grid_configured.specs.Translation.{substation_id}
-use Rattle.grid_configured.proofs.Located.{has_join}
 
 -- each item passes
 abbrev pub Each : {X : Type 0} → (X → Type 0) → List X → Type 0
@@ -42,9 +44,6 @@ each_join P (x ∷ xs) ys h k = (h.0, each_join P xs ys h.1 k)
 pub each_same : {X Y : Type 0} (f g : X → Y) (xs : List X) → Each (λ x. f x ≡ g x) xs → map f xs ≡ map g xs
 each_same f g [] h = refl
 each_same f g (x ∷ xs) h = ap (λ y. y ∷ map f xs) h.0 ∙ ap (λ z. g x ∷ z) (each_same f g xs h.1)
-
-pub same_itself : (a : List ℕ) → same_id a a ≡ true
-same_itself a = (bytes_eq-Decides a a).1 refl
 
 pub same_back : (a b : List ℕ) → same_id a b ≡ same_id b a
 same_back a b = by (same_id a b) refl (same_id b a) refl
@@ -135,18 +134,11 @@ at_changed id v vs change keeps at = record {
 abbrev put : VoltageLevel → VoltageLevel → VoltageLevel
 put new v = cond (same_id new.id v.id) new v
 
-put_id : (new v : VoltageLevel) → (put new v).id ≡ v.id
-put_id new v = by (same_id new.id v.id) refl
-  where
-    by : (t : Bool) → same_id new.id v.id ≡ t → (cond t new v).id ≡ v.id
-    by true e = (bytes_eq-Decides new.id v.id).0 e
-    by false e = refl
-
 put_lone : (new : VoltageLevel) (vs : List VoltageLevel) → map (substation_with_levels (put new)) (map lone vs) ≡ map lone (map (put new) vs)
 unfolding lone substation_with_levels
 put_lone new [] = refl
 put_lone new (v ∷ vs) =
-    ap (λ z. record { id = substation_id z; levels = put new v ∷ []; transformers = [] } ∷ map (substation_with_levels (put new)) (map lone vs)) (sym (put_id new v))
+    ap (λ z. record { id = substation_id z; levels = put new v ∷ []; transformers = [] } ∷ map (substation_with_levels (put new)) (map lone vs)) (sym (put_keeps new v))
     ∙ ap (λ z. lone (put new v) ∷ z) (put_lone new vs)
 
 put_on : (id : List ℕ) (change : VoltageLevel → VoltageLevel) (v : VoltageLevel) (vs : List VoltageLevel) → Keeps change → same_id id v.id ≡ true → Each (λ (w : VoltageLevel). same_id id w.id ≡ true → w ≡ v) vs
@@ -180,9 +172,6 @@ module _ (name : List ℕ) (vs : List VoltageLevel) (lines : List NamedBranch) w
 
 -- ---- ids that are not taken
 
-singles_of : List Placed → List (List ℕ)
-singles_of ps = map (λ (p : Placed). p.terminal.equipment) (filter (λ (p : Placed). not (is_branch_end p.stand)) ps)
-
 -- nothing in a level has the id
 pub record Lacks (q : List ℕ) (v : VoltageLevel) : Type 0 where
   pub home : same_id q (substation_id v.id) ≡ false
@@ -193,9 +182,6 @@ pub record Lacks (q : List ℕ) (v : VoltageLevel) : Type 0 where
 pub record Free (vs : List VoltageLevel) (lines : List NamedBranch) (q : List ℕ) : Type 0 where
   pub each : Each (Lacks q) vs
   pub branches : has_id (map (λ (b : NamedBranch). b.id) lines) q ≡ false
-
-neither : (a b : Bool) → a ≡ false → b ≡ false → a || b ≡ false
-neither a b e f = ap (λ t. t || b) e ∙ f
 
 homes_free : (q : List ℕ) (vs : List VoltageLevel) → Each (Lacks q) vs → has_id (map (λ (v : VoltageLevel). substation_id v.id) vs) q ≡ false
 unfolding has_id

@@ -7,6 +7,7 @@ use Rattle.std.proofs.lemmas.List.{map-append}
 use Rattle.std.proofs.lemmas.List.Folds.{list_any-append}
 use Rattle.std.proofs.lemmas.Slice.Eq.{bytes_eq-Decides}
 use Rattle.grid_ids.specs.Name.{same_id, has_id}
+use Rattle.grid_ids.proofs.Alike.{has_join}
 use Rattle.grid_level.specs.declared.Switch.{Switch}
 use Rattle.grid_level.specs.declared.Placed.{Placed}
 use Rattle.grid_level.specs.declared.Terminal.{Terminal}
@@ -24,7 +25,7 @@ use Rattle.grid_configured.specs.Checks.{level_ids, ids_of}
 use Rattle.grid_configured.specs.Places.{Outlet}
 use Rattle.grid_configured.specs.Levels.{bus_place, joint_of, item_outlet, end_outlets, line_outlets, outlets, placed_level, placed_levels}
 use Rattle.grid_configured.specs.Translation.{joint_breaker, breaker_id, outlet_breaker, outlets_at, translated_level, substation_id, substation_of, translated_line, translated}
-use Rattle.grid_configured.proofs.Located.{is_marked, has_join, own_ids, singles, level_singles}
+use Rattle.grid_configured.proofs.Located.{is_marked, own_ids, singles, level_singles}
 use Rattle.grid_configured.proofs.Stacked.{Each, each_join, Lacks, Free, lone, stack, join_free, same_back}
 
 -- ---- ids with the byte of reserved ids

@@ -7,10 +7,12 @@ use Rattle.std.proofs.lemmas.List.{map-append, map-id, length-map, take_at, drop
 use Rattle.std.proofs.lemmas.List.Elements.{filter-append}
 use Rattle.std.proofs.lemmas.List.Folds.{fold-map}
 use Rattle.std.proofs.lemmas.List.Sums.{sum_by-append, sum_by-cons}
+use Rattle.grid_lemmas.proofs.Lists.{map_twice}
 use Rattle.grid_graph.specs.Joined.{joined, is_least, least_nodes, group_of}
 use Rattle.grid_graph.specs.Components.{places}
 use Rattle.grid_graph.proofs.Reach.{In, In_here, In_there}
-use Rattle.grid_graph.proofs.Places.{places_In}
+use Rattle.grid_graph.proofs.Places.{places_In, range_In}
+use Rattle.grid_graph.proofs.Filtered.{counts_none, filters_same}
 use Rattle.grid_level.specs.declared.Placed.{Placed}
 use Rattle.grid_level.specs.declared.Terminal.{Terminal}
 use Rattle.grid_level.specs.declared.Stand.{Stand}
@@ -25,9 +27,9 @@ use Rattle.grid_configured.specs.Places.{Outlet, PlacedLevel, PlacesFit, closed_
 use Rattle.grid_configured.specs.Translation.{bus_section, outlet_placed, outlets_at, translated_level}
 use Rattle.grid_configured.specs.Views.{connects_among, outlets_among, is_view_bus, outlet_watts, configured_bus, configured_view}
 use Rattle.grid_configured.specs.Viewed.{section_total, told_bus, told_view}
-use Rattle.grid_configured.proofs.Nodes.{enumerated, map_map, filter_map_of}
-use Rattle.grid_configured.proofs.Joined.{nodes_joined, buses_joined, places_split, range_bounds, joined_places_alike}
-use Rattle.grid_configured.proofs.Grouped.{filter_same, at_places, at_nodes, sections, feeders, group_is, standing}
+use Rattle.grid_configured.proofs.Nodes.{enumerated, filter_map_of}
+use Rattle.grid_configured.proofs.Joined.{nodes_joined, buses_joined, places_split, joined_places_alike}
+use Rattle.grid_configured.proofs.Grouped.{at_places, at_nodes, sections, feeders, group_is, standing}
 use Rattle.grid_configured.proofs.Counted.{section_places, section_count, view_places}
 
 -- ---- lists
@@ -40,12 +42,6 @@ all_counted : (p : ℕ → Bool) (xs : List ℕ) → ((n : ℕ) → In n xs → 
 all_counted p [] h = refl
 all_counted p (x ∷ xs) h =
     let rest = all_counted p xs (λ n i. h n (In_there n x xs i)) in
-    sum_by-cons (λ y. cond (p y) 1 0) x xs ∙ ap (λ t. cond t 1 0 + count_by p xs) (h x (In_here x xs)) ∙ omega (arith, rest)
-
-none_counted : (p : ℕ → Bool) (xs : List ℕ) → ((n : ℕ) → In n xs → p n ≡ false) → count_by p xs ≡ 0
-none_counted p [] h = refl
-none_counted p (x ∷ xs) h =
-    let rest = none_counted p xs (λ n i. h n (In_there n x xs i)) in
     sum_by-cons (λ y. cond (p y) 1 0) x xs ∙ ap (λ t. cond t 1 0 + count_by p xs) (h x (In_here x xs)) ∙ omega (arith, rest)
 
 zip_mapped : {X Y : Type 0} (f : X → Y) (xs : List X) → zip xs (map f xs) ≡ map (λ x. (x, f x)) xs
@@ -118,7 +114,7 @@ module _ (level : PlacedLevel) (fit : PlacesFit level) where
   unfolding sections
   buses_are a =
       numbered_items (at_places (joined_places level a)) level.buses 0 level.buses (λ k lt. let e : 0 + k ≡ k = omega arith in ap (λ n. get_or level.buses n []) e)
-      ∙ sym (map_map (λ k. slice_index_or level.buses k []) (λ (e : ℕ × List ℕ). e.0) (sections level a))
+      ∙ sym (map_twice (λ k. slice_index_or level.buses k []) (λ (e : ℕ × List ℕ). e.0) (sections level a))
       ∙ ap (map (λ k. slice_index_or level.buses k [])) (section_places level fit a)
 
   bus_total : (a : ℕ) → a < length level.buses → section_total (length level.buses) (group_under bus (translated_level level) a) ≡ length (sections level a)
@@ -130,9 +126,9 @@ module _ (level : PlacedLevel) (fit : PlacesFit level) where
       let one : count_by test (filter (nodes_joined level a) low) ≡ length (filter (nodes_joined level a) low)
       = all_counted test (filter (nodes_joined level a) low) (λ n i. let less = places_In n (length level.buses) (filter_In (nodes_joined level a) n low i) in lt-ltb n (length level.buses) less) in
       let two : count_by test (filter (nodes_joined level a) high) ≡ 0
-      = none_counted test (filter (nodes_joined level a) high) (λ n i. le-ltb n (length level.buses) (range_bounds n (length level.buses) (length level.outlets) (filter_In (nodes_joined level a) n high i)).0) in
+      = counts_none test (filter (nodes_joined level a) high) (λ n i. le-ltb n (length level.buses) (range_In n (length level.buses) (length level.outlets) (filter_In (nodes_joined level a) n high i)).0) in
       let same : filter (nodes_joined level a) low ≡ joined_places level a
-      = filter_same (nodes_joined level a) (joined low (closed_pairs level) a) low (λ n i. joined_places_alike level fit a n lt (places_In n (length level.buses) i)) in
+      = filters_same (nodes_joined level a) (joined low (closed_pairs level) a) low (λ n i. joined_places_alike level fit a n lt (places_In n (length level.buses) i)) in
       let long = ap length same in
       let whole = section_count level fit a in
       ap (count_by test) (group_is level fit a ∙ ap (filter (nodes_joined level a)) (places_split level) ∙ filter-append (nodes_joined level a) low high)
@@ -144,10 +140,10 @@ module _ (level : PlacedLevel) (fit : PlacesFit level) where
   terminals_are a lt =
       ap (map (λ (p : Placed). p.terminal)) (standing level fit a lt)
       ∙ map-append (λ (p : Placed). p.terminal) (map bus_section (sections level a)) (map outlet_placed (feeders level a))
-      ∙ ap (λ z. z ++ map (λ (p : Placed). p.terminal) (map outlet_placed (feeders level a))) (map_map (λ (p : Placed). p.terminal) bus_section (sections level a))
+      ∙ ap (λ z. z ++ map (λ (p : Placed). p.terminal) (map outlet_placed (feeders level a))) (map_twice (λ (p : Placed). p.terminal) bus_section (sections level a))
       ∙ ap (λ z. map (λ (e : ℕ × List ℕ). (bus_section e).terminal) (sections level a) ++ z)
-      (map_map (λ (p : Placed). p.terminal) outlet_placed (feeders level a)
-      ∙ sym (map_map (λ (t : Outlet). t.terminal) (λ (e : ℕ × Outlet). e.1) (feeders level a))
+      (map_twice (λ (p : Placed). p.terminal) outlet_placed (feeders level a)
+      ∙ sym (map_twice (λ (t : Outlet). t.terminal) (λ (e : ℕ × Outlet). e.1) (feeders level a))
       ∙ ap (map (λ (t : Outlet). t.terminal)) (outlets_are a))
 
   sum_is : (test : Stand → Bool) → test Busbar ≡ false → (a : ℕ) → a < length level.buses
@@ -169,7 +165,7 @@ module _ (level : PlacedLevel) (fit : PlacesFit level) where
       let front : map (λ (t : Terminal). t.equipment) (take k (terminals_at (translated_level level) (group_under bus (translated_level level) a))) ≡ map (λ k. slice_index_or level.buses k []) (joined_places level a)
       = ap (λ z. map (λ (t : Terminal). t.equipment) (take k z)) (terminals_are a lt)
       ∙ ap (map (λ (t : Terminal). t.equipment)) (take_at own others k long)
-      ∙ map_map (λ (t : Terminal). t.equipment) (λ (e : ℕ × List ℕ). (bus_section e).terminal) (sections level a)
+      ∙ map_twice (λ (t : Terminal). t.equipment) (λ (e : ℕ × List ℕ). (bus_section e).terminal) (sections level a)
       ∙ buses_are a in
       let back : drop k (terminals_at (translated_level level) (group_under bus (translated_level level) a)) ≡ others = ap (drop k) (terminals_are a lt) ∙ drop_at own others k long in
       let load = sum_is is_load refl a lt in
@@ -181,7 +177,7 @@ module _ (level : PlacedLevel) (fit : PlacesFit level) where
   unfolding told_view bus_view_of configured_view translated_level first_places least_nodes
   view_told =
       ap (λ (z : List ConfiguredBus). record { level = level.id; buses = z })
-      (map_map (told_bus (length level.buses)) (bus_of (translated_level level) (record_watts (translated_level level))) (filter (is_bus (translated_level level)) (leaders bus (translated_level level)))
+      (map_twice (told_bus (length level.buses)) (bus_of (translated_level level) (record_watts (translated_level level))) (filter (is_bus (translated_level level)) (leaders bus (translated_level level)))
       ∙ ap (map (λ a. told_bus (length level.buses) (bus_of (translated_level level) (record_watts (translated_level level)) a))) (view_places level fit)
       ∙ map_In (λ a. told_bus (length level.buses) (bus_of (translated_level level) (record_watts (translated_level level)) a)) (configured_bus level) (filter (is_view_bus level) (first_places level))
       (λ n i. bus_told n (places_In n (length level.buses) (filter_In (is_least (places (length level.buses)) (closed_pairs level)) n (places (length level.buses)) (filter_In (is_view_bus level) n (first_places level) i)))))

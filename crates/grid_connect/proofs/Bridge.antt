@@ -8,10 +8,11 @@ use Rattle.grid_graph.proofs.Reach.{In, In_left, In_right, In_parts, across_from
 use Rattle.grid_level.specs.declared.Switch.{Switch}
 use Rattle.grid_level.specs.declared.Internal.{Internal}
 use Rattle.grid_level.specs.VoltageLevel.{VoltageLevel}
-use Rattle.grid_level.specs.Passing.{Rule, switch_edge, internal_edge, edges, ends, nodes, passing, switch_passes}
+use Rattle.grid_level.specs.Passing.{Rule, switch_edge, internal_edge, edges, ends, passing, switch_passes}
 use Rattle.grid_paths.specs.Paths.{across, visited, last_in}
 use Rattle.grid_paths.proofs.Least.{some_same, some_none, first_edge, begins, got_Member, IsEnd}
 use Rattle.grid_paths.proofs.Routing.{across_ends, across_first, across_second}
+use Rattle.grid_paths.proofs.Shortest.{visits_on}
 use Rattle.grid_connect.specs.Plans.{all_ends}
 
 -- what a rule lets pass at a place of an edge
@@ -104,11 +105,6 @@ pub record Along (rule : Rule) (level : VoltageLevel) (a : ℕ) (visits : List �
   pub path : List ℕ
   pub goes : visited (all_ends level) a path ≡ Some (a ∷ visits)
   pub lets : list_all (lets rule level) path ≡ true
-
-visits_on : (pairs : List (ℕ × ℕ)) (u place v : ℕ) (rest nodes : List ℕ) (pair : ℕ × ℕ) → slice_get pairs place ≡ Some pair → across u pair ≡ Some v
-    → visited pairs v rest ≡ Some nodes → visited pairs u (place ∷ rest) ≡ Some (u ∷ nodes)
-unfolding visited
-visits_on pairs u place v rest nodes pair e f g = rw e (rw f (rw g refl))
 
 pub along_walk : (rule : Rule) (level : VoltageLevel) (a b : ℕ) (visits : List ℕ) → Walk (passing rule level) a b visits → Along rule level a visits × (last_in a visits ≡ b)
 unfolding Walk visited passing edges all_ends lets last_in

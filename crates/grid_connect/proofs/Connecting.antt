@@ -1,12 +1,13 @@
 -- The plan that is computed is the least of all closable paths.
-use Rattle.std.proofs.Common.{◌≡◌, refl, sym, ◌∙◌, subst, ℕ, Bool, true, false, cond, not, ◌&&◌, List, [], ◌∷◌, length, inl, inr, ◌⊎◌}
-use Rattle.std.specs.Prelude.{Option, Some, None, eqb, map, IsTrue}
+use Rattle.std.proofs.Common.{◌≡◌, refl, sym, ◌∙◌, subst, ℕ, Bool, true, false, cond, ◌&&◌, List, [], ◌∷◌, length, inl, inr, ◌⊎◌}
+use Rattle.std.specs.Prelude.{Option, Some, None, eqb, map}
 use Rattle.std.specs.List.{list_any, list_all, flat_map}
-use Rattle.std.proofs.lemmas.Bool.{true≢false, and_parts, eq-eqb}
+use Rattle.std.proofs.lemmas.Bool.{and_parts, eq-eqb}
 use Rattle.std.proofs.lemmas.List.Folds.{list_any-append}
+use Rattle.grid_lemmas.proofs.Bools.{not_if, not_true, or_left, or_right}
 use Rattle.grid_level.specs.VoltageLevel.{VoltageLevel}
 use Rattle.grid_level.specs.Passing.{Edge, edges, ends, both, rising, named, nodes, is_connected, carries_busbar}
-use Rattle.grid_graph.proofs.Reach.{In, In_left, or_left, or_right}
+use Rattle.grid_graph.proofs.Reach.{In, In_left}
 use Rattle.grid_level.proofs.Reading.{among_rising}
 use Rattle.grid_groups.proofs.Indices.{among_In, In_among}
 use Rattle.grid_paths.specs.Paths.{has_node, is_path, last_node, least_path, paths_from}
@@ -54,14 +55,6 @@ unfolding closable_paths
 Member-closable level a path m = filter-Member (is_closable level a) (paths_from (all_ends level) (length (nodes level)) a) path m
 
 -- ---- the plan
-
-not_true : (b : Bool) → b ≡ false → IsTrue (not b)
-not_true false e = refl
-not_true true e = absurd (true≢false e)
-
-not_if : (b : Bool) → (b ≡ true → ⊥) → IsTrue (not b)
-not_if false f = refl
-not_if true f = absurd (f refl)
 
 along_is_plan : (level : VoltageLevel) (a : ℕ) (o : Option (List ℕ)) → is_connected level a ≡ false
     → LeastOf (is_open level) (closable_paths level a) o → IsConnectPlan level a (plan_along (is_open level) o)

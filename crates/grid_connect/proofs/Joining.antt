@@ -2,9 +2,10 @@
 use Rattle.std.proofs.Common.{◌≡◌, refl, sym, ap, ◌∙◌, subst, ℕ, ◌+◌, Bool, true, false, cond, not, ◌&&◌, ◌||◌, List, [], ◌∷◌, length, arith}
 use Rattle.std.specs.Prelude.{Option, Some, None, eqb, slice_get, unwrap_or, count_by}
 use Rattle.std.specs.List.{list_all, IsDistinct, AllByRecursion}
-use Rattle.std.proofs.lemmas.Bool.{false≢true, true≢false, and_parts, and_from, not-true}
-use Rattle.std.proofs.lemmas.List.Sums.{sum_by-cons}
+use Rattle.std.proofs.lemmas.Bool.{false≢true, and_parts, and_from, not-true}
 use Rattle.std.proofs.lemmas.Map.Keys.{IsDistinct-head, IsDistinct-tail}
+use Rattle.grid_lemmas.proofs.Bools.{not_false}
+use Rattle.grid_lemmas.proofs.Counts.{count_cons}
 use Rattle.grid_graph.specs.Joined.{joined}
 use Rattle.grid_graph.proofs.Reach.{In, In_here, In_there, any_from, any_of, within_Walk, Walk_within, simple_from, Holds, within_saturates, visited_in}
 use Rattle.grid_level.specs.declared.Switch.{Switch}
@@ -22,28 +23,21 @@ pub all_from : (p q : ℕ → Bool) → ((n : ℕ) → p n ≡ true → q n ≡ 
 all_from p q f [] h = refl
 all_from p q f (x ∷ xs) h = let parts = and_parts (p x) (list_all p xs) h in and_from (q x) (list_all q xs) (f x parts.0) (all_from p q f xs parts.1)
 
-count_by_cons : (p : ℕ → Bool) (x : ℕ) (xs : List ℕ) → count_by p (x ∷ xs) ≡ cond (p x) 1 0 + count_by p xs
-count_by_cons p x xs = sum_by-cons (λ y. cond (p y) 1 0) x xs
-
 none_by : (t : Bool) (n : ℕ) → cond t 1 0 + n ≡ 0 → (t ≡ false) × (n ≡ 0)
 none_by true n h = absurd (omega (arith, h))
 none_by false n h = (refl, omega (arith, h))
 
-not_false' : (t : Bool) → t ≡ false → not t ≡ true
-not_false' true h = absurd (true≢false h)
-not_false' false h = refl
-
 pub none_counted : (p : ℕ → Bool) (xs : List ℕ) → count_by p xs ≡ 0 → list_all (λ n. not (p n)) xs ≡ true
 none_counted p [] h = refl
 none_counted p (x ∷ xs) h =
-    let parts = none_by (p x) (count_by p xs) (sym (count_by_cons p x xs) ∙ h) in
-    and_from (not (p x)) (list_all (λ n. not (p n)) xs) (not_false' (p x) parts.0) (none_counted p xs parts.1)
+    let parts = none_by (p x) (count_by p xs) (sym (count_cons p x xs) ∙ h) in
+    and_from (not (p x)) (list_all (λ n. not (p n)) xs) (not_false (p x) parts.0) (none_counted p xs parts.1)
 
 pub counted_none : (p : ℕ → Bool) (xs : List ℕ) → list_all (λ n. not (p n)) xs ≡ true → count_by p xs ≡ 0
 counted_none p [] h = refl
 counted_none p (x ∷ xs) h =
     let parts = and_parts (not (p x)) (list_all (λ n. not (p n)) xs) h in
-    count_by_cons p x xs ∙ ap (λ t. cond t 1 0 + count_by p xs) (not-true (p x) parts.0) ∙ (let r = counted_none p xs parts.1 in omega (arith, r))
+    count_cons p x xs ∙ ap (λ t. cond t 1 0 + count_by p xs) (not-true (p x) parts.0) ∙ (let r = counted_none p xs parts.1 in omega (arith, r))
 
 -- ---- what the bus rule lets pass is closed
 
@@ -51,7 +45,7 @@ closed_by : (o b : Bool) → not o && b ≡ true → not o ≡ true
 closed_by true b h = h
 closed_by false b h = refl
 
-may_by : (o b : Bool) → not o ≡ true → not o || b ≡ true
+pub may_by : (o b : Bool) → not o ≡ true → not o || b ≡ true
 may_by true b h = absurd (false≢true h)
 may_by false b h = refl
 
@@ -65,7 +59,7 @@ unfolding lets_at switch_passes passes_closed opened_at
 closed_lets (Some s) h = and_from (not s.opened) true h refl
 closed_lets None h = refl
 
-closed_may : (o : Option Switch) → not (opened_at o) ≡ true → closable_at o ≡ true
+pub closed_may : (o : Option Switch) → not (opened_at o) ≡ true → closable_at o ≡ true
 unfolding closable_at opened_at
 closed_may (Some s) h = may_by s.opened (is_operable s) h
 closed_may None h = refl
@@ -80,7 +74,7 @@ absent_has n (m ∷ ns) h = rw h.0 (absent_has n ns h.1)
 pub differ_of : (ns : List ℕ) → IsDistinct eqb ns → all_differ ns ≡ true
 unfolding all_differ
 differ_of [] h = refl
-differ_of (n ∷ ns) h = and_from (not (has_node ns n)) (all_differ ns) (not_false' (has_node ns n) (absent_has n ns (IsDistinct-head eqb n ns h))) (differ_of ns (IsDistinct-tail eqb n ns h))
+differ_of (n ∷ ns) h = and_from (not (has_node ns n)) (all_differ ns) (not_false (has_node ns n) (absent_has n ns (IsDistinct-head eqb n ns h))) (differ_of ns (IsDistinct-tail eqb n ns h))
 
 last_is : (a : ℕ) (visits : List ℕ) → In (last_in a visits) (a ∷ visits)
 unfolding last_in

@@ -8,4 +8,3 @@ pub mod Moving
 pub mod Parting
 pub mod Planned
 pub mod Planning
-pub mod Nodes

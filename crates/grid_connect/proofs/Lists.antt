@@ -1,7 +1,7 @@
 -- The lists that the code makes.
-use Rattle.std.proofs.Common.{◌≡◌, refl, sym, ap, ◌∙◌, subst, ℕ, zero, suc, ◌+◌, ◌<◌, ◌≤◌, Bool, true, false, cond, ◌&&◌, ◌||◌, List, [], ◌∷◌, ◌++◌, length, inl, inr, arith, take, get_or, append_assoc, set, get_or-set_same, get_or-set_other, replicate, length-append}
+use Rattle.std.proofs.Common.{◌≡◌, refl, sym, ap, ◌∙◌, subst, ℕ, zero, suc, ◌+◌, ◌<◌, ◌≤◌, Bool, true, false, cond, ◌&&◌, ◌||◌, List, [], ◌∷◌, ◌++◌, length, inl, inr, arith, take, get_or, replicate, length-append}
 use Rattle.std.proofs.Math.ListN.{get_or-replicate, length-replicate, get_or-eq_default}
-use Rattle.std.proofs.lemmas.Bool.{cases_eq, cases_lt, eq-eqb, ne_eqb, false≢true, and_parts}
+use Rattle.std.proofs.lemmas.Bool.{cases_eq, cases_lt, eq-eqb, ne_eqb, and_parts}
 use Rattle.std.specs.Prelude.{eqb, slice_get, map, filter}
 use Rattle.std.specs.List.{list_any, list_all, slice_index_or}
 use Rattle.std.proofs.lemmas.List.{take_more, map-append, take_all, length-map}
@@ -13,6 +13,7 @@ use Rattle.grid_level.specs.declared.Placed.{Placed}
 use Rattle.grid_level.specs.VoltageLevel.{VoltageLevel}
 use Rattle.grid_level.specs.Passing.{switch_edge, internal_edge, edges, ends, nodes, positioned, with_opened, is_operable, is_busbar, stands_at, carries_busbar}
 use Rattle.grid_level.specs.Kept.{KeepsLimits, among, ends_among}
+use Rattle.grid_level.proofs.Positions.{length_opened}
 use Rattle.grid_groups.specs.Labels.{index_in}
 use Rattle.grid_groups.proofs.Indices.{among_In, index_below, index_apart}
 use Rattle.grid_groups.proofs.Standing.{nodes-positioned}
@@ -46,13 +47,6 @@ made_edges level flags e =
     ∙ ap (λ z. z ++ map (path_edge ns) (map internal_edge level.internals)) (placed_by ns level.switches flags e)
     ∙ ap (λ z. switch_path_edges ns level.switches flags ++ z) (internals_by ns level.internals)
 
-pub internal_more : (ns : List ℕ) (front : List PathEdge) (ins : List Internal) (i : ℕ) (d : Internal) → i < length ins
-    → front ++ map (internal_path_edge ns) (take (i + 1) ins) ≡ (front ++ map (internal_path_edge ns) (take i ins)) ++ internal_path_edge ns (get_or ins i d) ∷ []
-internal_more ns front ins i d lt =
-    ap (λ z. front ++ map (internal_path_edge ns) z) (take_more ins i d lt)
-    ∙ ap (λ z. front ++ z) (map-append (internal_path_edge ns) (take i ins) (get_or ins i d ∷ []))
-    ∙ sym (append_assoc front (map (internal_path_edge ns) (take i ins)) (internal_path_edge ns (get_or ins i d) ∷ []))
-
 -- the ends are indices
 edges_below : (ns : List ℕ) (ss : List Switch) (flags : List Bool) (is : List Internal) → length flags ≡ length ss
     → list_all (ends_among ns) (map switch_edge ss ++ map internal_edge is) ≡ true → EndsBelow (switch_path_edges ns ss flags ++ map (internal_path_edge ns) is) (length ns)
@@ -77,12 +71,6 @@ ends_below level flags made keeps e h =
     let P : List PathEdge → Type 0 = λ z. EndsBelow z (length (nodes level)) in
     subst P (sym (h ∙ made_edges level flags e)) (edges_below (nodes level) level.switches flags level.internals e keeps.ends_are_nodes)
 
-length_opened : (sw : List Switch) (flags : List Bool) → length (with_opened sw flags) ≡ length sw
-unfolding with_opened
-length_opened [] flags = refl
-length_opened (s ∷ sw) [] = refl
-length_opened (s ∷ sw) (f ∷ flags) = ap suc (length_opened sw flags)
-
 pub few_edges : (level : VoltageLevel) (flags : List Bool) (made : List PathEdge) → KeepsLimits level → made ≡ path_edges_of (positioned level flags) → length made ≤ 4096
 unfolding path_edges_of positioned edges
 few_edges level flags made keeps e =
@@ -106,20 +94,6 @@ bars_positioned level flags marks h n i =
 or_false : (t : Bool) → t ≡ t || false
 or_false true = refl
 or_false false = refl
-
-or_true : (t : Bool) → true ≡ t || true
-or_true true = refl
-or_true false = refl
-
-pub set_mark : (marks : List Bool) (i n : ℕ) (b : Bool) → b ≡ true → i < length marks → is_goal (set marks i true) n ≡ is_goal marks n || (eqb i n && b)
-set_mark marks i n true e lt = elim (cases_eq n i) [
-  | inl g ↦ (
-      let P : ℕ → Type 0 = λ z. is_goal (set marks i true) z ≡ is_goal marks z || (eqb i z && true) in
-      subst P (sym g) (get_or-set_same marks i true false lt ∙ or_true (is_goal marks i) ∙ ap (λ t. is_goal marks i || (t && true)) (sym (eq-eqb i i refl)))
-      )
-  | inr ne ↦ get_or-set_other marks i n true false ne ∙ or_false (is_goal marks n) ∙ ap (λ t. is_goal marks n || (t && true)) (sym (ne_eqb i n (λ e. ne (sym e))))
-]
-set_mark marks i n false e lt = absurd (false≢true e)
 
 pub marks_none : (n u : ℕ) → is_goal (replicate n false) u ≡ false
 marks_none n u = elim (cases_lt u n) [ inl h ↦ get_or-replicate n u false false h | inr h ↦ get_or-eq_default (replicate n false) false (rw (length-replicate n false) h) ]

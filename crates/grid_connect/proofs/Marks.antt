@@ -5,17 +5,18 @@ use Rattle.std.specs.List.{list_any, zip}
 use Rattle.std.proofs.lemmas.Bool.{false≢true, or_cases, and_parts, and_from, eqb-true, eq-eqb}
 use Rattle.std.proofs.lemmas.Slice.Zip.{length-zip}
 use Rattle.std.proofs.lemmas.List.{get_or-map, length-map}
+use Rattle.grid_lemmas.proofs.Bools.{or_left, or_right, same_test}
 use Rattle.grid_graph.specs.Joined.{joined}
 use Rattle.grid_graph.specs.Graph.{labels_of}
 use Rattle.grid_graph.proofs.Renamed.{EndsIn}
-use Rattle.grid_graph.proofs.Reach.{In, In_here, In_there, In_right, any_from, any_of, or_left, or_right}
+use Rattle.grid_graph.proofs.Reach.{In, In_here, In_there, In_right, any_from, any_of}
 use Rattle.grid_level.specs.declared.Switch.{Switch}
 use Rattle.grid_level.specs.declared.Placed.{Placed}
 use Rattle.grid_level.specs.VoltageLevel.{VoltageLevel}
 use Rattle.grid_level.specs.Passing.{Rule, bus, core, named, nodes, passing, positioned, joined_under, is_connected, carries_busbar, is_busbar, is_operable, stands_at}
 use Rattle.grid_level.specs.Kept.{KeepsLimits}
 use Rattle.grid_groups.specs.Labels.{index_in, graph_under, label_of, labels_where, passing_where}
-use Rattle.grid_groups.proofs.Lists.{same_test, In_filtered}
+use Rattle.grid_groups.proofs.Lists.{In_filtered}
 use Rattle.grid_groups.proofs.Indices.{at_index, index_below}
 use Rattle.grid_groups.proofs.Bridge.{labels_long, same_label}
 use Rattle.grid_groups.proofs.Standing.{nodes-positioned, passing_core, passing_ends}

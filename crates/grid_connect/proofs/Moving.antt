@@ -1,16 +1,17 @@
 -- A level with named switches in another position.
 use Rattle.std.proofs.Common.{◌≡◌, refl, sym, ap, ◌∙◌, subst, ℕ, zero, suc, ◌+◌, Bool, true, false, cond, not, ◌||◌, List, [], ◌∷◌, ◌++◌, inl, inr, ◌⊎◌, arith}
-use Rattle.std.specs.Prelude.{Option, Some, None, eqb, slice_get, map, filter}
+use Rattle.std.specs.Prelude.{Some, eqb, slice_get, map, filter}
 use Rattle.std.specs.List.{list_any, list_all, flat_map}
-use Rattle.std.proofs.lemmas.Bool.{false≢true, true≢false, and_from, cases_Bool, eq-eqb}
+use Rattle.std.proofs.lemmas.Bool.{false≢true, and_from, cases_Bool, eq-eqb}
+use Rattle.grid_lemmas.proofs.Bools.{not_false}
 use Rattle.grid_graph.proofs.Reach.{In}
 use Rattle.grid_level.specs.declared.Switch.{Switch}
 use Rattle.grid_level.specs.VoltageLevel.{VoltageLevel}
 use Rattle.grid_level.specs.Passing.{Edge, switch_edge, internal_edge, edges, ends, both, rising, named, nodes, is_connected, carries_busbar}
 use Rattle.grid_paths.specs.Paths.{has_node, visited, last_in}
-use Rattle.grid_connect.specs.Plans.{all_ends, opened_at, is_open, closable_at, may_be_closed, is_closable}
+use Rattle.grid_connect.specs.Plans.{all_ends, opened_at, is_open, may_be_closed, is_closable}
 use Rattle.grid_connect.specs.Effects.{moved, with_moved, Connects}
-use Rattle.grid_connect.proofs.Joining.{all_from, clear_connected, parts_of, closable_of, counted_none}
+use Rattle.grid_connect.proofs.Joining.{all_from, clear_connected, parts_of, closable_of, counted_none, closed_may}
 use Rattle.grid_connect.proofs.Planning.{plan_with, LeastClosable}
 
 -- ---- what stays
@@ -66,10 +67,6 @@ shut_at places k (s ∷ sw) (suc p) h =
     let P : ℕ → Type 0 = λ z. (has_node places z ≡ true) ⊎ (opened_at (slice_get sw p) ≡ false) in
     shut_at places (k + 1) sw p (subst P e h)
 
-not_from : (t : Bool) → t ≡ false → not t ≡ true
-not_from true h = absurd (true≢false h)
-not_from false h = refl
-
 kept_there : (t : Bool) (x m : ℕ) (kept : List ℕ) → has_node kept m ≡ true → has_node (cond t (x ∷ kept) kept) m ≡ true
 unfolding has_node
 kept_there true x m kept h = by (eqb m x)
@@ -90,21 +87,12 @@ unfolding is_open with_moved
 all_shut level places [] h = refl
 all_shut level places (p ∷ rest) h =
     and_from (not (is_open (with_moved places false level) p)) (list_all (λ p. not (is_open (with_moved places false level) p)) rest)
-    (not_from _ (shut_at places 0 level.switches p (here (cases_Bool (is_open level p)))))
+    (not_false _ (shut_at places 0 level.switches p (here (cases_Bool (is_open level p)))))
     (all_shut level places rest (λ m k. h m (kept_there (is_open level p) p m (filter (is_open level) rest) k)))
   where
     here : (is_open level p ≡ true) ⊎ (is_open level p ≡ false) → (has_node places (0 + p) ≡ true) ⊎ (opened_at (slice_get level.switches p) ≡ false)
     here (inl e) = inl (let z : p ≡ 0 + p = omega arith in let P : ℕ → Type 0 = λ n. has_node places n ≡ true in subst P z (h p (kept_here (is_open level p) p (filter (is_open level) rest) e)))
     here (inr e) = inr e
-
-shut_may_by : (o b : Bool) → not o ≡ true → not o || b ≡ true
-shut_may_by true b h = absurd (false≢true h)
-shut_may_by false b h = refl
-
-shut_may : (o : Option Switch) → not (opened_at o) ≡ true → closable_at o ≡ true
-unfolding closable_at opened_at
-shut_may (Some s) h = shut_may_by s.opened _ h
-shut_may None h = refl
 
 -- once the open switches of a closable path are closed, the node is connected
 pub closing_connects : (level : VoltageLevel) (a : ℕ) (path : List ℕ) → In a (nodes level) → is_closable level a path ≡ true → is_connected (with_moved (filter (is_open level) path) false level) a ≡ true
@@ -120,7 +108,7 @@ closing_connects level a path i c =
       path = path;
       closable = closable_of level' a (last_in a p.visits) path p.visits (subst Q (sym (all_ends_stay places false level)) p.goes) p.differ refl
           (carries_stays places false level (last_in a p.visits) ∙ p.carries)
-          (all_from (λ n. not (is_open level' n)) (may_be_closed level') (λ n k. shut_may (slice_get level'.switches n) k) path shut);
+          (all_from (λ n. not (is_open level' n)) (may_be_closed level') (λ n k. closed_may (slice_get level'.switches n) k) path shut);
       none = counted_none (is_open level') path shut;
     })
 

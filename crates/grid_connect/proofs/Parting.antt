@@ -1,10 +1,11 @@
 -- Once the switches that leave the core are opened, the node is joined to no busbar section.
 use Rattle.std.proofs.Common.{◌≡◌, refl, sym, ap, ◌∙◌, subst, ℕ, zero, suc, ◌+◌, ◌<◌, Bool, true, false, cond, not, ◌&&◌, ◌||◌, List, [], ◌∷◌, ◌++◌, length, inl, inr, ◌⊎◌, arith}
-use Rattle.std.specs.Prelude.{Option, Some, None, eqb, slice_get, map, filter, find, IsTrue}
+use Rattle.std.specs.Prelude.{Option, Some, None, eqb, slice_get, map, filter, find}
 use Rattle.std.specs.List.{list_any, enumerate_from}
 use Rattle.std.proofs.lemmas.Bool.{false≢true, true≢false, both_ways, or_cases, and_parts, eqb-true, eq-eqb}
+use Rattle.grid_lemmas.proofs.Bools.{not_if, or_left, or_right}
 use Rattle.grid_graph.specs.Joined.{neighbours, joined}
-use Rattle.grid_graph.proofs.Reach.{In, any_from, or_left, or_right, Walk, Walk_within, within_saturates, within_step, within_here, joined_trans, joined_refl}
+use Rattle.grid_graph.proofs.Reach.{In, any_from, Walk, Walk_within, within_saturates, within_step, within_here, joined_trans, joined_refl}
 use Rattle.grid_level.specs.declared.Switch.{Switch}
 use Rattle.grid_level.specs.declared.Placed.{Placed}
 use Rattle.grid_level.specs.VoltageLevel.{VoltageLevel}
@@ -241,10 +242,6 @@ none_moved o level = ap (λ z. record level { switches = z }) (no_move o 0 level
 some_opened : (level : VoltageLevel) (a : ℕ) (places : List ℕ) → is_connected level a ≡ true → (is_connected (with_moved places true level) a ≡ true → ⊥) → 0 < length places
 some_opened level a [] c h = absurd (h (let P : VoltageLevel → Type 0 = λ z. is_connected z a ≡ true in subst P (sym (none_moved true level)) c))
 some_opened level a (p ∷ ps) c h = omega arith
-
-not_if : (t : Bool) → (t ≡ true → ⊥) → IsTrue (not t)
-not_if true h = absurd (h refl)
-not_if false h = refl
 
 parts_by : (level : VoltageLevel) (a : ℕ) (o : Option Placed) → In a (nodes level) → is_connected level a ≡ true → core_busbar level (core_of level a) ≡ o
     → Disconnects level a (opens_or (leaving level (core_of level a)) o)

@@ -3,7 +3,7 @@ use Rattle.std.proofs.Common.{◌≡◌, refl, sym, ap, ◌∙◌, subst, ℕ, z
 use Rattle.std.specs.Prelude.{Option, Some, None, slice_get, map, filter, IsTrue, count_by}
 use Rattle.std.specs.List.{list_all}
 use Rattle.std.proofs.lemmas.Bool.{false≢true, both_ways, and_parts, and_from, not-true, lt-ltb}
-use Rattle.std.proofs.lemmas.List.Sums.{sum_by-cons}
+use Rattle.grid_lemmas.proofs.Counts.{count_cons}
 use Rattle.grid_graph.proofs.Reach.{In}
 use Rattle.grid_level.specs.declared.Switch.{Switch}
 use Rattle.grid_level.specs.declared.Internal.{Internal}
@@ -111,9 +111,6 @@ passes_all level (p ∷ rest) a visits e h =
     let parts = and_parts (may_be_closed level p) (list_all (may_be_closed level) rest) h in
     and_from (passes (path_edges_of level) p) (list_all (passes (path_edges_of level)) rest) (may_passes (nodes level) level.switches level.internals p f.pair f.at parts.0)
     (passes_all level rest f.next b.0 (f.goes ∙ ap Some b.1) parts.1)
-
-count_cons : (p : ℕ → Bool) (x : ℕ) (xs : List ℕ) → count_by p (x ∷ xs) ≡ cond (p x) 1 0 + count_by p xs
-count_cons p x xs = sum_by-cons (λ y. cond (p y) 1 0) x xs
 
 count_same : (level : VoltageLevel) (path : List ℕ) → list_all (passes (path_edges_of level)) path ≡ true → count_by (costs (path_edges_of level)) path ≡ count_by (is_open level) path
 unfolding passes costs is_open path_edges_of edges

@@ -27,7 +27,8 @@ use Rattle.grid_core.specs.Fitting.{RowsFit}
 use Rattle.grid_core.specs.Verdicts.{asks, puts, step_of, put_reply, names_of, IsFound, operating, connect_verdict, disconnect_verdict}
 use Rattle.grid_core.proofs.Asking.{connect_refused, disconnect_refused, connect_found, disconnect_found, bus_breaker_reply, bus_reply, components_reply, bus_breaker_nowhere, bus_nowhere, components_nowhere}
 use Rattle.grid_core.proofs.Planned.{connect_places, disconnect_places}
-use Rattle.grid_core.proofs.Flagging.{got_within, refused_events}
+use Rattle.grid_core.proofs.Flagging.{refused_events}
+use Rattle.std.proofs.lemmas.Option.{slice_get_within}
 
 -- a refusal tells nothing
 refused_is : (state : State) (r : Request) (refusal : Refusal) → asks r ≡ true → solo state r ≡ (state, replies.Refused refusal) → IsFound state r (verdicts.Stays (replies.Refused refusal))
@@ -56,7 +57,7 @@ module _ (state : State) (id : List ℕ) (side : ℤ) (at : ℕ × ℕ) (level :
     asking = refl;
     made = connect_found state id side at level h k ∙ ap (connected state at.0 level) planned
         ∙ ap (λ (o : Option VoltageLevel). (with_all_opened state at.0 places false, replies.Closed (names_of o places))) (sym k);
-    fits = (refl, got_within (levels state.structure) at.0 level k, connect_places state.structure state.opened at.0 level at.1 places fit k planned);
+    fits = (refl, slice_get_within (levels state.structure) at.0 level k, connect_places state.structure state.opened at.0 level at.1 places fit k planned);
   }
   connect_is connects.AlreadyConnected planned v = record { asking = refl; made = connect_found state id side at level h k ∙ ap (connected state at.0 level) planned; fits = refl }
   connect_is connects.NoPath planned v = record { asking = refl; made = connect_found state id side at level h k ∙ ap (connected state at.0 level) planned; fits = refl }
@@ -67,7 +68,7 @@ module _ (state : State) (id : List ℕ) (side : ℤ) (at : ℕ × ℕ) (level :
     asking = refl;
     made = disconnect_found state id side at level h k ∙ ap (disconnected state at.0 level) planned
         ∙ ap (λ (o : Option VoltageLevel). (with_all_opened state at.0 places true, replies.Opened (names_of o places))) (sym k);
-    fits = (refl, got_within (levels state.structure) at.0 level k, disconnect_places state.structure state.opened at.0 level at.1 places fit k planned);
+    fits = (refl, slice_get_within (levels state.structure) at.0 level k, disconnect_places state.structure state.opened at.0 level at.1 places fit k planned);
   }
   disconnect_is disconnects.AlreadyDisconnected planned v = record { asking = refl; made = disconnect_found state id side at level h k ∙ ap (disconnected state at.0 level) planned; fits = refl }
   disconnect_is (disconnects.NoBreaker terminal) planned v = record { asking = refl; made = disconnect_found state id side at level h k ∙ ap (disconnected state at.0 level) planned; fits = refl }

@@ -2,6 +2,7 @@
 use Rattle.std.proofs.Common.{◌≡◌, refl, sym, ap, ◌∙◌, subst, ℕ, ◌<◌, Bool, true, false, List, [], ◌∷◌, length, replicate, Some}
 use Rattle.std.specs.Prelude.{slice_get, slice_set}
 use Rattle.grid_ids.specs.Name.{same_id}
+use Rattle.grid_ids.proofs.Alike.{same_is}
 use Rattle.grid_structure.specs.Network.{Network}
 use Rattle.grid_slots.specs.declared.slots.Variant.{Variant}
 use Rattle.grid_slots.specs.declared.slots.Cloned.{Cloned}
@@ -9,7 +10,6 @@ use Rattle.grid_slots.specs.Variants.{slot_of, slots, numbers_differ, without_va
 use Rattle.grid_slots.specs.Answers.{IsClone}
 use Rattle.grid_slots.specs.Names.{initial_state, max_variants}
 use Rattle.grid_slots.specs.Places.{variant}
-use Rattle.grid_slots.proofs.Order.{same_is}
 use Rattle.grid_powers.specs.Listed.{PowerList}
 use Rattle.grid_core.specs.Solo.{powers_of, opening, after, solo}
 use Rattle.grid_core.specs.History.{Command, lineage}

@@ -1,11 +1,11 @@
 -- The slots at which live variants stand are marked, and what is marked of a list is changed.
-use Rattle.std.proofs.Common.{◌≡◌, ◌≢◌, refl, sym, ap, ◌∙◌, subst, ℕ, zero, suc, ◌+◌, ◌<◌, Bool, true, false, cond, List, [], ◌∷◌, length, take, get_or, set, Option, Some, None, inl, inr, ◌⊎◌, arith, add-one, get_or-set_same, get_or-set_other, length-set}
+use Rattle.std.proofs.Common.{◌≡◌, refl, sym, ap, ◌∙◌, ℕ, zero, suc, ◌+◌, ◌<◌, Bool, true, false, cond, List, [], ◌∷◌, length, take, get_or, set, Some, inl, inr, arith, add-one}
 use Rattle.std.specs.Prelude.{slice_get, option_map}
-use Rattle.std.proofs.lemmas.Bool.{cases_eq, cases_Bool}
+use Rattle.std.proofs.lemmas.Bool.{cases_Bool}
 use Rattle.grid_ids.specs.Name.{same_id}
+use Rattle.grid_ids.proofs.Alike.{same_is}
 use Rattle.grid_slots.specs.declared.slots.Variant.{Variant}
 use Rattle.grid_slots.specs.Variants.{names, slot_of}
-use Rattle.grid_slots.proofs.Order.{same_is}
 use Rattle.grid_core.specs.Edits.{marked_changed}
 use Rattle.grid_core.proofs.ByNumber.{none_slotted}
 use Rattle.grid_core.proofs.Holding.{slot_next}
@@ -24,39 +24,6 @@ slot_place (v ∷ vs) name slot e = elim (cases_Bool (same_id name v.name)) [
 -- the slots of the first names are marked
 abbrev pub MarksFirst : List Variant → ℕ → List Bool → Type 0
 MarksFirst vs count marks = (k slot : ℕ) → k < count → slot_of vs (get_or (names vs) k []) ≡ Some slot → slot < length marks → get_or marks slot false ≡ true
-
-pub none_marked : (vs : List Variant) (marks : List Bool) → MarksFirst vs 0 marks
-none_marked vs marks k slot lt = absurd (omega (arith, lt))
-
-some_is : (x y : ℕ) → ◌≡◌ {A = Option ℕ} (Some x) (Some y) → x ≡ y
-some_is x y e = cc
-
--- the next name's slot is marked
-pub next_marked : (vs : List Variant) (count : ℕ) (marks : List Bool) (name : List ℕ) (slot : ℕ) → MarksFirst vs count marks → get_or (names vs) count [] ≡ name → slot_of vs name ≡ Some slot
-    → MarksFirst vs (count + 1) (set marks slot true)
-next_marked vs count marks name slot before named at k other lt e less =
-    let within : other < length marks = omega (arith, less, length-set marks slot true) in
-    elim (cases_eq other slot) [
-      | inl same ↦ (let P : ℕ → Type 0 = λ z. get_or (set marks slot true) z false ≡ true in
-          subst P (sym same) (get_or-set_same marks slot true false (omega (arith, within, same))))
-      | inr apart ↦ get_or-set_other marks slot other true false apart ∙ before k other (earlier (cases_eq k count) apart) e within
-    ]
-  where
-    earlier : (k ≡ count) ⊎ (k ≢ count) → other ≢ slot → k < count
-    earlier (inl same) apart =
-        let P : ℕ → Type 0 = λ z. slot_of vs (get_or (names vs) z []) ≡ Some other in
-        absurd (apart (some_is other slot (sym (subst P same e) ∙ ap (slot_of vs) named ∙ at)))
-    earlier (inr ne) apart = omega (arith, ne, lt)
-
--- where the next name has none, nothing has to be
-pub none_next : (vs : List Variant) (count : ℕ) (marks : List Bool) (name : List ℕ) → MarksFirst vs count marks → get_or (names vs) count [] ≡ name → slot_of vs name ≡ None → MarksFirst vs (count + 1) marks
-none_next vs count marks name before named none k other lt e less = before k other (earlier (cases_eq k count)) e less
-  where
-    earlier : (k ≡ count) ⊎ (k ≢ count) → k < count
-    earlier (inl same) =
-        let P : ℕ → Type 0 = λ z. slot_of vs (get_or (names vs) z []) ≡ Some other in
-        absurd (cc (subst P same e, ap (slot_of vs) named ∙ none))
-    earlier (inr ne) = omega (arith, ne, lt)
 
 -- all are
 pub all_marked : (vs : List Variant) (count : ℕ) (marks : List Bool) → MarksFirst vs count marks → length vs ≡ count → (name : List ℕ) (slot : ℕ) → slot_of vs name ≡ Some slot → slot < length marks → get_or marks slot false ≡ true

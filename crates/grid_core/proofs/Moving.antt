@@ -2,7 +2,8 @@
 use Rattle.std.proofs.Common.{◌≡◌, refl, sym, ap, ◌∙◌, subst, ℕ, true, List, [], ◌∷◌, map, Option, Some, All}
 use Rattle.std.specs.Prelude.{Ok, option_map, slice_get}
 use Rattle.std.proofs.lemmas.List.Elements.{All-map, All-weaker}
-use Rattle.std.proofs.lemmas.Option.{slice_get-map}
+use Rattle.std.proofs.lemmas.Option.{slice_get-map, slice_get_within}
+use Rattle.grid_lemmas.proofs.Lists.{map_alike}
 use Rattle.grid_kinds.specs.declared.Injection.{Injection}
 use Rattle.grid_level.specs.declared.Placed.{Placed}
 use Rattle.grid_level.specs.declared.Stand.{Stand}
@@ -31,7 +32,7 @@ use Rattle.grid_core.proofs.Naming.{slot_live}
 use Rattle.grid_core.proofs.Stepping.{Edited}
 use Rattle.grid_core.proofs.Listing.{told}
 use Rattle.grid_core.proofs.Making.{slots_live}
-use Rattle.grid_core.proofs.Flagging.{got_within, got_is}
+use Rattle.grid_core.proofs.Flagging.{got_is}
 
 -- the present structure is sound
 pub present_sound : (origin : Network) (steps : List Command) (m : Machine) → Held origin steps m → IsSound m.structure
@@ -63,7 +64,7 @@ module _ (origin : Network) (before : List Command) (m : Machine) (h : Held orig
       let was : slot_of m.slots u ≡ Some slot = sym (slots_same u) ∙ at in
       let mine = told origin before u in
       let there : slice_get m.powers.items slot ≡ Some mine = h.powers u slot was in
-      let below = got_within m.powers.items slot mine there in
+      let below = slice_get_within m.powers.items slot mine there in
       let is = got_is m.powers.items slot mine mine there in
       let alive : is_live before u ≡ true = sym (slots_live origin before m u h) ∙ slot_live m.slots u slot was in
       let sums : IsSummed new (edit_moved m.structure edit mine) =
@@ -72,10 +73,6 @@ module _ (origin : Network) (before : List Command) (m : Machine) (h : Held orig
       ∙ ap (λ (z : PowerList). Some z) (summed_is new (edit_moved m.structure edit mine) sums ∙ sym (ap powers_of (e.each u alive)))
 
 -- ---- the kinds of edits
-
-all_alike : {X Y : Type 0} (f g : X → Y) → ((x : X) → f x ≡ g x) → (xs : List X) → map f xs ≡ map g xs
-all_alike f g same [] = refl
-all_alike f g same (x ∷ xs) = ap (λ y. y ∷ map f xs) (same x) ∙ ap (λ ys. g x ∷ ys) (all_alike f g same xs)
 
 all_stay : {X : Type 0} (f : X → X) → ((x : X) → f x ≡ x) → (xs : List X) → map f xs ≡ xs
 all_stay f same [] = refl
@@ -94,7 +91,7 @@ module _ (edit : Edit) (id : List ℕ) (item : Injection) (brings : BringsInject
   pub injection_brought : (net : Network) (stand : Stand) (now : List PowerList) → stand ≡ Feeder item → now ≡ map (gained id stand) kept → now ≡ map (edit_moved net edit) kept
   injection_brought net stand now stands is =
       is ∙ ap (λ (s : Stand). map (gained id s) kept) stands
-      ∙ all_alike (gained id (Feeder item)) (edit_moved net edit) (λ p. sym (injection_moved net id brings.0 brings.1.0 item p) ∙ ap (λ (e : Edit). edit_moved net e p) (sym brings.1.1)) kept
+      ∙ map_alike (gained id (Feeder item)) (edit_moved net edit) (λ p. sym (injection_moved net id brings.0 brings.1.0 item p) ∙ ap (λ (e : Edit). edit_moved net e p) (sym brings.1.1)) kept
 
   pub injection_narrow : (stand : Stand) → stand ≡ Feeder item → All (λ (p : PowerList). is_narrow (watts_for p.listed id stand) ≡ true) kept → All (λ (p : PowerList). BringsNarrow edit p.listed) kept
   injection_narrow stand stands all =
@@ -104,7 +101,7 @@ module _ (edit : Edit) (id : List ℕ) (item : Injection) (brings : BringsInject
 module _ (edit : Edit) (id : List ℕ) (removes : edit ≡ edits.RemoveEquipment id) (kept : List PowerList) where
   pub equipment_taken : (net : Network) (found : Option Placed) (now : List PowerList) → found ≡ powered net id → now ≡ map (lost id found) kept → now ≡ map (edit_moved net edit) kept
   equipment_taken net found now there is =
-      is ∙ all_alike (lost id found) (edit_moved net edit) (λ p. sym (removal_moved net id p found (sym there)) ∙ ap (λ (e : Edit). edit_moved net e p) (sym removes)) kept
+      is ∙ map_alike (lost id found) (edit_moved net edit) (λ p. sym (removal_moved net id p found (sym there)) ∙ ap (λ (e : Edit). edit_moved net e p) (sym removes)) kept
 
   pub equipment_narrow : All (λ (p : PowerList). BringsNarrow edit p.listed) kept
   equipment_narrow = subst (λ (e : Edit). All (λ (p : PowerList). BringsNarrow e p.listed) kept) (sym removes) (λ k d below. tt)

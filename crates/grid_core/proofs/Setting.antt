@@ -29,8 +29,9 @@ use Rattle.grid_core.proofs.Stepping.{Switched, switched_step}
 use Rattle.grid_core.proofs.Listing.{powers_set}
 use Rattle.grid_core.proofs.Together.{parts_powered, reply_live}
 use Rattle.grid_core.proofs.Making.{makes}
-use Rattle.grid_core.proofs.Flagging.{of_variant, working_of, got_within, got_is, refused_events, variant_reply, stays, stays_powered}
+use Rattle.grid_core.proofs.Flagging.{of_variant, working_of, got_is, refused_events, variant_reply, stays, stays_powered}
 use Rattle.grid_core.proofs.Moving.{present_sound, summed_is}
+use Rattle.std.proofs.lemmas.Option.{slice_get_within}
 
 -- ---- the machine of one variant
 
@@ -106,7 +107,7 @@ module _ (m : Machine) (worker slot : ℕ) (v : List ℕ) (works : WorksOn m wor
             let does = asked state false s.structure_is s.powers now in
             let alive : is_live before (working before worker) ≡ true = ap (is_live before) same ∙ s.alive in
             let switched = subst (λ (n : List ℕ). Switched origin before (command worker (requests.SetPower id new)) n) same (switched_step origin before worker (requests.SetPower id new) refl alive) in
-            let own : IsSummed m.structure powers = subst (IsSummed m.structure) (sym held) (h.summed slot powers (got_within m.powers.items slot (powers_of state) s.powers)) in
+            let own : IsSummed m.structure powers = subst (IsSummed m.structure) (sym held) (h.summed slot powers (slice_get_within m.powers.items slot (powers_of state) s.powers)) in
             let sums = set_summed m.structure id p new powers (present_sound origin before m h) found few own in
             let parts = parts_powered origin before (command worker (requests.SetPower id new)) v m.structure m.slots m.retained.items m.working.items switched (ap (λ (z : State × Reply). z.0.opened) does) (ap (λ (z : State × Reply). z.0.retained) does) h.parts in
             let lists = powers_set origin before (command worker (requests.SetPower id new)) v m.slots m.powers.items slot (set_to id p new powers) switched table.differ at.0

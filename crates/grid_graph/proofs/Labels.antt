@@ -2,10 +2,11 @@
 use Rattle.std.proofs.Common.{true, false, inl, inr, ◌≡◌, sym, ◌∙◌, ℕ, ◌<◌, List, length, get_or, arith}
 use Rattle.std.specs.Prelude.{eqb}
 use Rattle.std.proofs.lemmas.Bool.{both_ways, cases_Bool, eqb-true, eq-eqb}
+use Rattle.grid_lemmas.proofs.Bools.{same_test}
 use Rattle.grid_graph.specs.Joined.{is_least}
 use Rattle.grid_graph.specs.Components.{places}
 use Rattle.grid_graph.specs.Graph.{Graph, joined_in, least_joined, labels_of}
-use Rattle.grid_graph.proofs.Places.{AreBelow, In_places, same_test}
+use Rattle.grid_graph.proofs.Places.{AreBelow, In_places}
 use Rattle.grid_graph.proofs.Least.{least_is_least, least_below, least_le, least_same, joined_from_least}
 use Rattle.grid_graph.proofs.Leading.{none_joined, least_apart_from}
 use Rattle.grid_graph.proofs.Counts.{at_place, long_places}

@@ -1,10 +1,11 @@
 -- Least nodes lead groups.
-use Rattle.std.proofs.Common.{◌≡◌, refl, sym, ap, subst, ℕ, suc, ◌+◌, ◌<◌, ◌≤◌, Bool, true, false, cond, not, ◌&&◌, List, [], ◌∷◌, length, get_or, Some, inl, inr, arith}
+use Rattle.std.proofs.Common.{◌≡◌, refl, sym, ap, subst, ℕ, suc, ◌+◌, ◌<◌, ◌≤◌, Bool, true, false, cond, ◌&&◌, List, [], ◌∷◌, length, get_or, Some, inl, inr, arith}
 use Rattle.std.specs.Prelude.{eqb, filter, nat_lt, slice_get}
 use Rattle.std.specs.List.{list_any, flat_map}
 use Rattle.std.specs.List.Sorted.{IsStrictlyIncreasing}
-use Rattle.std.proofs.lemmas.Bool.{false≢true, both_ways, or_cases, cases_Bool, cases_eq, cases_lt, eqb-true, lt-ltb, ltb-true}
+use Rattle.std.proofs.lemmas.Bool.{false≢true, both_ways, or_cases, cases_Bool, cases_eq, cases_lt, eqb-true, lt-ltb, ltb-true, not-true}
 use Rattle.std.proofs.lemmas.List.Kept.{AllPairs-from_increasing}
+use Rattle.grid_lemmas.proofs.Bools.{not_false}
 use Rattle.grid_graph.specs.Joined.{end_across, neighbours, joined, is_least, least_nodes, group_of}
 use Rattle.grid_graph.specs.Laws.{EndsAmong}
 use Rattle.grid_graph.proofs.Reach.{In, In_here, In_there, In_parts, across_from, Holds, any_from, any_of, joined_symm, joined_trans, joined_refl}
@@ -81,14 +82,6 @@ least_of p (x ∷ xs) b rise i h = elim (cases_Bool (p x)) [
 
 -- ---- least nodes
 
-not_any : (t : Bool) → not t ≡ true → t ≡ false
-not_any true e = sym e
-not_any false e = refl
-
-any_not : (t : Bool) → t ≡ false → not t ≡ true
-any_not true e = sym e
-any_not false e = refl
-
 and_false : (s t : Bool) → s && t ≡ false → s ≡ true → t ≡ false
 and_false true t e h = e
 and_false false t e h = absurd (false≢true h)
@@ -104,7 +97,7 @@ none_of p xs x none i = elim (cases_Bool (p x)) [ inl h ↦ absurd (both_ways _ 
 pub least_apart_from : (nodes : List ℕ) (pairs : List (ℕ × ℕ)) (a b : ℕ) → is_least nodes pairs a ≡ true → In b nodes → b < a → joined nodes pairs a b ≡ false
 unfolding is_least
 least_apart_from nodes pairs a b least i lt =
-    and_false (nat_lt b a) (joined nodes pairs a b) (none_of (λ c. nat_lt c a && joined nodes pairs a c) nodes b (not_any _ least) i) (lt-ltb b a lt)
+    and_false (nat_lt b a) (joined nodes pairs a b) (none_of (λ c. nat_lt c a && joined nodes pairs a c) nodes b (not-true _ least) i) (lt-ltb b a lt)
 
 -- what is joined to no lesser node is a least node
 pub none_joined : (nodes : List ℕ) (pairs : List (ℕ × ℕ)) (a : ℕ) → ((c : ℕ) → In c nodes → joined nodes pairs a c ≡ true → a ≤ c) → is_least nodes pairs a ≡ true
@@ -115,7 +108,7 @@ none_joined nodes pairs a least = elim (cases_Bool (list_any (λ c. nat_lt c a &
       let less : r.0 < a = ltb-true r.0 a parts.0 in
       let more : a ≤ r.0 = least r.0 r.1 parts.1 in
       absurd (omega (arith, less, more)))
-  | inr h ↦ any_not _ h
+  | inr h ↦ not_false _ h
 ]
 
 pub first_least : (nodes : List ℕ) (pairs : List (ℕ × ℕ)) (a : ℕ) → IsStrictlyIncreasing nodes → In a (least_nodes nodes pairs) → slice_get (group_of nodes pairs a) 0 ≡ Some a

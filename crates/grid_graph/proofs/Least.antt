@@ -5,9 +5,10 @@ use Rattle.std.specs.List.{list_any, range_with_len, IsDistinct}
 use Rattle.std.proofs.lemmas.Bool.{false≢true, both_ways, cases_eq, or_cases, eqb-true}
 use Rattle.std.proofs.lemmas.List.Sums.{length-filter}
 use Rattle.std.proofs.lemmas.Map.Made.{length-le_from_is_member}
+use Rattle.grid_lemmas.proofs.Bools.{or_left}
 use Rattle.grid_graph.specs.Joined.{joined, group_of}
 use Rattle.grid_graph.specs.Components.{places}
-use Rattle.grid_graph.proofs.Reach.{In, In_there, eqb_laws, or_left}
+use Rattle.grid_graph.proofs.Reach.{In, In_there, eqb_laws}
 use Rattle.grid_graph.proofs.Places.{AreBelow, j_refl, j_symm, j_same, j_below, In_places}
 use Rattle.grid_graph.specs.Graph.{Graph}
 use Rattle.grid_graph.specs.Graph.{joined_in, least_joined, count_joined}

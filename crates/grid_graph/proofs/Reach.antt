@@ -1,13 +1,14 @@
 -- Nodes joined by pairs: joined is an equivalence, and as many steps as there are nodes reach whatever can be reached.
-use Rattle.std.proofs.Common.{◌≡◌, refl, sym, ap, ◌∙◌, subst, ℕ, zero, suc, ◌+◌, ◌-◌, ◌≤◌, Bool, true, false, cond, ◌||◌, List, [], ◌∷◌, ◌++◌, length, inl, inr, arith, ◌⊎◌}
+use Rattle.std.proofs.Common.{◌≡◌, refl, sym, ap, ◌∙◌, subst, ℕ, zero, suc, ◌+◌, ◌-◌, ◌≤◌, Bool, true, false, cond, List, [], ◌∷◌, ◌++◌, length, inl, inr, arith, ◌⊎◌}
 use Rattle.std.specs.List.{list_any, flat_map, IsDistinct, AllByRecursion}
 use Rattle.std.specs.Cmp.{IsEquivalence}
 use Rattle.std.specs.Prelude.{eqb}
-use Rattle.std.proofs.lemmas.Bool.{or_cases, eqb-true, eqb-false, eq-eqb, ne_eqb, false≢true, true≢false, cases_Bool}
+use Rattle.std.proofs.lemmas.Bool.{or_cases, eqb-true, eqb-false, eq-eqb, ne_eqb, false≢true, cases_Bool}
 use Rattle.std.proofs.lemmas.List.Folds.{list_any-append}
 use Rattle.std.proofs.lemmas.Map.Made.{length-le_from_is_member}
 use Rattle.std.proofs.lemmas.Map.Keys.{IsDistinct-cons, IsDistinct-tail}
 use Rattle.std.proofs.Math.Nat.{add-suc, add-zero}
+use Rattle.grid_lemmas.proofs.Bools.{not_either, or_left, or_right}
 use Rattle.grid_graph.specs.Joined.{end_across, neighbours, within, joined}
 
 pub empty_distinct : IsDistinct eqb []
@@ -18,14 +19,6 @@ empty_distinct = tt
 
 abbrev pub In : ℕ → List ℕ → Type 0
 In c xs = list_any (eqb c) xs ≡ true
-
-pub or_left : (a b : Bool) → a ≡ true → a || b ≡ true
-or_left true b h = refl
-or_left false b h = absurd (false≢true h)
-
-pub or_right : (a b : Bool) → b ≡ true → a || b ≡ true
-or_right true b h = refl
-or_right false b h = h
 
 pub In_here : (x : ℕ) (xs : List ℕ) → In x (x ∷ xs)
 In_here x xs = or_left _ _ (eq-eqb x x refl)
@@ -169,10 +162,6 @@ cut pairs a b c (v ∷ vs) w d i = elim (or_cases (eqb a c) (list_any (eqb a) (v
   | inl e ↦ cut_here pairs a b c (v ∷ vs) (eqb-true a c e) w d
   | inr e ↦ cut pairs a b v vs w.1 (IsDistinct-tail eqb c (v ∷ vs) d) e
 ]
-
-not_either : (a b : Bool) → a || b ≡ false → (a ≡ false) × (b ≡ false)
-not_either true b h = absurd (true≢false h)
-not_either false b h = (refl, h)
 
 pub absent : (a : ℕ) (xs : List ℕ) → list_any (eqb a) xs ≡ false → AllByRecursion (λ y. eqb a y ≡ false) xs
 absent a [] h = tt

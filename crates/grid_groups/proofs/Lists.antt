@@ -3,17 +3,13 @@ use Rattle.std.proofs.Common.{◌≡◌, refl, sym, ap, ◌∙◌, subst, ℕ, z
 use Rattle.std.specs.Prelude.{eqb, map, filter, slice_get}
 use Rattle.std.specs.List.{list_any, filter_map, range_with_len}
 use Rattle.std.proofs.lemmas.Bool.{or_cases, eqb-true, false≢true}
+use Rattle.grid_lemmas.proofs.Bools.{or_left, same_test}
 use Rattle.grid_graph.specs.Components.{places}
 use Rattle.std.proofs.lemmas.Option.{slice_get-get_or}
-use Rattle.grid_graph.proofs.Reach.{In, In_here, In_there, or_left}
+use Rattle.grid_graph.proofs.Reach.{In, In_here, In_there}
 use Rattle.grid_graph.proofs.Places.{places_In}
 use Rattle.grid_graph.proofs.Least.{In_filter}
 use Rattle.grid_groups.specs.Labels.{items_at}
-
-pub same_test : (x y : Bool) → (x ≡ true → y ≡ true) → (y ≡ true → x ≡ true) → x ≡ y
-same_test true y f g = sym (f refl)
-same_test false true f g = g refl
-same_test false false f g = refl
 
 -- ---- what passes a test
 
@@ -22,10 +18,6 @@ filter_same p q [] h = refl
 filter_same p q (x ∷ xs) h =
     ap (λ t. cond t (x ∷ filter p xs) (filter p xs)) (h 0 x (omega arith))
     ∙ ap (λ z. cond (q x) (x ∷ z) z) (filter_same p q xs (λ i d lt. h (suc i) d (omega arith)))
-
-pub map_same : {X Y : Type 0} (f g : X → Y) (xs : List X) → ((i : ℕ) (d : X) → i < length xs → f (get_or xs i d) ≡ g (get_or xs i d)) → map f xs ≡ map g xs
-map_same f g [] h = refl
-map_same f g (x ∷ xs) h = ap (λ z. z ∷ map f xs) (h 0 x (omega arith)) ∙ ap (λ z. g x ∷ z) (map_same f g xs (λ i d lt. h (suc i) d (omega arith)))
 
 passed_by : {X : Type 0} (P : X → Type 0) (p : X → Bool) (x : X) (xs : List X) (t : Bool) → p x ≡ t → ((x : X) → p x ≡ true → P x) → ((i : ℕ) (d : X) → i < length (filter p xs) → P (get_or (filter p xs) i d))
     → (i : ℕ) (d : X) → i < length (cond t (x ∷ filter p xs) (filter p xs)) → P (get_or (cond t (x ∷ filter p xs) (filter p xs)) i d)

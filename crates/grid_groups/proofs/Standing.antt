@@ -3,6 +3,7 @@ use Rattle.std.proofs.Common.{◌≡◌, refl, ap, ◌∙◌, subst, ℕ, Bool, 
 use Rattle.std.specs.Prelude.{map, filter, ◌==◌}
 use Rattle.std.specs.List.{list_any, list_all, flat_map, zip}
 use Rattle.std.proofs.lemmas.Bool.{and_parts}
+use Rattle.grid_lemmas.proofs.Bools.{and_true}
 use Rattle.grid_graph.proofs.Reach.{In}
 use Rattle.grid_graph.proofs.Renamed.{EndsIn}
 use Rattle.grid_level.specs.declared.Switch.{Switch}
@@ -38,7 +39,7 @@ nodes-stood level opened retained =
 
 -- ---- passing
 
-abbrev marked : List Switch → List Bool → List (ℕ × ℕ)
+abbrev pub marked : List Switch → List Bool → List (ℕ × ℕ)
 marked ss flags = map (λ pair. ends (switch_edge pair.0)) (filter (λ pair. pair.1) (zip ss flags))
 
 abbrev tested : (Switch → Bool) → List Switch → List (ℕ × ℕ)
@@ -53,10 +54,6 @@ one_more test now was ss os flag flags e t h = ap (λ z. map (λ s. ends (switch
         ≡ map (λ (pair : Switch × Bool). ends (switch_edge pair.0)) (cond u ((was, flag) ∷ filter (λ (pair : Switch × Bool). pair.1) (zip ss flags)) (filter (λ (pair : Switch × Bool). pair.1) (zip ss flags)))
     by true = ap (λ z. z ∷ tested test os) e ∙ ap (λ z. ends (switch_edge was) ∷ z) h
     by false = h
-
-and_true : (t : Bool) → t && true ≡ t
-and_true true = refl
-and_true false = refl
 
 bus_marked : (ss : List Switch) (opened : List Bool) → length opened ≡ length ss → tested (switch_passes bus) (with_opened ss opened) ≡ marked ss (map not opened)
 unfolding with_opened switch_passes passes_closed ends

@@ -7,6 +7,7 @@ use Rattle.std.proofs.lemmas.Bool.{and_parts, and_from}
 use Rattle.std.proofs.lemmas.Option.{slice_get_read}
 use Rattle.std.proofs.lemmas.List.{append-nil, map-append, take_more}
 use Rattle.std.proofs.lemmas.List.Elements.{filter_more, filter-append, filter_map-append}
+use Rattle.grid_lemmas.proofs.Ranges.{range_more}
 use Rattle.grid_graph.specs.Components.{places}
 use Rattle.grid_level.specs.declared.Switch.{Switch}
 use Rattle.grid_level.specs.declared.Internal.{Internal}
@@ -54,10 +55,6 @@ items_more xs ks i x lt e =
     ∙ ap (λ z. filter_map (slice_get xs) (take i ks) ++ z) (rw e refl)
 
 -- ---- places that pass
-
-range_more : (a n j : ℕ) → a + n ≡ j → range_with_len a (suc n) ≡ range_with_len a n ++ j ∷ []
-range_more a zero j e = let same : a ≡ j = omega (arith, e) in ap (λ z. z ∷ []) same
-range_more a (suc n) j e = ap (λ z. a ∷ z) (range_more (a + 1) n j (omega (arith, e)))
 
 pub places_more : (n : ℕ) → places (n + 1) ≡ places n ++ n ∷ []
 unfolding places

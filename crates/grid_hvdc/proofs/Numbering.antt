@@ -1,23 +1,22 @@
 -- Lists of components, and which buses have one component's number.
-use Rattle.std.proofs.Common.{◌≡◌, refl, sym, ap, ◌∙◌, subst, ℕ, suc, ◌+◌, ◌<◌, true, List, [], ◌∷◌, ◌++◌, length, get_or, map, arith}
-use Rattle.std.specs.Prelude.{eqb, zip, flat_map, count_by}
+use Rattle.std.proofs.Common.{◌≡◌, refl, sym, ap, ◌∙◌, ℕ, suc, ◌+◌, ◌<◌, true, List, [], ◌∷◌, ◌++◌, length, get_or, map, arith}
+use Rattle.std.specs.Prelude.{eqb, zip, count_by}
 use Rattle.std.specs.List.{range_with_len}
 use Rattle.std.proofs.lemmas.Bool.{eqb-true, eq-eqb}
 use Rattle.std.proofs.lemmas.List.Elements.{All-append}
-use Rattle.std.proofs.lemmas.Grind.{flat_map-append}
 use Rattle.std.proofs.lemmas.List.FromFn.{length-range_with_len, get_or-range_with_len}
-use Rattle.grid_graph.specs.Joined.{joined, end_across, neighbours}
+use Rattle.grid_graph.specs.Joined.{joined}
 use Rattle.grid_graph.specs.Components.{places, component_of, component_number, component_numbers}
 use Rattle.grid_graph.specs.Graph.{graph, joined_in, EndsBelow}
 use Rattle.grid_graph.proofs.Below.{pairs_below}
-use Rattle.grid_graph.proofs.Counts.{at_place, long_places}
 use Rattle.grid_graph.proofs.Places.{AreBelow, j_refl, j_below, j_step, j_along}
-use Rattle.grid_graph.proofs.Reach.{In, In_left}
+use Rattle.grid_graph.proofs.Neighbours.{near_first}
 use Rattle.grid_components.specs.Ranks.{is_key}
 use Rattle.grid_islands.proofs.Sized.{number_below, same_number, size_as}
 use Rattle.grid_islands.specs.Islands.{component_at}
 use Rattle.grid_hvdc.specs.declared.numbers.Component.{Component}
 use Rattle.grid_hvdc.specs.Numbers.{hvdc_number, sized, sized_at, SynchronousAreConnected, SynchronousIsTold}
+use Rattle.grid_islands.proofs.Numbers.{numbers_long}
 
 -- ---- two lists side by side
 
@@ -35,25 +34,12 @@ abbrev build : ℕ → ℕ → Component
 build x y = record { number = x; size = y }
 
 module _ (count : ℕ) (pairs : List (ℕ × ℕ)) (ends : EndsBelow pairs count) where
-  pub numbers_long : (numbers : List ℕ) → numbers ≡ component_numbers count pairs → length numbers ≡ count
-  unfolding component_numbers
-  numbers_long numbers e = long_places count (component_number count pairs) numbers e
-
-  pub numbers_below : (numbers : List ℕ) → numbers ≡ component_numbers count pairs → (k : ℕ) → k < length numbers → get_or numbers k 0 < length numbers
-  unfolding component_numbers
-  numbers_below numbers e k lt =
-      let less : k < count = omega (arith, lt, numbers_long numbers e) in
-      omega (arith, at_place count (component_number count pairs) numbers k e less, numbers_long numbers e, number_below (graph count pairs) (pairs_below count pairs ends) k less)
-
-  number_at : (numbers : List ℕ) (v : ℕ) → numbers ≡ component_numbers count pairs → v < count → get_or numbers v 0 ≡ component_number count pairs v
-  unfolding component_numbers
-  number_at numbers v e lt = at_place count (component_number count pairs) numbers v e lt
 
   size_at : (numbers sizes : List ℕ) (v : ℕ) → numbers ≡ component_numbers count pairs → ((s : ℕ) → s < length numbers → get_or sizes s 0 ≡ count_by (is_key s) numbers)
       → v < count → get_or sizes (component_number count pairs v) 0 ≡ length (component_of count pairs v)
   size_at numbers sizes v e each lt =
       let fit = pairs_below count pairs ends in
-      each (component_number count pairs v) (omega (arith, number_below (graph count pairs) fit v lt, numbers_long numbers e))
+      each (component_number count pairs v) (omega (arith, number_below (graph count pairs) fit v lt, numbers_long count pairs ends numbers e))
       ∙ ap (count_by (is_key (component_number count pairs v))) e ∙ size_as (graph count pairs) fit v lt
 
   at_each : (n low k d : ℕ) → k < length (range_with_len low n) → get_or (range_with_len low n) k d < low + n
@@ -70,12 +56,6 @@ module _ (count : ℕ) (pairs : List (ℕ × ℕ)) (ends : EndsBelow pairs count
 
 -- ---- buses of one component
 
-neighbour_of_more : (first others : List (ℕ × ℕ)) (a c : ℕ) → In c (neighbours first a) → In c (neighbours (first ++ others) a)
-unfolding neighbours
-neighbour_of_more first others a c i =
-    let P : List ℕ → Type 0 = λ z. In c z in
-    subst P (sym (flat_map-append (end_across a) first others)) (In_left c (flat_map (end_across a) first) (flat_map (end_across a) others) i)
-
 pub ends_of_both : (count : ℕ) (first others : List (ℕ × ℕ)) → EndsBelow first count → EndsBelow others count → EndsBelow (first ++ others) count
 ends_of_both count first others f g = All-append (λ pair. (pair.0 < count) × (pair.1 < count)) first others f g
 
@@ -83,7 +63,7 @@ ends_of_both count first others f g = All-append (λ pair. (pair.0 < count) × (
 joined_by_more : (count : ℕ) (first others : List (ℕ × ℕ)) → AreBelow count first → AreBelow count (first ++ others) → (a b : ℕ) → a < count → joined (places count) first a b ≡ true → joined (places count) (first ++ others) a b ≡ true
 joined_by_more count first others fit more a b lt h =
     j_along count first fit (joined (places count) (first ++ others) a)
-    (λ x c p i. j_step count (first ++ others) more a x c lt (j_below count (first ++ others) more a x lt p) p (neighbour_of_more first others x c i))
+    (λ x c p i. j_step count (first ++ others) more a x c lt (j_below count (first ++ others) more a x lt p) p (near_first first others x c i))
     a b (j_refl count (first ++ others) more a) h
 
 pub same_component : SynchronousAreConnected

@@ -1,9 +1,10 @@
 -- Where converter stations stand, and in which buses.
-use Rattle.std.proofs.Common.{◌≡◌, refl, sym, ap, ◌∙◌, ℕ, zero, suc, pos, ◌<◌, Bool, true, false, cond, ◌&&◌, List, [], ◌∷◌, length, get_or, arith, Option, Some, None}
+use Rattle.std.proofs.Common.{◌≡◌, refl, sym, ap, ◌∙◌, ℕ, pos, ◌<◌, Bool, true, false, cond, ◌&&◌, List, [], ◌∷◌, length, get_or, Option, Some, None}
 use Rattle.std.specs.Prelude.{eqb, flat_map, position, slice_get, option_and_then}
 use Rattle.std.specs.Option.{option_map}
 use Rattle.std.proofs.lemmas.List.Elements.{All-nil, All-cons, All-append}
 use Rattle.std.proofs.lemmas.Option.{slice_get_within}
+use Rattle.grid_lemmas.proofs.Lists.{none_past}
 use Rattle.grid_graph.specs.Graph.{EndsBelow}
 use Rattle.grid_level.specs.VoltageLevel.{VoltageLevel}
 use Rattle.grid_level.specs.Passing.{nodes}
@@ -69,11 +70,6 @@ unfolding number_of_station
 numbered_by net rows id at level e found = rw (at_site (station_of net id) at e, found) refl
 
 -- ---- by the buses of the network
-
-none_past : {X : Type 0} (xs : List X) (k : ℕ) → k < length xs → slice_get xs k ≡ None → ⊥
-none_past [] k lt e = omega arith
-none_past (x ∷ xs) zero lt e = cc
-none_past (x ∷ xs) (suc k) lt e = none_past xs k (omega arith) e
 
 module _ (net : Network) (opened retained : List (List Bool)) where
   spot_at : (k n : ℕ) (level : VoltageLevel) → slice_get (levels net) k ≡ Some level

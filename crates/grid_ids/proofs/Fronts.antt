@@ -42,11 +42,6 @@ shifted c a b = sym (nat_cmp_is (c + a) (c + b) (nat_cmp a b) (moved (nat_cmp a 
 greater : (p x y a b : ℕ) → a < p → x < y → x * p + a < y * p + b
 greater p x y a b fit less = let most = mul-le (suc x) p y p (omega arith) (omega arith) in omega (arith, most)
 
-decided : (x y : ℕ) (rest : Ordering) (r : Ordering) → r ≡ nat_cmp x y → x ≢ y → ordering_then (nat_cmp x y) rest ≡ r
-decided x y rest Less e n = ap (λ o. ordering_then o rest) (sym e)
-decided x y rest Greater e n = ap (λ o. ordering_then o rest) (sym e)
-decided x y rest Equal e n = absurd (n (ranked x y Equal e))
-
 told_heads : (p x y a b : ℕ) (rest : Ordering) → a < p → b < p → x * p + a ≢ y * p + b → (a ≢ b → nat_cmp a b ≡ rest) → nat_cmp (x * p + a) (y * p + b) ≡ ordering_then (nat_cmp x y) rest
 told_heads p x y a b rest first second differ same = by (nat_cmp x y) refl
   where
@@ -72,10 +67,6 @@ told (suc n) (x ∷ xs) [] first second differ =
     let none = front_none (suc n) in sym (nat_cmp_is (front_bytes (suc n) (x ∷ xs)) (front_bytes (suc n) []) Greater (omega (arith, none, differ)))
 told (suc n) (x ∷ xs) (y ∷ ys) first second differ =
     told_heads (256 ^ n) x y (front_bytes n xs) (front_bytes n ys) (slice_cmp nat_cmp xs ys) (front_fits n xs (behind (x ∷ xs) first)) (front_fits n ys (behind (y ∷ ys) second)) differ (told n xs ys (behind (x ∷ xs) first) (behind (y ∷ ys) second))
-
-next_byte : (xs : List ℕ) (k : ℕ) → get_or (drop 1 xs) k 0 ≡ get_or xs (suc k) 0
-next_byte [] k = refl
-next_byte (x ∷ xs) k = refl
 
 -- one byte more
 pub front_more : (n k : ℕ) (xs : List ℕ) → front_bytes (suc n) (drop k xs) ≡ get_or xs k 0 * 256 ^ n + front_bytes n (drop (suc k) xs)

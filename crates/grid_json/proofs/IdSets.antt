@@ -6,10 +6,10 @@ use Rattle.std.specs.List.{list_any}
 use Rattle.std.specs.Ordering.{is_eq, nat_cmp}
 use Rattle.std.specs.Str.{bytes_eq}
 use Rattle.std.proofs.lemmas.Bool.{false≢true, false_from_ne_true}
-use Rattle.std.proofs.lemmas.List.Folds.{list_any-append}
 use Rattle.std.proofs.lemmas.Map.Text.{is_eq-slice_cmp}
 use Rattle.std.proofs.lemmas.Slice.Eq.{bytes_eq-Decides}
 use Rattle.grid_ids.specs.Name.{has_id}
+use Rattle.grid_ids.proofs.Alike.{has_join}
 use Rattle.grid_json.specs.Seen.{Knows}
 
 -- ---- the order of the operands
@@ -23,12 +23,8 @@ same_flip a b = by (bytes_eq a b) refl
 
 -- ---- lists with the same ids
 
-pub has-append : (ids more : List (List ℕ)) (q : List ℕ) → has_id (ids ++ more) q ≡ (has_id ids q || has_id more q)
-unfolding has_id
-has-append ids more q = list_any-append (bytes_eq q) ids more
-
 pub knows-append : (seen ids more : List (List ℕ)) → Knows seen ids → Knows (seen ++ more) (ids ++ more)
-knows-append seen ids more k q = has-append seen more q ∙ ap (λ t. t || has_id more q) (k q) ∙ sym (has-append ids more q)
+knows-append seen ids more k q = has_join seen more q ∙ ap (λ t. t || has_id more q) (k q) ∙ sym (has_join ids more q)
 
 -- one id more, behind those in front
 pub knows_next : (seen now ids front : List (List ℕ)) (id : List ℕ) → Knows seen (ids ++ front) → Knows now (seen ++ id ∷ []) → Knows now (ids ++ (front ++ id ∷ []))
@@ -57,7 +53,7 @@ pub key_next : (id : List ℕ) (old new : BTreeSet (List ℕ)) → Updates (slic
 key_next id old new u q =
     sym (key_found q new.keys) ∙ u.0 q ∙ ap (λ t. cond t true (list_any (λ k. is_eq (slice_cmp nat_cmp q k)) old.keys)) (is_eq-slice_cmp id q ∙ same_flip id q)
     ∙ ap (λ t. cond (bytes_eq q id) true t) (key_found q old.keys) ∙ or_swapped (bytes_eq q id) (has_id old.keys q)
-    ∙ ap (λ t. has_id old.keys q || t) (sym (just_one id q)) ∙ sym (has-append old.keys (id ∷ []) q)
+    ∙ ap (λ t. has_id old.keys q || t) (sym (just_one id q)) ∙ sym (has_join old.keys (id ∷ []) q)
 
 pub new_told : (id name : List ℕ) (keys seen : List (List ℕ)) (added : Bool) → name ≡ id → keys ≡ seen → added ≡ not (list_any (λ k. is_eq (slice_cmp nat_cmp name k)) keys) → added ≡ not (has_id seen id)
 new_told id name keys seen added named same e =

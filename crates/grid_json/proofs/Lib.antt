@@ -3,7 +3,6 @@ pub mod Items
 pub mod Lengths
 pub mod Counts
 pub mod Loading
-pub mod Edited
 pub mod Results
 pub mod IdSets
 pub mod Streams

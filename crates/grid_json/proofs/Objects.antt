@@ -8,6 +8,7 @@ use Rattle.std.specs.Cmp.Lexicographic.{slice_cmp}
 use Rattle.std.proofs.lemmas.Map.Text.{is_eq-slice_cmp}
 use Rattle.std.proofs.lemmas.Slice.Eq.{bytes_eq-Decides}
 use Rattle.serde_json.specs.Data.{Data, Members, no_members, member, put}
+use Rattle.grid_lemmas.proofs.Bools.{and_true}
 use Rattle.grid_value.specs.declared.value.Value.{Value}
 use Rattle.grid_value.specs.View.{view, members_view, put_each}
 use Rattle.grid_json.specs.Reading.{knows, texts, all_known}
@@ -56,10 +57,6 @@ each_known names (m ∷ ms) found =
     moved true b c = refl
     moved false true c = refl
     moved false false c = refl
-
-and_true : (b : Bool) → (b && true) ≡ b
-and_true true = refl
-and_true false = refl
 
 tested : (names : List (Bor (List ℕ))) (ms : List (Bor (List ℕ) × Value))
     → list_all (λ m. list_any (λ known. bytes_eq known.now m.0.now) names) ms ≡ are_known (texts names) (map (λ (m : Bor (List ℕ) × Value). (m.0, view m.1)) ms)

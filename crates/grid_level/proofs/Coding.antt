@@ -1,6 +1,6 @@
 -- From what a level keeps to what its code promises.
 use Rattle.std.proofs.Common.{◌≡◌, refl, sym, ap, ◌∙◌, ℕ, ℤ, zero, suc, ◌+◌, ◌*◌, ◌<◌, ◌≤◌, Bool, true, false, cond, not, List, [], ◌∷◌, ◌++◌, length, arith, Option, Some, None, get_or, take, drop}
-use Rattle.std.specs.Prelude.{nat_lt, Result, Ok, Err, slice_get, remove, position, map}
+use Rattle.std.specs.Prelude.{nat_lt, Result, Ok, Err, remove, position, map}
 use Rattle.std.specs.List.{list_all, position_or_len}
 use Rattle.std.specs.Option.{option_map}
 use Rattle.std.proofs.lemmas.Bool.{and_parts, ltb-true, ltb-false, lt-ltb, le-ltb, ne_eqb}
@@ -181,11 +181,6 @@ switch_kept level uses id kind node1 node2 opened retained fictitious a b k h =
 pub empty_kept : (id : List ℕ) (nominal_v : ℤ) (low_v high_v : Option ℤ) → IsKept (lists_of id nominal_v low_v high_v [] [] []) [] []
 unfolding tally named nodes edges rising is_rising
 empty_kept id nominal_v low_v high_v = record { counted = refl; listed = refl; within = record { in_range = refl; few_nodes = omega arith; few_edges = omega arith; differ = refl; rise = refl } }
-
-pub get_some : {X : Type 0} (xs : List X) (i : ℕ) (x : X) → i < length xs → x ≡ get_or xs i x → slice_get xs i ≡ Some x
-get_some [] i x l e = absurd (omega arith)
-get_some (y ∷ xs) zero x l e = ap (λ z. Some z) (sym e)
-get_some (y ∷ xs) (suc i) x l e = get_some xs i x (omega arith) e
 
 -- ---- internal connections
 

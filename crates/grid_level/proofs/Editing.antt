@@ -1,5 +1,5 @@
 -- What the definitions of a level's edits make of its rules.
-use Rattle.std.proofs.Common.{◌≡◌, refl, sym, ap, ◌∙◌, subst, ℕ, ℤ, pos, negsuc, suc, ◌+◌, ◌<◌, ◌≤◌, Bool, true, false, cond, ◌&&◌, List, [], ◌∷◌, ◌++◌, length, arith, Option, Some, None, append_assoc}
+use Rattle.std.proofs.Common.{◌≡◌, refl, sym, ap, ◌∙◌, subst, ℕ, ℤ, pos, negsuc, ◌+◌, ◌<◌, ◌≤◌, Bool, true, false, cond, ◌&&◌, List, [], ◌∷◌, ◌++◌, length, arith, Option, Some, None, append_assoc}
 use Rattle.std.specs.Prelude.{map, flat_map, nat_lt, nat_le, ◌==◌, filter, Result, Ok, Err, is_none}
 use Rattle.std.specs.Option.{option_map}
 use Rattle.std.specs.List.{list_all}
@@ -7,6 +7,7 @@ use Rattle.std.proofs.lemmas.Bool.{and_parts, and_from, leb-true, le-leb, ltb-fa
 use Rattle.std.proofs.lemmas.Grind.{common_steps}
 use Rattle.std.proofs.lemmas.List.{append-nil, map-append}
 use Rattle.std.proofs.lemmas.List.Folds.{list_all-append}
+use Rattle.grid_lemmas.proofs.Lists.{length_filter}
 use Rattle.grid_ids.specs.Refusing.{◌>>=◌, refuse_if}
 use Rattle.grid_kinds.specs.Records.{level_fault}
 use Rattle.grid_level.specs.declared.Placed.{Placed}
@@ -135,9 +136,6 @@ with_switch level s = record level { switches = level.switches ++ s ∷ [] }
 
 abbrev pub with_internal : VoltageLevel → Internal → VoltageLevel
 with_internal level i = record level { internals = level.internals ++ i ∷ [] }
-
-rest_of : VoltageLevel → List ℕ
-rest_of level = internal_nodes level.internals ++ placed_nodes level.placed
 
 pub named_switch : (level : VoltageLevel) (s : Switch) → named (with_switch level s) ≡ switch_nodes level.switches ++ s.node1 ∷ s.node2 ∷ (internal_nodes level.internals ++ placed_nodes level.placed)
 named_switch level s = named_is (with_switch level s) ∙ rw (switch_nodes-append level.switches (s ∷ []), append_assoc) refl
@@ -302,9 +300,6 @@ all_flat_filter {X} g p q (x ∷ xs) h = let parts = all_parts p (g x) (flat_map
     by true a b = all_join p (g x) (flat_map g (filter q xs)) a b
     by false a b = b
 
-switch_pair : Switch → List ℕ
-switch_pair s = s.node1 ∷ s.node2 ∷ []
-
 switch_nodes_is : (ss : List Switch) → switch_nodes ss ≡ flat_map (λ (s : Switch). s.node1 ∷ s.node2 ∷ []) ss
 switch_nodes_is [] = refl
 switch_nodes_is (s ∷ ss) = ap (λ z. s.node1 ∷ s.node2 ∷ z) (switch_nodes_is ss)
@@ -312,14 +307,6 @@ switch_nodes_is (s ∷ ss) = ap (λ z. s.node1 ∷ s.node2 ∷ z) (switch_nodes_
 pub placed_nodes_is : (ps : List Placed) → placed_nodes ps ≡ flat_map (λ (p : Placed). p.node ∷ []) ps
 placed_nodes_is [] = refl
 placed_nodes_is (p ∷ ps) = ap (λ z. p.node ∷ z) (placed_nodes_is ps)
-
-length_filter : {X : Type 0} (q : X → Bool) (xs : List X) → length (filter q xs) ≤ length xs
-length_filter q [] = omega arith
-length_filter q (x ∷ xs) = by (q x) (length_filter q xs)
-  where
-    by : (t : Bool) → length (filter q xs) ≤ length xs → length (cond t (x ∷ filter q xs) (filter q xs)) ≤ suc (length xs)
-    by true l = omega arith
-    by false l = omega arith
 
 pub fewer_switches_within : (q : Switch → Bool) (level : VoltageLevel) → IsWithin level → IsWithin (record level { switches = filter q level.switches })
 unfolding nodes edges

@@ -21,9 +21,6 @@ internal_nodes (i ∷ rest) = i.node1 ∷ i.node2 ∷ internal_nodes rest
 abbrev pub placed_nodes : List Placed → List ℕ
 placed_nodes ps = map (λ p. p.node) ps
 
-edge_nodes : List Edge → List ℕ
-edge_nodes es = flat_map (λ e. both (ends e)) es
-
 from_switches : (ss : List Switch) (rest : List Edge) → flat_map (λ e. both (ends e)) (map switch_edge ss ++ rest) ≡ switch_nodes ss ++ flat_map (λ e. both (ends e)) rest
 unfolding both ends
 from_switches [] rest = refl

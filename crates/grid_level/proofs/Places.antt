@@ -1,10 +1,11 @@
 -- The place of a key in a rising list, and what stands there.
-use Rattle.std.proofs.Common.{◌≡◌, refl, sym, ap, ◌∙◌, ℕ, zero, suc, ◌+◌, ◌-◌, ◌<◌, ◌≤◌, Bool, true, false, cond, ◌&&◌, List, [], ◌∷◌, length, arith, get_or, Some, None}
+use Rattle.std.proofs.Common.{◌≡◌, refl, sym, ap, ◌∙◌, ℕ, zero, suc, ◌+◌, ◌-◌, ◌<◌, ◌≤◌, Bool, true, false, cond, ◌&&◌, List, [], ◌∷◌, length, arith, get_or, Some}
 use Rattle.std.specs.Prelude.{map, nat_lt, ◌==◌, slice_get, slice_set, insert, remove}
 use Rattle.std.specs.List.{list_all, AllWithin}
 use Rattle.std.specs.List.Sorted.{IsNonDecreasingBy}
 use Rattle.std.proofs.lemmas.Bool.{lt-ltb, le-ltb, eq-eqb, ltb-true, eqb-true, and_parts, and_from, false≢true}
 use Rattle.std.proofs.lemmas.Bool.Decides.{nat_tests}
+use Rattle.grid_lemmas.proofs.Bools.{and_swap}
 use Rattle.grid_level.specs.declared.uses.Use.{Use}
 use Rattle.grid_level.specs.Uses.{place_among, key_here, once, with_use, without_use, less_use, used_nodes, total}
 use Rattle.grid_level.specs.Passing.{with_node, rising, is_rising}
@@ -50,22 +51,6 @@ pub place-le : {X : Type 0} (key : X → ℕ) (n : ℕ) (xs : List X) → place_
 place-le key n [] = omega arith
 place-le key n (x ∷ xs) = grind (arith, nat_tests, place-le key n xs)
 
-pub key_here-at : {X : Type 0} (key : X → ℕ) (n : ℕ) (xs : List X) (x : X) → slice_get xs (place_among key n xs) ≡ Some x → key_here key n xs ≡ (key x == n)
-key_here-at key n [] x e = cc
-key_here-at key n (y ∷ xs) x e = by (nat_lt (key y) n) refl e (key_here-at key n xs x)
-  where
-    by : (t : Bool) → nat_lt (key y) n ≡ t → slice_get (y ∷ xs) (cond t (suc (place_among key n xs)) 0) ≡ Some x → (slice_get xs (place_among key n xs) ≡ Some x → key_here key n xs ≡ (key x == n)) → cond t (key_here key n xs) (key y == n) ≡ (key x == n)
-    by true q e again = again e
-    by false q e again = let same : y ≡ x = cc in ap (λ z. key z == n) same
-
-pub key_here-end : {X : Type 0} (key : X → ℕ) (n : ℕ) (xs : List X) → slice_get xs (place_among key n xs) ≡ None → key_here key n xs ≡ false
-key_here-end key n [] e = refl
-key_here-end key n (y ∷ xs) e = by (nat_lt (key y) n) refl e (key_here-end key n xs)
-  where
-    by : (t : Bool) → nat_lt (key y) n ≡ t → slice_get (y ∷ xs) (cond t (suc (place_among key n xs)) 0) ≡ None → (slice_get xs (place_among key n xs) ≡ None → key_here key n xs ≡ false) → cond t (key_here key n xs) (key y == n) ≡ false
-    by true q e again = again e
-    by false q e again = cc
-
 -- the use that is there counts one more
 pub with_use-set : (n : ℕ) (us : List Use) (u : Use) → place_among (λ u. u.node) n us < length us → u ≡ get_or us (place_among (λ u. u.node) n us) u → u.node ≡ n
     → with_use n us ≡ slice_set us (place_among (λ u. u.node) n us) (record u { more = u.more + 1 })
@@ -91,11 +76,6 @@ with_use-insert n (v ∷ us) h = by (nat_lt v.node n) refl h (with_use-insert n 
     by false q h again = rw h refl
 
 -- ---- what stays rising
-
-and_swap : (a b c : Bool) → a && (b && c) ≡ b && (a && c)
-and_swap true b c = refl
-and_swap false true c = refl
-and_swap false false c = refl
 
 and_twice : (a c : Bool) → a && c ≡ a && (a && c)
 and_twice true c = refl

@@ -3,6 +3,7 @@ use Rattle.std.proofs.Common.{◌≡◌, refl, ap, ◌∙◌, subst, ℕ, ℤ, �
 use Rattle.std.specs.Prelude.{map, nat_lt, nat_le, ◌==◌, find, Ok}
 use Rattle.std.specs.List.{list_all}
 use Rattle.std.proofs.lemmas.Bool.{and_from, le-leb, ltb-false}
+use Rattle.grid_lemmas.proofs.Bools.{and_swap}
 use Rattle.grid_ids.specs.Refusing.{refuse_if}
 use Rattle.grid_level.specs.declared.Placed.{Placed}
 use Rattle.grid_level.specs.declared.Terminal.{Terminal}
@@ -65,11 +66,6 @@ rising_placed p pre (x ∷ xs) = by (nat_lt x.node p.node) (rising_placed p (pre
         → rising (pre ++ map (λ (x : Placed). x.node) (cond t (x ∷ with_placed p xs) (p ∷ x ∷ xs))) ≡ with_node p.node (rising (pre ++ x.node ∷ map (λ (x : Placed). x.node) xs))
     by true again = rw (append_assoc pre (x.node ∷ []) (map (λ (x : Placed). x.node) (with_placed p xs)), append_assoc pre (x.node ∷ []) (map (λ (x : Placed). x.node) xs)) at again
     by false again = rising_insert pre p.node (x.node ∷ map (λ (x : Placed). x.node) xs)
-
-and_swap : (a b c : Bool) → a && (b && c) ≡ b && (a && c)
-and_swap true b c = refl
-and_swap false true c = refl
-and_swap false false c = refl
 
 all_placed : (t : Placed → Bool) (p : Placed) (ps : List Placed) → list_all t (with_placed p ps) ≡ (t p && list_all t ps)
 unfolding with_placed

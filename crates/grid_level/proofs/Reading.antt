@@ -4,6 +4,7 @@ use Rattle.std.specs.Prelude.{map, flat_map, nat_lt, nat_le, ◌==◌, slice_get
 use Rattle.std.specs.Option.{option_map}
 use Rattle.std.specs.List.{list_all, position_or_len}
 use Rattle.std.proofs.lemmas.Bool.{and_parts, and_from, false≢true, ltb-true, lt-ltb, le-ltb, eq-eqb, ne_eqb}
+use Rattle.grid_lemmas.proofs.Bools.{or_right}
 use Rattle.grid_level.specs.declared.uses.Use.{Use}
 use Rattle.grid_level.specs.declared.Switch.{Switch}
 use Rattle.grid_level.specs.declared.Internal.{Internal}
@@ -18,13 +19,6 @@ use Rattle.grid_level.proofs.Places.{rising_is_rising}
 use Rattle.grid_level.proofs.Editing.{list_all-rising, all_parts}
 
 -- ---- the place of a number in a rising list
-
-none_of : (n : ℕ) (ns : List ℕ) → list_all (nat_lt n) ns ≡ true → position_or_len (λ m. m == n) ns ≡ length ns
-none_of n [] h = refl
-none_of n (m ∷ ns) h =
-    let parts = and_parts (nat_lt n m) (list_all (nat_lt n) ns) h in
-    let l : n < m = ltb-true n m parts.0 in
-    rw (ne_eqb m n (λ e. omega arith), none_of n ns parts.1) (omega arith)
 
 none_above : (n m : ℕ) (ns : List ℕ) → n < m → list_all (nat_lt m) ns ≡ true → position_or_len (λ m. m == n) ns ≡ length ns
 none_above n m [] l h = refl
@@ -125,10 +119,6 @@ pub among_rising : (ns : List ℕ) (m : ℕ) → among (rising ns) m ≡ among n
 unfolding rising
 among_rising [] m = refl
 among_rising (n ∷ ns) m = among_with n m (rising ns) ∙ ap (λ z. (n == m) || z) (among_rising ns m)
-
-or_right : (a b : Bool) → b ≡ true → a || b ≡ true
-or_right true b h = refl
-or_right false b h = h
 
 all_among : (more : List ℕ) (ns : List ℕ) → list_all (among (more ++ ns)) ns ≡ true
 all_among more [] = refl

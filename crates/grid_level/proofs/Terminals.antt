@@ -15,9 +15,6 @@ use Rattle.grid_level.proofs.Keeping.{switch_nodes, internal_nodes}
 use Rattle.grid_level.proofs.Editing.{named_is_left}
 use Rattle.grid_level.proofs.Placing.{placed_in, placed_within}
 
-abbrev pub by_node : Placed → ℕ
-by_node p = p.node
-
 -- what the code inserts at the place is what the definition makes
 pub placed_insert : (p : Placed) (ps : List Placed) → with_placed p ps ≡ insert ps (place_among (λ (x : Placed). x.node) p.node ps) p
 unfolding with_placed

@@ -5,6 +5,7 @@ use Rattle.std.specs.List.{list_all, list_any}
 use Rattle.std.proofs.lemmas.Bool.{and_parts, or_cases, lt-leb, ne_eqb, false≢true}
 use Rattle.std.proofs.lemmas.List.{append-nil, map-append, length-append}
 use Rattle.grid_ids.specs.Name.{same_id, has_id, ids_differ}
+use Rattle.grid_ids.proofs.Alike.{same_is}
 use Rattle.grid_kinds.specs.Records.{level_fault, limits_fault}
 use Rattle.grid_level.specs.VoltageLevel.{VoltageLevel}
 use Rattle.grid_structure.specs.Network.{Network, Substation}
@@ -14,7 +15,7 @@ use Rattle.grid_structure.specs.declared.NamedBranch.{NamedBranch}
 use Rattle.grid_structure.specs.declared.Edit.TheVariants as edits
 use Rattle.grid_structure.proofs.Adding.{bare, apply_bare}
 use Rattle.grid_structure.proofs.Counts.{times, times-append, differ-times, not_there}
-use Rattle.grid_structure.proofs.Framing.{same_is, ids_of, locals, sub_ids, ids_counted, switch_total, switch_total-append}
+use Rattle.grid_structure.proofs.Framing.{ids_of, locals, sub_ids, ids_counted, switch_total, switch_total-append}
 use Rattle.grid_structure.proofs.Homed.{none_there}
 use Rattle.grid_structure.proofs.Substations.{names, levels_in, levels_at, transformers_at}
 use Rattle.grid_print.specs.Loads.{growing}

@@ -5,6 +5,7 @@ use Rattle.std.specs.List.{list_all}
 use Rattle.std.proofs.lemmas.Bool.{and_from, or_cases, or_left, or_right, ne_eqb, eqb-true, eqb-false, false≢true}
 use Rattle.std.proofs.lemmas.List.{append-nil, map-append}
 use Rattle.grid_ids.specs.Name.{same_id, has_id, ids_differ}
+use Rattle.grid_ids.proofs.Alike.{same_is}
 use Rattle.grid_level.specs.VoltageLevel.{VoltageLevel}
 use Rattle.grid_level.specs.Sound.{level_passes}
 use Rattle.grid_structure.specs.Network.{Network, Substation}
@@ -15,7 +16,7 @@ use Rattle.grid_structure.specs.declared.NamedBranch.{NamedBranch}
 use Rattle.grid_structure.specs.declared.Branch.TheVariants.{Line}
 use Rattle.grid_structure.specs.declared.Edit.{Edit}
 use Rattle.grid_structure.proofs.Counts.{times, times-append}
-use Rattle.grid_structure.proofs.Framing.{same_is, ids_counted}
+use Rattle.grid_structure.proofs.Framing.{ids_counted}
 use Rattle.grid_structure.proofs.Sides.{Side, has, has-append, sides_of, sides_in}
 use Rattle.grid_structure.proofs.Substations.{levels_in, transformers_in}
 use Rattle.grid_print.proofs.BranchLoad.{part_of, partly, ids_partly, Ready, branch_loaded}

@@ -6,7 +6,7 @@ use Rattle.std.proofs.lemmas.Bool.{and_parts, and_from, le-leb, leb-true, ltb-tr
 use Rattle.std.proofs.lemmas.Fmt.{decimal_by_steps, decimal_injective}
 use Rattle.std.proofs.lemmas.List.Folds.{list_all-append}
 use Rattle.grid_ids.specs.Name.{same_id}
-use Rattle.grid_structure.proofs.Framing.{same_is}
+use Rattle.grid_ids.proofs.Alike.{same_is}
 
 -- empty, or begun with what is no digit
 abbrev pub is_tail : List ℕ → Bool

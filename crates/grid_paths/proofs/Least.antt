@@ -7,9 +7,10 @@ use Rattle.std.specs.declared.cmp.Ordering.TheVariants.{Less, Equal, Greater}
 use Rattle.std.specs.Ordering.{is_lt, is_gt, ordering_reverse}
 use Rattle.std.specs.Cmp.{IsTotalOrder}
 use Rattle.std.proofs.lemmas.Cmp.{upto, tied_itself, nat_cmp_total, on_total, then_total, nat_list_cmp_total}
-use Rattle.std.proofs.lemmas.Bool.{false≢true, true≢false, or_cases, and_parts, not-true, both_ways, eqb-true, eq-eqb}
+use Rattle.std.proofs.lemmas.Bool.{false≢true, or_cases, and_parts, not-true, both_ways, eqb-true, eq-eqb}
 use Rattle.std.specs.Set.{is_member}
 use Rattle.std.proofs.lemmas.Map.Made.{length-le_from_is_member}
+use Rattle.grid_lemmas.proofs.Bools.{not_false}
 use Rattle.grid_graph.proofs.Reach.{absent, eqb_laws}
 use Rattle.grid_paths.specs.Paths.{◌>>=◌, has_node, all_differ, across, visited, differ_if_some, is_path, measure_cmp, is_better, better_of, least_path, step_over, steps_from, paths_beyond, paths_from}
 
@@ -209,10 +210,6 @@ fresh_on c seen rest fresh alone n h =
 fresh_head : (c : ℕ) (seen rest : List ℕ) → Fresh seen (c ∷ rest) → has_node seen c ≡ false
 unfolding Fresh
 fresh_head c seen rest fresh = fresh c (has_node_here c rest)
-
-pub not_false : (b : Bool) → b ≡ false → not b ≡ true
-not_false false h = refl
-not_false true h = absurd (true≢false h)
 
 put_on : (edges : List (ℕ × ℕ)) (k a place c : ℕ) (seen rest : List ℕ) → Member (place, c) (steps_from edges a) → has_node seen c ≡ false
     → Member rest (paths_beyond edges k (c ∷ seen) c) → Member (place ∷ rest) (paths_beyond edges (suc k) seen a)

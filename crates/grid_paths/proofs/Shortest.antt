@@ -4,7 +4,8 @@ use Rattle.std.specs.Prelude.{Some, eqb, slice_get, IsTrue}
 use Rattle.std.specs.List.{list_any, list_all}
 use Rattle.std.specs.Ordering.{nat_cmp, is_lt}
 use Rattle.std.specs.Cmp.Lexicographic.{slice_cmp}
-use Rattle.std.proofs.lemmas.Bool.{false≢true, true≢false, cases_lt, and_from, eqb-true, or_cases}
+use Rattle.std.proofs.lemmas.Bool.{false≢true, cases_lt, and_from, eqb-true, or_cases}
+use Rattle.grid_lemmas.proofs.Bools.{not_if, not_true}
 use Rattle.grid_paths.specs.declared.PathEdge.{PathEdge}
 use Rattle.grid_paths.specs.Paths.{has_node, all_differ, across, visited, differ_if_some, is_path, last_in, last_node}
 use Rattle.grid_paths.specs.Routes.{ends_of, all_ends, passes, is_goal, is_route, IsLeastRoute, EndsBelow}
@@ -66,7 +67,7 @@ no_node : (m : ℕ) → has_node [] m ≡ true → ⊥
 unfolding has_node
 no_node m h = absurd (false≢true h)
 
-visits_on : (ends : List (ℕ × ℕ)) (u place v : ℕ) (rest nodes : List ℕ) (pair : ℕ × ℕ) → slice_get ends place ≡ Some pair → across u pair ≡ Some v
+pub visits_on : (ends : List (ℕ × ℕ)) (u place v : ℕ) (rest nodes : List ℕ) (pair : ℕ × ℕ) → slice_get ends place ≡ Some pair → across u pair ≡ Some v
     → visited ends v rest ≡ Some nodes → visited ends u (place ∷ rest) ≡ Some (u ∷ nodes)
 unfolding visited
 visits_on ends u place v rest nodes pair e f g = rw e (rw f (rw g refl))
@@ -144,14 +145,6 @@ walk_least edges goals found limit least ends (p ∷ ps) (q ∷ qs) u lt (v, wei
     ])
 
 -- ---- the theorem
-
-not_true : (b : Bool) → b ≡ false → IsTrue (not b)
-not_true false e = refl
-not_true true e = absurd (true≢false e)
-
-not_if : (b : Bool) → (b ≡ true → ⊥) → IsTrue (not b)
-not_if false f = refl
-not_if true f = absurd (f refl)
 
 pub walk_is_least : (edges : List PathEdge) (goals : List Bool) (found : List ℕ) (from : ℕ) → AreLeastCosts edges goals found (cost_at found from) → EndsBelow edges (length goals)
     → length goals < 4294967296 → from < length goals → (path : List ℕ) → Walks edges goals found from path → IsLeastRoute edges goals from path

@@ -5,15 +5,9 @@ use Rattle.std.specs.declared.cmp.Ordering.{Ordering}
 use Rattle.std.specs.declared.cmp.Ordering.TheVariants.{Less, Equal, Greater}
 use Rattle.std.specs.Cmp.Lexicographic.{slice_cmp}
 use Rattle.std.proofs.lemmas.Map.Text.{is_eq-slice_cmp}
-use Rattle.std.proofs.lemmas.Slice.Eq.{bytes_eq-Decides}
 use Rattle.grid_ids.specs.Name.{same_id}
+use Rattle.grid_ids.proofs.Alike.{same_is, same_itself}
 use Rattle.grid_powers.specs.Listed.{Listed, value_in, with_value, without_value}
-
-same_is : (a b : List ℕ) → same_id a b ≡ true → a ≡ b
-same_is a b e = (bytes_eq-Decides a b).0 e
-
-same_as_itself : (a : List ℕ) → same_id a a ≡ true
-same_as_itself a = (bytes_eq-Decides a a).1 refl
 
 -- ---- without a value
 
@@ -50,7 +44,7 @@ value_with-other id other watts (e ∷ es) apart = with_others id other watts (s
 with_own : (id : List ℕ) (watts : ℤ) (o : Ordering) (e : List ℕ × ℤ) (es : Listed) → slice_cmp nat_cmp id e.0 ≡ o
     → value_in (with_value id watts es) id ≡ Some watts
     → value_in (match_ordering o ((id, watts) ∷ e ∷ es) ((e.0, watts) ∷ es) (e ∷ with_value id watts es)) id ≡ Some watts
-with_own id watts Less e es here rest = rw (same_as_itself id) refl
+with_own id watts Less e es here rest = rw (same_itself id) refl
 with_own id watts Equal e es here rest =
     let same : same_id id e.0 ≡ true = sym (is_eq-slice_cmp id e.0) ∙ ap is_eq here in
     rw same refl
@@ -60,5 +54,5 @@ with_own id watts Greater e es here rest =
 
 -- the id has the new value
 pub value_with-own : (id : List ℕ) (watts : ℤ) (pairs : Listed) → value_in (with_value id watts pairs) id ≡ Some watts
-value_with-own id watts [] = rw (same_as_itself id) refl
+value_with-own id watts [] = rw (same_itself id) refl
 value_with-own id watts (e ∷ es) = with_own id watts (slice_cmp nat_cmp id e.0) e es refl (value_with-own id watts es)

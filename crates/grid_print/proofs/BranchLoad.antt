@@ -4,7 +4,9 @@ use Rattle.std.specs.Prelude.{map, filter, find, ◌==◌, Ok, is_none, ⊤}
 use Rattle.std.specs.List.{list_all, list_any}
 use Rattle.std.proofs.lemmas.Bool.{and_parts, or_cases, false≢true}
 use Rattle.std.proofs.lemmas.List.{map-append, append-nil}
+use Rattle.grid_lemmas.proofs.Bools.{and_false, or_false}
 use Rattle.grid_ids.specs.Name.{same_id, has_id}
+use Rattle.grid_ids.proofs.Alike.{same_swap}
 use Rattle.grid_kinds.specs.Records.{rated_fault}
 use Rattle.grid_kinds.specs.declared.CheckFault.{CheckFault}
 use Rattle.grid_level.specs.declared.Placed.{Placed}
@@ -23,13 +25,12 @@ use Rattle.grid_structure.specs.declared.End.{End}
 use Rattle.grid_structure.specs.declared.Edit.TheVariants as edits
 use Rattle.grid_structure.proofs.Counts.{times, times-append}
 use Rattle.grid_structure.proofs.Framing.{is_same, ids_of, put, local, locals, ids_counted, level_ids_once, frame, frame-with_levels, same_sub_ids, same_level_ids, same_branch_ids}
-use Rattle.grid_structure.proofs.Gaining.{same_swap}
 use Rattle.grid_structure.proofs.Homed.{none_there}
 use Rattle.grid_structure.proofs.Levels.{levels-with_levels}
 use Rattle.grid_structure.proofs.OneLevel.{names_of}
 use Rattle.grid_structure.proofs.Sides.{Side, has, has-append, side_of, sides_of, sides_in, same_side_is}
 use Rattle.grid_structure.proofs.Substations.{names, levels_in}
-use Rattle.grid_print.proofs.EndsLoad.{stays, kept, end_fits, side_level, and_false, or_false, one_more}
+use Rattle.grid_print.proofs.EndsLoad.{stays, kept, end_fits, side_level, one_more}
 
 -- the substation, and the network, with these sides loaded
 abbrev pub part_of : List Side → Substation → Substation

@@ -1,8 +1,9 @@
 -- A branch end that is placed in a level that is being loaded.
-use Rattle.std.proofs.Common.{◌≡◌, refl, sym, ap, ◌∙◌, subst, ℕ, pos, ◌<◌, ◌≤◌, Bool, true, false, cond, not, ◌&&◌, ◌||◌, List, [], ◌∷◌, ◌++◌, length, arith, None, inl, inr}
+use Rattle.std.proofs.Common.{◌≡◌, refl, sym, ap, ◌∙◌, subst, ℕ, pos, ◌<◌, ◌≤◌, Bool, true, false, cond, not, ◌||◌, List, [], ◌∷◌, ◌++◌, length, arith, None, inl, inr}
 use Rattle.std.specs.Prelude.{map, filter, find, nat_lt, nat_le, ◌==◌, Ok}
 use Rattle.std.specs.List.{list_all}
 use Rattle.std.proofs.lemmas.Bool.{and_parts, or_cases, ltb-true, le-ltb, ne_eqb, false≢true}
+use Rattle.grid_lemmas.proofs.Bools.{and_false, or_false}
 use Rattle.grid_ids.specs.Name.{same_id}
 use Rattle.grid_level.specs.declared.Placed.{Placed}
 use Rattle.grid_level.specs.declared.Stand.{Stand}
@@ -125,14 +126,6 @@ unfolding is_branch_end
 end_is Busbar h = absurd (false≢true h)
 end_is (Feeder item) h = absurd (false≢true h)
 end_is BranchEnd h = refl
-
-pub and_false : (a : Bool) → a && false ≡ false
-and_false true = refl
-and_false false = refl
-
-pub or_false : (a : Bool) → a || false ≡ a
-or_false true = refl
-or_false false = refl
 
 -- a side more is no side of another node
 other_node : (id : List ℕ) (y p : Placed) → (y.node == p.node) ≡ false → same_side (y.terminal.equipment, y.terminal.side, id, pos y.node) (p.terminal.equipment, p.terminal.side, id, pos p.node) ≡ false

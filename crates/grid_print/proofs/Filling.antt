@@ -9,30 +9,20 @@ use Rattle.grid_structure.specs.Network.{Network, Substation}
 use Rattle.grid_structure.specs.Sites.{levels, branches, switches, level_named, substation_named, level_ids, branch_ids, all_ids, taken}
 use Rattle.grid_structure.specs.Editing.{substation_with_levels, with_levels, with_level, with_substation}
 use Rattle.grid_structure.proofs.Counts.{times, times-append}
-use Rattle.grid_structure.proofs.Framing.{put, is_same, ids_of, local, locals, locals-append, sub_ids, ids_counted, switch_total, switch_total-append, switches_counted}
+use Rattle.grid_structure.proofs.Framing.{put, is_same, ids_of, local, locals, locals-append, sub_ids, ids_counted, switch_total, switch_total-append, switches_counted, put_absent}
 use Rattle.grid_structure.proofs.Homed.{none_there}
 use Rattle.grid_structure.proofs.Substations.{names, changed_at, names_at, levels_in, levels_at, transformers_at}
 use Rattle.grid_print.specs.Loads.{growing, more}
+use Rattle.grid_print.proofs.StageLoad.{times_ids}
 
 -- ---- what has the id of no level
-
-kept_levels : (new : VoltageLevel) (ls : List VoltageLevel) → times new.id (ids_of ls) ≡ 0 → map (put new) ls ≡ ls
-kept_levels new [] h = refl
-kept_levels new (l ∷ ls) h = by (same_id new.id l.id) h (kept_levels new ls)
-  where
-    by : (t : Bool) → cond t 1 0 + times new.id (ids_of ls) ≡ 0 → (times new.id (ids_of ls) ≡ 0 → map (put new) ls ≡ ls) → cond t new l ∷ map (put new) ls ≡ l ∷ ls
-    by true h again = absurd (omega arith)
-    by false h again = ap (λ z. l ∷ z) (again (omega arith))
-
-apart : (q : List ℕ) (xs ys : List VoltageLevel) → times q (ids_of (xs ++ ys)) ≡ times q (ids_of xs) + times q (ids_of ys)
-apart q xs ys = ap (times q) (map-append (λ (l : VoltageLevel). l.id) xs ys) ∙ times-append q (ids_of xs) (ids_of ys)
 
 kept_substations : (new : VoltageLevel) (subs : List Substation) → times new.id (ids_of (levels_in subs)) ≡ 0 → map (substation_with_levels (put new)) subs ≡ subs
 unfolding substation_with_levels
 kept_substations new [] h = refl
 kept_substations new (s ∷ subs) h =
-    let sum = apart new.id s.levels (levels_in subs) in
-    rw (kept_levels new s.levels (omega (arith, h, sum)), kept_substations new subs (omega (arith, h, sum))) refl
+    let sum = times_ids new.id s.levels (levels_in subs) in
+    rw (put_absent new s.levels (omega (arith, h, sum)), kept_substations new subs (omega (arith, h, sum))) refl
 
 last_found : (p : VoltageLevel) (ls : List VoltageLevel) → times p.id (ids_of ls) ≡ 0 → find (λ (l : VoltageLevel). same_id p.id l.id) (ls ++ p ∷ []) ≡ Some p
 last_found p [] h = rw (is_same p.id p.id refl) refl
@@ -80,7 +70,7 @@ module _ (id : List ℕ) (front : List Substation) (s : Substation) where
   ids_ending q l =
       let base = growing id front s in
       let a : times q (sub_ids (ending l)) ≡ times q (sub_ids base) = ap (times q) (names_at front [] (more s l) s refl) in
-      let b : times q (level_ids (ending l)) ≡ times q (ids_of earlier) + times q (l.id ∷ []) = ap (λ z. times q (ids_of z)) (levels_ending l) ∙ apart q earlier (l ∷ []) in
+      let b : times q (level_ids (ending l)) ≡ times q (ids_of earlier) + times q (l.id ∷ []) = ap (λ z. times q (ids_of z)) (levels_ending l) ∙ times_ids q earlier (l ∷ []) in
       let d : times q (level_ids base) ≡ times q (ids_of earlier) = ap (λ z. times q (ids_of z)) levels_before in
       let e : locals q (levels (ending l)) ≡ locals q earlier + locals q (l ∷ []) = ap (locals q) (levels_ending l) ∙ locals-append q earlier (l ∷ []) in
       let f : locals q (levels base) ≡ locals q earlier = ap (locals q) levels_before in
@@ -114,9 +104,9 @@ module _ (id : List ℕ) (front : List Substation) (s : Substation) where
   pub put_last : (new l : VoltageLevel) → new.id ≡ l.id → times new.id (ids_of earlier) ≡ 0 → with_level new (ending l) ≡ ending new
   unfolding with_level with_levels substation_with_levels
   put_last new l same none =
-      let sum = apart new.id (levels_in front) s.levels in
+      let sum = times_ids new.id (levels_in front) s.levels in
       let own : same_id new.id l.id ≡ true = is_same new.id l.id same in
-      let here : map (put new) (s.levels ++ l ∷ []) ≡ s.levels ++ new ∷ [] = map-append (put new) s.levels (l ∷ []) ∙ rw (kept_levels new s.levels (omega (arith, sum, none)), own) refl in
+      let here : map (put new) (s.levels ++ l ∷ []) ≡ s.levels ++ new ∷ [] = map-append (put new) s.levels (l ∷ []) ∙ rw (put_absent new s.levels (omega (arith, sum, none)), own) refl in
       let all : map (substation_with_levels (put new)) (front ++ more s l ∷ []) ≡ front ++ more s new ∷ [] =
       map-append (substation_with_levels (put new)) front (more s l ∷ []) ∙ rw (kept_substations new front (omega (arith, sum, none)), here) refl in
       ap (λ (z : List Substation). record { id = id; substations = z; lines = [] }) all

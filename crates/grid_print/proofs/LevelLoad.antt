@@ -23,13 +23,14 @@ use Rattle.grid_structure.specs.Editing.{max_levels, max_switches}
 use Rattle.grid_structure.proofs.Counts.{times, differ-times}
 use Rattle.grid_structure.proofs.Framing.{local}
 use Rattle.grid_structure.proofs.OneLevel.{names_of}
+use Rattle.grid_structure.proofs.Removing.{names_filter}
 use Rattle.grid_json.specs.declared.fault.Fault.{Fault}
 use Rattle.grid_json.specs.Loading.{load_items, refused, busbar_load, switch_load, internal_load, injection_load, level_load}
 use Rattle.grid_print.specs.Laws.{switch_draft, internal_draft, busbar_draft_of, injection_draft_of, level_draft}
 use Rattle.grid_print.specs.Loads.{growing, more, bare, LevelsAreLoaded}
 use Rattle.grid_print.proofs.LevelRoom.{below, above, placing_in, first_within, around, around_within}
 use Rattle.grid_print.proofs.Filling.{ending, ids_ending, switches_ending, length_before}
-use Rattle.grid_print.proofs.LevelParts.{part, IsReady, none_is, fewer_names, name_missing, level_made, busbar_put, injection_put, switch_put, internal_put}
+use Rattle.grid_print.proofs.LevelParts.{part, IsReady, none_is, name_missing, level_made, busbar_put, injection_put, switch_put, internal_put}
 
 -- ---- tests of what stands at a node
 
@@ -178,7 +179,7 @@ module _ {id : List ℕ} {front : List Substation} {s : Substation} {l : Voltage
   bus_within = fewer_placed_within bus l r.passes.within
 
   switches_in : load_items switch_load 0 (map switch_draft l.switches) l.id (state [] [] (filter bus l.placed)) ≡ Ok (state l.switches [] (filter bus l.placed))
-  switches_in = switches_from 0 [] l.switches (filter bus l.placed) refl (λ q. fewer_names q bus l.placed) bus_within
+  switches_in = switches_from 0 [] l.switches (filter bus l.placed) refl (λ q. names_filter q bus l.placed) bus_within
 
   internals_in : load_items internal_load 0 (map internal_draft l.internals) l.id (state l.switches [] (filter bus l.placed)) ≡ Ok (state l.switches l.internals (filter bus l.placed))
   internals_in = internals_from 0 [] l.internals (filter bus l.placed) refl bus_within

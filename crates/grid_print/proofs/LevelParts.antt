@@ -4,7 +4,6 @@ use Rattle.std.specs.Prelude.{map, filter, Ok, is_none}
 use Rattle.std.specs.List.{list_all}
 use Rattle.std.proofs.lemmas.Bool.{lt-leb, false≢true}
 use Rattle.std.proofs.lemmas.List.{map-append, length-append}
-use Rattle.std.proofs.lemmas.List.Elements.{filter-append}
 use Rattle.grid_kinds.specs.Records.{level_fault, injection_fault}
 use Rattle.grid_kinds.specs.declared.Injection.{Injection}
 use Rattle.grid_level.specs.declared.Placed.{Placed}
@@ -25,6 +24,8 @@ use Rattle.grid_structure.proofs.Counts.{times, times-append}
 use Rattle.grid_structure.proofs.Framing.{is_same, ids_of, local, switch_ids_of, switch_total}
 use Rattle.grid_structure.proofs.OneLevel.{names_of}
 use Rattle.grid_structure.proofs.Singles.{busbar_is, injection_is, terminal_of}
+use Rattle.grid_structure.proofs.Naming.{names_both}
+use Rattle.grid_structure.proofs.Removing.{names_filter}
 use Rattle.grid_print.specs.Loads.{growing}
 use Rattle.grid_print.proofs.LevelRoom.{below, above, switch_done, internal_done, terminal_done}
 use Rattle.grid_print.proofs.Filling.{ending, earlier, own_once, not_taken, not_taken_before, none_earlier, named_last, put_last, switches_ending, substation_found, level_put}
@@ -46,32 +47,6 @@ none_is None h = refl
 
 -- ---- ids
 
--- fewer terminals have fewer ids
-pub fewer_names : (q : List ℕ) (a : Placed → Bool) (ps : List Placed) → times q (names_of (filter a ps)) ≤ times q (names_of ps)
-fewer_names q a [] = omega arith
-fewer_names q a (p ∷ ps) = by (a p) (fewer_names q a ps)
-  where
-    more_names : (t : Bool) (xs ys : List Placed) → times q (names_of xs) ≤ times q (names_of ys)
-        → times q (map (λ (x : Placed). x.terminal.equipment) (cond t (p ∷ filter (λ (x : Placed). not (is_branch_end x.stand)) xs) (filter (λ (x : Placed). not (is_branch_end x.stand)) xs)))
-        ≤ times q (map (λ (x : Placed). x.terminal.equipment) (cond t (p ∷ filter (λ (x : Placed). not (is_branch_end x.stand)) ys) (filter (λ (x : Placed). not (is_branch_end x.stand)) ys)))
-    more_names true xs ys l = omega (arith, l)
-    more_names false xs ys l = l
-
-    skip : (t : Bool) (xs : List Placed) → times q (names_of xs)
-        ≤ times q (map (λ (x : Placed). x.terminal.equipment) (cond t (p ∷ filter (λ (x : Placed). not (is_branch_end x.stand)) xs) (filter (λ (x : Placed). not (is_branch_end x.stand)) xs)))
-    skip true xs = omega arith
-    skip false xs = omega arith
-
-    by : (t : Bool) → times q (names_of (filter a ps)) ≤ times q (names_of ps) → times q (names_of (cond t (p ∷ filter a ps) (filter a ps))) ≤ times q (names_of (p ∷ ps))
-    by true l = more_names (not (is_branch_end p.stand)) (filter a ps) ps l
-    by false l = (let more : times q (names_of ps) ≤ times q (names_of (p ∷ ps)) = skip (not (is_branch_end p.stand)) ps in omega (arith, l, more))
-
-names_both : (q : List ℕ) (xs ys : List Placed) → times q (names_of (xs ++ ys)) ≡ times q (names_of xs) + times q (names_of ys)
-names_both q xs ys =
-    let test : Placed → Bool = λ x. not (is_branch_end x.stand) in
-    ap (λ z. times q (map (λ (x : Placed). x.terminal.equipment) z)) (filter-append test xs ys)
-    ∙ ap (times q) (map-append (λ (x : Placed). x.terminal.equipment) (filter test xs) (filter test ys)) ∙ times-append q (names_of xs) (names_of ys)
-
 own_name : (p : Placed) (ps : List Placed) → is_branch_end p.stand ≡ false → times p.terminal.equipment (names_of (p ∷ ps)) ≡ 1 + times p.terminal.equipment (names_of ps)
 own_name p ps plain =
     let q = p.terminal.equipment in
@@ -84,7 +59,7 @@ pub name_missing : (a b : Placed → Bool) (xs : List Placed) (p : Placed) (ys :
     → 1 + times p.terminal.equipment (names_of (filter a xs ++ filter b ys)) ≤ times p.terminal.equipment (names_of (xs ++ p ∷ ys))
 name_missing a b xs p ys plain =
     let q = p.terminal.equipment in
-    omega (arith, names_both q (filter a xs) (filter b ys), names_both q xs (p ∷ ys), own_name p ys plain, fewer_names q a xs, fewer_names q b ys)
+    omega (arith, names_both q (filter a xs) (filter b ys), names_both q xs (p ∷ ys), own_name p ys plain, names_filter q a xs, names_filter q b ys)
 
 switches_both : (q : List ℕ) (xs ys : List Switch) → times q (map (λ (x : Switch). x.id) (xs ++ ys)) ≡ times q (map (λ (x : Switch). x.id) xs) + times q (map (λ (x : Switch). x.id) ys)
 switches_both q xs ys = ap (times q) (map-append (λ (x : Switch). x.id) xs ys) ∙ times-append q (map (λ (x : Switch). x.id) xs) (map (λ (x : Switch). x.id) ys)

@@ -4,6 +4,7 @@ use Rattle.std.specs.Prelude.{map, flat_map, Ok, is_none}
 use Rattle.std.specs.List.{list_all}
 use Rattle.std.proofs.lemmas.Bool.{and_parts, false≢true}
 use Rattle.std.proofs.lemmas.List.{map-append, append-nil, length-append, length-map}
+use Rattle.grid_lemmas.proofs.Bools.{or_false}
 use Rattle.grid_ids.specs.Name.{ids_differ}
 use Rattle.grid_level.specs.VoltageLevel.{VoltageLevel}
 use Rattle.grid_level.specs.Passing.{is_branch_end}
@@ -29,7 +30,7 @@ use Rattle.grid_json.specs.Loading.{load_items, level_load, transformer_load, li
 use Rattle.grid_print.specs.Laws.{level_draft, transformer_draft_of, line_draft_of, substation_draft}
 use Rattle.grid_print.specs.Loads.{bare, growing, more, LevelsAreLoaded, NetworksAreLoaded}
 use Rattle.grid_print.proofs.LevelLoad.{level_is_loaded}
-use Rattle.grid_print.proofs.EndsLoad.{kept, stays, or_false}
+use Rattle.grid_print.proofs.EndsLoad.{kept, stays}
 use Rattle.grid_print.proofs.BranchLoad.{part_of, partly, levels_partly, ids_partly, ids_same, locals_kept, filter_same, kept_same}
 use Rattle.grid_print.proofs.StageLoad.{stage, shown, weight, weights, weights-append, weighed, times_ids, line_step, transformer_step, home_is, branches_so_far, counted, levels_are, each_here, subs_pass, elsewhere, all_shown}
 

@@ -1,7 +1,9 @@
 -- Each part that is written is read back.
 use Rattle.std.proofs.Common.{◌≡◌, ◌<◌, ◌^◌, ℕ, suc, ℤ, pos, negsuc, Bool, true, false, List, [], ◌∷◌, ◌++◌, map, Option, Some, None, Ok, refl, sym, ◌∙◌}
 use Rattle.std.specs.List.{flat_map, list_any, AllByRecursion}
-use Rattle.std.specs.Prelude.{IfSome, ◌||◌, nat_le}
+use Rattle.std.specs.Prelude.{IfSome, nat_le}
+use Rattle.grid_lemmas.proofs.Bools.{not_either}
+use Rattle.grid_lemmas.proofs.Lists.{any_alike}
 use Rattle.grid_level.specs.VoltageLevel.{VoltageLevel}
 use Rattle.grid_level.specs.declared.Placed.{Placed}
 use Rattle.grid_level.specs.declared.Stand.{Stand}
@@ -21,12 +23,12 @@ use Rattle.grid_json.specs.Network.{busbar_at, switch_at, internal_at, injection
 use Rattle.grid_print.specs.Objects.{members_from, whole}
 use Rattle.grid_print.specs.Network.{switch_value, internal_value, end_value, busbar_of, injection_of, busbars_value, injections_value, level_value, branch_value, named_branch_value, substation_value, network_value}
 use Rattle.grid_print.specs.Readable.{IsId, IsWhole, IsReadableSwitch, IsReadableInternal, IsReadableBusbar, IsReadableInjection, IsReadableLevel, IsReadableEnd, IsReadableShape, IsReadableBranch, IsTransformer, IsLine, IsReadableSubstation}
-use Rattle.grid_print.specs.Laws.{BusbarsAreRead, switch_draft, SwitchesAreRead, internal_draft, InternalsAreRead, InjectionsAreRead, EndsAreRead, busbar_draft_of, injection_draft_of, level_draft, LevelsAreRead, transformer_draft_of, line_draft_of, substation_draft, draft_alone, NetworksAreRead, NetworkJobsAreRead}
+use Rattle.grid_print.specs.Laws.{BusbarsAreRead, switch_draft, internal_draft, InjectionsAreRead, EndsAreRead, busbar_draft_of, injection_draft_of, level_draft, LevelsAreRead, transformer_draft_of, line_draft_of, substation_draft, draft_alone, NetworksAreRead, NetworkJobsAreRead}
 use Rattle.grid_print.proofs.Each.{each_of}
 use Rattle.grid_print.specs.Formats.{number_of, item_format, stand_format, level_needs, network_needs, least_format}
 use Rattle.grid_print.specs.Job.{job_value}
 use Rattle.grid_structure.specs.Sites.{levels}
-use Rattle.grid_structure.proofs.Found.{any-flat_map, any_alike}
+use Rattle.grid_structure.proofs.Found.{any-flat_map}
 use Rattle.grid_json.specs.Job.{draft_at, command_total}
 use Rattle.grid_json.specs.declared.format.Format.TheVariants.{One, Two, Three, Four}
 use Rattle.grid_json.specs.declared.network.Windings.TheVariants as windings
@@ -34,11 +36,6 @@ use Rattle.grid_structure.specs.Network.{Network, Substation}
 use Rattle.grid_structure.specs.declared.NamedBranch.{NamedBranch}
 use Rattle.grid_structure.specs.declared.Branch.{Branch}
 use Rattle.grid_structure.specs.declared.Branch.TheVariants.{Line, TwoWindings, ThreeWindings}
-
--- both are false
-neither : (a b : Bool) → a || b ≡ false → (a ≡ false) × (b ≡ false)
-neither true b h = cc
-neither false b h = (refl, h)
 
 -- a number
 whole_read : (z : ℤ) → IsWhole z → whole_at (whole z) ≡ Ok z
@@ -60,9 +57,6 @@ unfolding items_at
 switches_from format n [] fit = refl
 switches_from format n (s ∷ switches) fit = rw (switch_read format s.kind s refl fit.0, switches_from format (suc n) switches fit.1) refl
 
-pub switches_are_read : SwitchesAreRead
-switches_are_read format switches fit = switches_from format 0 switches (each_of IsReadableSwitch switches fit)
-
 internal_read : (i : Internal) → i.node1 < 2 ^ 63 → i.node2 < 2 ^ 63 → internal_at (internal_value i) ≡ Ok (internal_draft i)
 unfolding internal_at internal_value members_from
 internal_read i small1 small2 = rw (lt-ltb i.node1 (2 ^ 63) small1, lt-ltb i.node2 (2 ^ 63) small2) refl
@@ -71,9 +65,6 @@ internals_from : (n : ℕ) (internals : List Internal) → AllByRecursion IsRead
 unfolding items_at
 internals_from n [] fit = refl
 internals_from n (i ∷ internals) fit = rw (internal_read i fit.0.0 fit.0.1, internals_from (suc n) internals fit.1) refl
-
-pub internals_are_read : InternalsAreRead
-internals_are_read internals fit = internals_from 0 internals (each_of IsReadableInternal internals fit)
 
 pub injections_are_read : InjectionsAreRead
 unfolding injection_at item_at item_format members_from
@@ -116,7 +107,7 @@ injections_from : (format : Format) (n : ℕ) (placed : List Placed) → AllByRe
 unfolding items_at stand_format
 injections_from format n [] fit known = refl
 injections_from format n (p ∷ placed) fit known =
-    let parts = neither (late format p) (list_any (late format) placed) known in
+    let parts = not_either (late format p) (list_any (late format) placed) known in
     by p.stand fit.0 parts.0 (λ m. injections_from format m placed fit.1 parts.1)
   where
     by : (stand : Stand) → IsReadableInjection p.terminal.equipment p.node stand → nat_le (suc (number_of format)) (stand_format stand) ≡ false
@@ -211,7 +202,7 @@ levels_from : (format : Format) (n : ℕ) (ls : List VoltageLevel) → AllByRecu
 unfolding items_at
 levels_from format n [] fit known = refl
 levels_from format n (l ∷ ls) fit known =
-    let parts = neither (level_needs (suc (number_of format)) l) (list_any (level_needs (suc (number_of format))) ls) known in
+    let parts = not_either (level_needs (suc (number_of format)) l) (list_any (level_needs (suc (number_of format))) ls) known in
     rw (levels_are_read format l fit.0 parts.0, levels_from format (suc n) ls fit.1 parts.1) refl
 
 substation_read : (format : Format) (s : Substation) → IsReadableSubstation s → list_any (level_needs (suc (number_of format))) s.levels ≡ false → substation_at format (substation_value s) ≡ Ok (substation_draft s)
@@ -227,7 +218,7 @@ substations_from : (format : Format) (n : ℕ) (ss : List Substation) → AllByR
 unfolding items_at
 substations_from format n [] fit known = refl
 substations_from format n (s ∷ ss) fit known =
-    let parts = neither (list_any (level_needs (suc (number_of format))) s.levels) (list_any (λ (t : Substation). list_any (level_needs (suc (number_of format))) t.levels) ss) known in
+    let parts = not_either (list_any (level_needs (suc (number_of format))) s.levels) (list_any (λ (t : Substation). list_any (level_needs (suc (number_of format))) t.levels) ss) known in
     rw (substation_read format s fit.0 parts.0, substations_from format (suc n) ss fit.1 parts.1) refl
 
 pub networks_are_read : NetworksAreRead

@@ -6,6 +6,7 @@ use Rattle.std.proofs.lemmas.Bool.{and_parts, or_cases, or_left, or_right, false
 use Rattle.std.proofs.lemmas.List.{map-append, append-nil}
 use Rattle.std.proofs.lemmas.Grind.{flat_map-append}
 use Rattle.grid_ids.specs.Name.{same_id, has_id}
+use Rattle.grid_ids.proofs.Alike.{same_is}
 use Rattle.grid_kinds.specs.Records.{rated_fault}
 use Rattle.grid_level.specs.declared.Placed.{Placed}
 use Rattle.grid_level.specs.VoltageLevel.{VoltageLevel}
@@ -23,7 +24,7 @@ use Rattle.grid_structure.specs.declared.End.{End}
 use Rattle.grid_structure.specs.declared.Edit.TheVariants as edits
 use Rattle.grid_structure.proofs.Branching.{with_transformer}
 use Rattle.grid_structure.proofs.Counts.{times, times-append, differ-times, there}
-use Rattle.grid_structure.proofs.Framing.{same_is, is_same, ids_of, locals, locals-append, ids_counted, level_ids_once}
+use Rattle.grid_structure.proofs.Framing.{is_same, ids_of, locals, locals-append, ids_counted, level_ids_once}
 use Rattle.grid_structure.proofs.Removing.{sides_by}
 use Rattle.grid_structure.proofs.Sides.{Side, has, has-append, side_of, sides_at, sides_of, sides_in, sides_in-append, same_side_is}
 use Rattle.grid_structure.proofs.Substations.{names, changed_at, levels_in, transformers_in, levels_at, transformers_at, sub_passes, sub_ids_once, all_implied}

@@ -1,8 +1,9 @@
 -- Where the substations' levels and transformers stand in the lists of a structure.
-use Rattle.std.proofs.Common.{◌≡◌, refl, sym, ap, ap₂, subst, ◌∙◌, ℕ, zero, suc, ◌+◌, ◌-◌, ◌<◌, ◌≤◌, List, [], ◌∷◌, ◌++◌, length, arith, Option, Some, None, take, drop, map, length-append, append_assoc, append-nil}
+use Rattle.std.proofs.Common.{◌≡◌, refl, sym, ap, ap₂, subst, ◌∙◌, ℕ, zero, suc, ◌+◌, ◌-◌, ◌≤◌, List, [], ◌∷◌, ◌++◌, length, arith, Option, Some, None, take, drop, map, length-append, append_assoc, append-nil}
 use Rattle.std.specs.List.{flat_map, slice_get}
 use Rattle.std.proofs.lemmas.List.{map-append}
 use Rattle.std.proofs.lemmas.Grind.{flat_map-append}
+use Rattle.grid_lemmas.proofs.Lists.{take_got}
 use Rattle.grid_structure.specs.declared.NamedBranch.{NamedBranch}
 use Rattle.grid_structure.specs.declared.Branch.{Branch}
 use Rattle.grid_structure.specs.Network.{Network, Substation}
@@ -15,13 +16,8 @@ use Rattle.grid_print.specs.Cutting.{between, levels_before, transformers_before
 
 -- ---- parts of lists
 
-pub one_more : {A : Type 0} (xs : List A) (n : ℕ) (x : A) → slice_get xs n ≡ Some x → take (suc n) xs ≡ take n xs ++ x ∷ []
-one_more [] n x e = cc
-one_more (y ∷ ys) zero x e = let same : y ≡ x = cc in ap (λ z. z ∷ []) same
-one_more (y ∷ ys) (suc n) x e = ap (λ zs. y ∷ zs) (one_more ys n x e)
-
 pub one_more_at : {A : Type 0} (xs : List A) (n : ℕ) (x : A) → slice_get xs n ≡ Some x → take (n + 1) xs ≡ take n xs ++ x ∷ []
-one_more_at xs n x e = let one : n + 1 ≡ suc n = omega arith in rw one (one_more xs n x e)
+one_more_at xs n x e = let one : n + 1 ≡ suc n = omega arith in rw one (take_got xs n x e)
 
 pub get_behind : {A : Type 0} (xs : List A) (k n : ℕ) → slice_get (drop k xs) n ≡ slice_get xs (k + n)
 get_behind [] zero n = refl
@@ -33,10 +29,7 @@ pub between_more : {A : Type 0} (xs : List A) (from place : ℕ) (x : A) → fro
 between_more xs from place x le at =
     let count : (place + 1) - from ≡ suc (place - from) = omega arith in
     let there : from + (place - from) ≡ place = omega arith in
-    rw count (one_more (drop from xs) (place - from) x (get_behind xs from (place - from) ∙ ap (slice_get xs) there ∙ at))
-
-pub between_none : {A : Type 0} (xs : List A) (from : ℕ) → between from from xs ≡ []
-between_none xs from = let none : from - from ≡ 0 = omega arith in rw none refl
+    rw count (take_got (drop from xs) (place - from) x (get_behind xs from (place - from) ∙ ap (slice_get xs) there ∙ at))
 
 pub take_front : {A : Type 0} (xs ys : List A) → take (length xs) (xs ++ ys) ≡ xs
 take_front [] ys = refl
@@ -45,16 +38,6 @@ take_front (x ∷ xs) ys = ap (λ zs. x ∷ zs) (take_front xs ys)
 drop_front : {A : Type 0} (n : ℕ) (xs ys : List A) → drop (length xs + n) (xs ++ ys) ≡ drop n ys
 drop_front n [] ys = let none : 0 + n ≡ n = omega arith in rw none refl
 drop_front n (x ∷ xs) ys = let move : suc (length xs) + n ≡ suc (length xs + n) = omega arith in rw move (drop_front n xs ys)
-
-get_front : {A : Type 0} (xs ys : List A) (n : ℕ) → n < length xs → slice_get (xs ++ ys) n ≡ slice_get xs n
-get_front [] ys n l = absurd (omega arith)
-get_front (x ∷ xs) ys zero l = refl
-get_front (x ∷ xs) ys (suc n) l = get_front xs ys n (omega arith)
-
-get_back : {A : Type 0} (xs ys : List A) (n : ℕ) → length xs ≤ n → slice_get (xs ++ ys) n ≡ slice_get ys (n - length xs)
-get_back [] ys n l = let none : n - 0 ≡ n = omega arith in rw none refl
-get_back (x ∷ xs) ys zero l = absurd (omega arith)
-get_back (x ∷ xs) ys (suc n) l = let move : suc n - suc (length xs) ≡ n - length xs = omega arith in rw move (get_back xs ys n (omega arith))
 
 -- ---- what each substation has of the whole
 

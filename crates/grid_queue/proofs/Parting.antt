@@ -7,9 +7,10 @@ use Rattle.std.proofs.lemmas.List.{append-nil}
 use Rattle.std.proofs.lemmas.List.Sums.{length-filter}
 use Rattle.std.proofs.lemmas.Map.Keys.{IsDistinct-cons, IsDistinct-head, IsDistinct-tail}
 use Rattle.std.proofs.lemmas.Map.Made.{length-le_from_is_member}
+use Rattle.grid_lemmas.proofs.Bools.{or_left, or_right}
 use Rattle.grid_graph.specs.Components.{places}
 use Rattle.grid_graph.specs.Graph.{Graph, joined_in, least_joined, labels_of}
-use Rattle.grid_graph.proofs.Reach.{In_left, In_right, In_parts, In_here, empty_distinct, eqb_laws, or_left, or_right}
+use Rattle.grid_graph.proofs.Reach.{In_left, In_right, In_parts, In_here, empty_distinct, eqb_laws}
 use Rattle.grid_graph.proofs.Places.{AreBelow, In_places}
 use Rattle.grid_graph.proofs.Least.{In_filter, least_is, least_is_least, least_below, n_refl, n_symm, n_below, least_same, joined_from_least}
 use Rattle.grid_graph.proofs.Counts.{counts_le, by_places, at_place, long_places}

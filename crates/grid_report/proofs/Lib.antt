@@ -6,3 +6,4 @@ pub mod Planned
 pub mod Scripts
 pub mod Turns
 pub mod Writing
+pub mod Stepping

@@ -7,22 +7,16 @@ use Rattle.std.proofs.lemmas.List.{reverse-append, length-reverse, take-append-l
 use Rattle.std.proofs.Math.Seq.{take-append_seam}
 use Rattle.std.proofs.lemmas.List.Elements.{filter_map-append}
 use Rattle.std.proofs.lemmas.List.Sums.{sum_by-append}
+use Rattle.grid_lemmas.proofs.Lists.{get_front}
+use Rattle.grid_lemmas.proofs.Ranges.{range_last}
 use Rattle.grid_requests.specs.declared.request.Request.{Request}
 use Rattle.grid_core.specs.History.{Command, command, asked_by}
 use Rattle.grid_report.specs.Histories.{next_of, step_at, steps_of, told_order, script_of, OrderTellsSteps}
-use Rattle.grid_report.proofs.Planned.{range_last}
 
 -- ---- lists
 
 pub last_first : {X : Type 0} (x : X) (xs : List X) → reverse (x ∷ xs) ≡ reverse xs ++ x ∷ []
 last_first x xs = reverse-append (x ∷ []) xs
-
-get_front : {X : Type 0} (xs ys : List X) (i : ℕ) → i < length xs → slice_get (xs ++ ys) i ≡ slice_get xs i
-get_front [] ys i lt =
-    let no : ⊥ = omega arith in
-    absurd no
-get_front (x ∷ xs) ys zero lt = refl
-get_front (x ∷ xs) ys (suc i) lt = get_front xs ys i (omega arith)
 
 get_seam : {X : Type 0} (xs : List X) (y : X) (ys : List X) → slice_get (xs ++ y ∷ ys) (length xs) ≡ Some y
 get_seam [] y ys = refl

@@ -1,19 +1,18 @@
 -- What is planned of a report, one item more at a time.
-use Rattle.std.proofs.Common.{◌≡◌, ℕ, zero, suc, ◌+◌, ◌<◌, ◌≤◌, ◌==◌, cond, Bool, true, false, List, [], ◌∷◌, Option, Some, ◌++◌, take, get_or, length, sym, ap, ◌∙◌, append_assoc, append-nil, length-append, arith, add-one}
+use Rattle.std.proofs.Common.{◌≡◌, ℕ, suc, ◌+◌, ◌<◌, ◌≤◌, ◌==◌, cond, true, List, [], ◌∷◌, ◌++◌, take, get_or, length, sym, ap, ◌∙◌, append_assoc, append-nil, length-append, arith, add-one}
 use Rattle.std.specs.Prelude.{filter}
-use Rattle.std.specs.List.{flat_map, filter_map, cons_option, range_with_len}
+use Rattle.std.specs.List.{flat_map, range_with_len}
 use Rattle.std.proofs.lemmas.Bool.{eq-eqb, ne_eqb}
-use Rattle.std.proofs.lemmas.List.{take_more, length-take-le}
+use Rattle.std.proofs.lemmas.List.{length-take-le}
 use Rattle.std.proofs.lemmas.List.Concat.{flat_map-append}
-use Rattle.std.proofs.lemmas.List.Elements.{filter-append, filter_map-append}
+use Rattle.std.proofs.lemmas.List.Elements.{filter-append}
+use Rattle.grid_lemmas.proofs.Lists.{length_filter, take_next}
+use Rattle.grid_lemmas.proofs.Ranges.{range_last}
 use Rattle.grid_events.specs.declared.filter.Filter.{Filter}
 use Rattle.grid_events.specs.Filters.{matches}
 use Rattle.grid_core.specs.declared.journal.Entry.{Entry}
 use Rattle.grid_report.specs.Events.{event_line}
 use Rattle.grid_report.specs.Outcomes.{numbered, step_text, steps_by, heard_in}
-
-taken : {X : Type 0} (xs : List X) (i : ℕ) (x : X) → i < length xs → x ≡ get_or xs i x → take (i + 1) xs ≡ take i xs ++ x ∷ []
-taken xs i x lt is = take_more xs i x lt ∙ ap (λ y. take i xs ++ y ∷ []) (sym is)
 
 -- ---- numbered items
 
@@ -32,7 +31,7 @@ module _ {X : Type 0} (text : ℕ → X → List ℕ) where
   items_more xs i x lt is =
       let le : i ≤ length xs = omega arith in
       let e : 0 + length (take i xs) ≡ i = omega (arith, length-take-le i xs le) in
-      ap (numbered text 0) (taken xs i x lt is) ∙ one_more 0 (take i xs) x ∙ ap (λ n. numbered text 0 (take i xs) ++ text n x) e
+      ap (numbered text 0) (take_next xs i x lt is) ∙ one_more 0 (take i xs) x ∙ ap (λ n. numbered text 0 (take i xs) ++ text n x) e
 
 -- what is planned so far, and a part more
 pub part_more : (old now new part next all : List ℕ) → now ≡ old ++ part → new ≡ now ++ next → all ≡ part ++ next → new ≡ old ++ all
@@ -44,28 +43,21 @@ pub own_step : (worker : ℕ) (journal : List Entry) (i : ℕ) (e : Entry) → i
 unfolding steps_by
 own_step worker journal i e lt is own =
     let h : (e.worker == worker) ≡ true = eq-eqb e.worker worker own in
-    ap (filter (λ (x : Entry). x.worker == worker)) (taken journal i e lt is)
+    ap (filter (λ (x : Entry). x.worker == worker)) (take_next journal i e lt is)
     ∙ filter-append (λ (x : Entry). x.worker == worker) (take i journal) (e ∷ [])
     ∙ ap (λ b. filter (λ (x : Entry). x.worker == worker) (take i journal) ++ cond b (e ∷ []) []) h
 
 pub other_step : (worker : ℕ) (journal : List Entry) (i : ℕ) (e : Entry) → i < length journal → e ≡ get_or journal i e → (e.worker ≡ worker → ⊥) → steps_by worker (take (i + 1) journal) ≡ steps_by worker (take i journal)
 unfolding steps_by
 other_step worker journal i e lt is other =
-    ap (filter (λ (x : Entry). x.worker == worker)) (taken journal i e lt is)
+    ap (filter (λ (x : Entry). x.worker == worker)) (take_next journal i e lt is)
     ∙ filter-append (λ (x : Entry). x.worker == worker) (take i journal) (e ∷ [])
     ∙ ap (λ b. filter (λ (x : Entry). x.worker == worker) (take i journal) ++ cond b (e ∷ []) []) (ne_eqb e.worker worker other)
     ∙ append-nil (filter (λ (x : Entry). x.worker == worker) (take i journal))
 
-filter_few : {X : Type 0} (p : X → Bool) (xs : List X) → length (filter p xs) ≤ length xs
-filter_few p [] = omega arith
-filter_few p (x ∷ xs) = elim (p x) as (λ b. length (cond b (x ∷ filter p xs) (filter p xs)) ≤ suc (length xs)) [
-  | true ↦ omega (arith, filter_few p xs)
-  | false ↦ omega (arith, filter_few p xs)
-]
-
 pub few_steps : (worker : ℕ) (journal : List Entry) → length (steps_by worker journal) ≤ length journal
 unfolding steps_by
-few_steps worker journal = filter_few (λ (x : Entry). x.worker == worker) journal
+few_steps worker journal = length_filter (λ (x : Entry). x.worker == worker) journal
 
 -- how many steps of the worker there are, with one more
 pub counted_more : (worker number : ℕ) (journal : List Entry) (i : ℕ) (e : Entry) → i < length journal → e ≡ get_or journal i e → e.worker ≡ worker → number ≡ length (steps_by worker (take i journal)) → number + 1 ≡ length (steps_by worker (take (i + 1) journal))
@@ -84,23 +76,6 @@ steps_more worker number journal i e lt is own counted =
 
 -- ---- workers
 
-pub range_last : (a n : ℕ) → range_with_len a (suc n) ≡ range_with_len a n ++ (a + n) ∷ []
-range_last a zero =
-    let e : a ≡ a + 0 = omega arith in
-    ap (λ x. x ∷ []) e
-range_last a (suc n) =
-    let e : (a + 1) + n ≡ a + suc n = omega arith in
-    ap (λ l. a ∷ l) (range_last (a + 1) n ∙ ap (λ x. range_with_len (a + 1) n ++ x ∷ []) e)
-
--- what is found at the numbers below one more
-pub found_more : {X : Type 0} (f : ℕ → Option X) (n : ℕ) (x : X) → f n ≡ Some x → filter_map f (range_with_len 0 (n + 1)) ≡ filter_map f (range_with_len 0 n) ++ x ∷ []
-found_more f n x found =
-    let e : 0 + n ≡ n = omega arith in
-    ap (λ k. filter_map f (range_with_len 0 k)) (add-one n)
-    ∙ ap (filter_map f) (range_last 0 n)
-    ∙ filter_map-append f (range_with_len 0 n) ((0 + n) ∷ [])
-    ∙ ap (λ o. filter_map f (range_with_len 0 n) ++ cons_option o []) (ap f e ∙ found)
-
 -- the texts of the numbers below one more
 pub flat_range : (f : ℕ → List ℕ) (n : ℕ) → flat_map f (range_with_len 0 (n + 1)) ≡ flat_map f (range_with_len 0 n) ++ f n
 flat_range f n =
@@ -115,7 +90,7 @@ flat_range f n =
 heard_more : (f : Filter) (journal : List Entry) (i : ℕ) (e : Entry) → i < length journal → e ≡ get_or journal i e → heard_in f (take (i + 1) journal) ≡ heard_in f (take i journal) ++ filter (matches f) e.events
 unfolding heard_in
 heard_more f journal i e lt is =
-    ap (λ l. filter (matches f) (flat_map (λ (x : Entry). x.events) l)) (taken journal i e lt is)
+    ap (λ l. filter (matches f) (flat_map (λ (x : Entry). x.events) l)) (take_next journal i e lt is)
     ∙ ap (filter (matches f)) (flat_map-append (λ (x : Entry). x.events) (take i journal) (e ∷ []) ∙ ap (λ l. flat_map (λ (x : Entry). x.events) (take i journal) ++ l) (append-nil e.events))
     ∙ filter-append (matches f) (flat_map (λ (x : Entry). x.events) (take i journal)) e.events
 

@@ -1,19 +1,7 @@
 -- Bytes that are written in several calls, and bytes that wait for a whole piece.
-use Rattle.std.proofs.Common.{◌≡◌, ℕ, ◌+◌, ◌-◌, List, [], ◌++◌, take, drop, length, Option, None, Some, refl, sym, ap, ◌∙◌, subst, append_assoc, append-nil, arith, length-drop, take-append-drop}
-use Rattle.std.specs.Prelude.{Result, Ok, Err, OnErr}
-use Rattle.std.proofs.Math.Seq.{take-add}
-use Rattle.std.proofs.lemmas.List.{take_all}
+use Rattle.std.proofs.Common.{◌≡◌, ℕ, ◌+◌, ◌-◌, List, [], ◌++◌, take, drop, Option, None, Some, sym, ap, ◌∙◌, append_assoc, append-nil, take-append-drop}
 use Rattle.std.specs.Io.KnownBytes.{Appends, append_known}
-use Rattle.std.proofs.KnownBytes.{Appends-trans}
 use Rattle.grid_source.specs.Whole.{IsBegun}
-
-rest_whole : (bs : List ℕ) (d : ℕ) → take (length bs - d) (drop d bs) ≡ drop d bs
-rest_whole bs d = take_all (length bs - d) (drop d bs) (omega (arith, length-drop d bs))
-
-pub wrote_more : (w0 w1 w2 : Option (List ℕ)) (bs : List ℕ) (d n : ℕ) → Appends w0 w1 (take d bs) → Appends w1 w2 (take n (take (length bs - d) (drop d bs))) → Appends w0 w2 (take (d + n) bs)
-wrote_more w0 w1 w2 bs d n p q =
-    let e : take d bs ++ take n (take (length bs - d) (drop d bs)) ≡ take (d + n) bs = rw (rest_whole bs d, take-add) refl in
-    subst (Appends w0 w2) e (Appends-trans w0 w1 w2 _ _ p q)
 
 -- what waits grew by front
 pub waits_more : (w0 w : Option (List ℕ)) (old waits grown text front : List ℕ) → Appends (append_known w0 old) (append_known w waits) text → grown ≡ waits ++ front → Appends (append_known w0 old) (append_known w grown) (text ++ front)
@@ -61,7 +49,3 @@ begun_in (Some x) (Some y) (Some z) old waits text rest bytes done e p q =
 -- a step on through the bytes
 pub further : (bytes text rest : List ℕ) (m : ℕ) → bytes ≡ text ++ rest → bytes ≡ (text ++ take m rest) ++ drop m rest
 further bytes text rest m e = e ∙ ap (λ l. text ++ l) (sym (take-append-drop m rest)) ∙ sym (append_assoc text (take m rest) (drop m rest))
-
-pub on_err : {T E : Type 0} {P : Type 0} (r : Result T E) → P → OnErr r P
-on_err (Ok x) p = tt
-on_err (Err e) p = p

@@ -6,12 +6,13 @@ use Rattle.std.specs.List.{enumerate_from, range_with_len, sum_by}
 use Rattle.std.specs.Option.{option_map}
 use Rattle.std.proofs.lemmas.List.{length-map, get_or-map, map-append}
 use Rattle.std.proofs.lemmas.List.Sums.{sum_by-cons}
+use Rattle.grid_lemmas.proofs.Lists.{map_twice, position_map, some_got}
+use Rattle.grid_lemmas.proofs.Options.{none_added}
 use Rattle.grid_graph.specs.Components.{places}
 use Rattle.grid_level.specs.VoltageLevel.{VoltageLevel}
 use Rattle.grid_level.specs.Passing.{nodes, positioned}
 use Rattle.grid_powers.specs.Listed.{Listed}
 use Rattle.grid_states.specs.Rows.{row_at}
-use Rattle.grid_structure.proofs.Places.{position_map, got_below}
 use Rattle.grid_busview.specs.declared.ViewBus.{ViewBus}
 use Rattle.grid_busview.specs.Views.{bus_of, bus_view_of, bus_leasts, node_buses_of, record_watts}
 use Rattle.grid_watts.specs.Watts.{level_watts}
@@ -24,7 +25,8 @@ use Rattle.grid_screen.specs.declared.outage.Changed.{Changed}
 use Rattle.grid_screen.specs.declared.screening.BusSums.{BusSums}
 use Rattle.grid_screen.specs.Screened.{Changes, change_at, bus_sums, buses_under, buses_over, sums_of, level_sums, present_sums, sums_in, sums_before, IsLooked, IsLookedAt}
 use Rattle.grid_screen.specs.Steps.{Stands}
-use Rattle.grid_screen.proofs.Shown.{Change, level_changed, level_kept, row_changed, row_kept, some_got, length-shown_levels}
+use Rattle.grid_screen.proofs.Shown.{Change, level_changed, level_kept, row_changed, row_kept, length-shown_levels}
+use Rattle.std.proofs.lemmas.Option.{slice_get_within}
 
 -- ---- lists by place
 
@@ -50,10 +52,6 @@ map_flat : {X Y Z : Type 0} (h : Y → Z) (g : X → List Y) (xs : List X) → m
 map_flat h g [] = refl
 map_flat h g (x ∷ xs) = map-append h (g x) (flat_map g xs) ∙ ap (λ z. map h (g x) ++ z) (map_flat h g xs)
 
-map_twice : {X Y Z : Type 0} (h : Y → Z) (g : X → Y) (xs : List X) → map h (map g xs) ≡ map (λ x. h (g x)) xs
-map_twice h g [] = refl
-map_twice h g (x ∷ xs) = ap (λ z. h (g x) ∷ z) (map_twice h g xs)
-
 -- ---- the bus that holds a node
 
 counted_none : (row : List (Option ℕ)) → counted_from 0 row ≡ row
@@ -61,10 +59,6 @@ unfolding counted_from
 counted_none [] = refl
 counted_none (None ∷ row) = ap (λ z. None ∷ z) (counted_none row)
 counted_none (Some k ∷ row) = let same : 0 + k ≡ k = omega arith in rw same (ap (λ z. Some k ∷ z) (counted_none row))
-
-none_added : (o : Option ℕ) → option_map (λ p. 0 + p) o ≡ o
-none_added (Some j) = let same : 0 + j ≡ j = omega arith in ap (λ z. Some z) same
-none_added None = refl
 
 held_alike : (listed : Listed) (level : VoltageLevel) (opened retained : List Bool) (z : ℤ) → position (λ b. holds b.nodes z) (buses_under listed level opened) ≡ position (λ b. holds b.nodes z) (buses_in level opened retained)
 unfolding buses_under bus_view_of bus_leasts bus_of
@@ -108,7 +102,7 @@ module _ (listed : Listed) (before : List VoltageLevel) (flags : List (List Bool
   -- a level that has changed
   pub own_level : (k : ℕ) (m : VoltageLevel) (c : Box Changed Global) → change_at changes k ≡ Some c → slice_get ls k ≡ Some m → c.value.level ≡ m
   unfolding long
-  own_level k m c some now = some_same (sym (ap (λ z. slice_get z k) (sym s.levels_are) ∙ level_changed changes before k c s.long (omega (arith, got_below ls k m now, long)) some) ∙ now)
+  own_level k m c some now = some_same (sym (ap (λ z. slice_get z k) (sym s.levels_are) ∙ level_changed changes before k c s.long (omega (arith, slice_get_within ls k m now, long)) some) ∙ now)
 
   pub own_row : (k : ℕ) (c : Box Changed Global) → change_at changes k ≡ Some c → row_at rows k ≡ c.value.opened
   own_row k c some = ap (λ z. row_at z k) (sym s.rows_are) ∙ row_changed changes flags k c (s.long ∙ sym s.rows_long) some
@@ -123,7 +117,7 @@ module _ (listed : Listed) (before : List VoltageLevel) (flags : List (List Bool
     where
       by : (o : Change) → change_at changes k ≡ o → sums_in kept o k ≡ sums_of listed m (row_at rows k)
       by None e =
-          let l = some_got before k (omega (arith, got_below ls k m now, long)) in
+          let l = some_got before k (omega (arith, slice_get_within ls k m now, long)) in
           kept_at k l.0 l.1 ∙ ap (λ z. sums_of listed z (row_at flags k)) (same_level k l.0 m e l.1 now) ∙ ap (sums_of listed m) (sym (same_row k e))
       by (Some c) e = (looked_at k c e).sums ∙ ap (λ z. sums_of listed z c.value.opened) (own_level k m c e now) ∙ ap (sums_of listed m) (sym (own_row k c e))
 

@@ -1,19 +1,18 @@
 -- What a switch that is opened and terminals that are taken out make of what the changes show.
-use Rattle.std.proofs.Common.{◌≡◌, refl, sym, ap, ◌∙◌, subst, ℕ, zero, suc, ◌+◌, ◌<◌, Bool, true, List, [], ◌∷◌, ◌++◌, take, length, get_or, Option, Some, None}
+use Rattle.std.proofs.Common.{◌≡◌, refl, sym, ap, ◌∙◌, subst, ℕ, ◌+◌, ◌<◌, Bool, true, List, [], ◌∷◌, ◌++◌, take, length, get_or, Option, Some, None}
 use Rattle.std.specs.Prelude.{slice_get, slice_set, fold}
 use Rattle.std.proofs.lemmas.List.{take_more}
 use Rattle.std.proofs.lemmas.List.Sums.{fold-append}
 use Rattle.std.specs.Option.{option_map}
+use Rattle.grid_lemmas.proofs.Lists.{set_same, some_got}
 use Rattle.grid_ids.specs.Name.{same_id}
 use Rattle.grid_level.specs.declared.Switch.{Switch}
 use Rattle.grid_level.specs.VoltageLevel.{VoltageLevel}
 use Rattle.grid_level.specs.LevelEdits.{level_without_equipment}
 use Rattle.grid_powers.specs.Listed.{Listed}
 use Rattle.grid_states.specs.Rows.{row_at, with_row, with_flag}
-use Rattle.grid_structure.specs.declared.Site.{Site}
-use Rattle.grid_structure.specs.declared.SwitchAt.{SwitchAt}
 use Rattle.grid_structure.specs.Network.{Network}
-use Rattle.grid_structure.specs.Sites.{levels, site, find_switch, switch_spot, terminal_spot}
+use Rattle.grid_structure.specs.Sites.{levels, site, find_switch}
 use Rattle.grid_structure.specs.Clearing.{cleared, cleared_at}
 use Rattle.grid_structure.specs.Indexed.{level_of_switch, level_of_terminal}
 use Rattle.grid_structure.proofs.Cleared.{cleared_is}
@@ -21,25 +20,9 @@ use Rattle.grid_structure.proofs.Found.{switch_nowhere, switch_somewhere, switch
 use Rattle.grid_structure.proofs.Places.{length-slice_set, position_found, set_itself}
 use Rattle.grid_screen.specs.Screened.{Changes, change_at, shown_levels}
 use Rattle.grid_screen.specs.Steps.{IsPut, Stands, StandsSo, cleared_side, levels_with_out, rows_with_out, taken_out}
-use Rattle.grid_screen.proofs.Shown.{put_stands, some_got, levels_unchanged, rows_unchanged}
+use Rattle.grid_screen.proofs.Shown.{put_stands, levels_unchanged, rows_unchanged}
 
 -- ---- sites
-
-pub no_site : (o : Option (ℕ × ℕ)) → None ≡ option_map terminal_spot o → o ≡ None
-no_site None e = refl
-no_site (Some at) e = cc
-
-pub some_site : (o : Option (ℕ × ℕ)) (at : Site) → Some at ≡ option_map terminal_spot o → o ≡ Some (at.level, at.node)
-some_site None at e = cc
-some_site (Some pair) at e = let l : at.level ≡ pair.0 = cc in let n : at.node ≡ pair.1 = cc in ap (λ z. Some (z, pair.1)) (sym l) ∙ ap (λ z. Some (at.level, z)) (sym n)
-
-pub no_spot : (o : Option (ℕ × ℕ)) → None ≡ option_map switch_spot o → o ≡ None
-no_spot None e = refl
-no_spot (Some at) e = cc
-
-pub some_spot : (o : Option (ℕ × ℕ)) (at : SwitchAt) → Some at ≡ option_map switch_spot o → o ≡ Some (at.level, at.place)
-some_spot None at e = cc
-some_spot (Some pair) at e = let l : at.level ≡ pair.0 = cc in let n : at.place ≡ pair.1 = cc in ap (λ z. Some (z, pair.1)) (sym l) ∙ ap (λ z. Some (at.level, z)) (sym n)
 
 abbrev pair : ℕ → ℕ → ℕ × ℕ
 pair a b = (a, b)
@@ -83,11 +66,6 @@ switch_in net id k p e = by (level_of_switch net id) refl
 
 -- ---- what changes show
 
-set_row : (rows : List (List Bool)) (k : ℕ) (row : List Bool) → row ≡ get_or rows k [] → slice_set rows k row ≡ rows
-set_row [] k row e = refl
-set_row (r ∷ rows) zero row e = ap (λ z. z ∷ rows) e
-set_row (r ∷ rows) (suc k) row e = ap (λ z. r ∷ z) (set_row rows k row e)
-
 module _ (listed : Listed) (before : List VoltageLevel) (flags : List (List Bool)) (old new : Changes) (ls : List VoltageLevel) (rows : List (List Bool)) (s : Stands listed before flags old ls rows) (k : ℕ) (lt : k < length before) (standing : VoltageLevel) (at : slice_get ls k ≡ Some standing) where
   first : (l : VoltageLevel) × (slice_get before k ≡ Some l)
   first = some_got before k lt
@@ -112,7 +90,7 @@ module _ (listed : Listed) (before : List VoltageLevel) (flags : List (List Bool
   cleared_stands id row e put =
       let one = put_stands listed before flags old new ls rows k first.0 (level_without_equipment id standing) row s put first.1 stay (ap length e ∙ s.flags_fit k first.0 first.1) in
       let now : slice_set ls k (level_without_equipment id standing) ≡ cleared_at id k ls = cleared_is id k ls standing at in
-      subst (λ z. Stands listed before flags new (cleared_at id k ls) z) (set_row rows k row e) (subst (λ z. Stands listed before flags new z (slice_set rows k row)) now one)
+      subst (λ z. Stands listed before flags new (cleared_at id k ls) z) (set_same rows k row e) (subst (λ z. Stands listed before flags new z (slice_set rows k row)) now one)
 
 -- where no side stands
 pub none_cleared : (net : Network) (id : List ℕ) (side : ℕ) (ls : List VoltageLevel) → site net id side ≡ None → cleared_side net id side ls ≡ ls

@@ -8,6 +8,7 @@ use Rattle.std.proofs.lemmas.List.Folds.{list_any-append}
 use Rattle.std.proofs.lemmas.List.Sums.{fold-append}
 use Rattle.std.proofs.lemmas.Slice.Zip.{length-zip, get_or-zip}
 use Rattle.std.proofs.lemmas.Grind.{flat_map-append}
+use Rattle.grid_lemmas.proofs.Bools.{or_false}
 use Rattle.grid_graph.specs.Components.{places}
 use Rattle.grid_groups.proofs.Steps.{places_more}
 use Rattle.grid_screen.specs.declared.screening.BusSums.{BusSums}
@@ -20,10 +21,6 @@ got_or (x ∷ xs) zero d lt = refl
 got_or (x ∷ xs) (suc k) d lt = got_or xs k d (omega arith)
 
 -- ---- different numbers
-
-or_false : (a : Bool) → a || false ≡ a
-or_false true = refl
-or_false false = refl
 
 module _ (numbers : List ℕ) (i : ℕ) (seen : List Bool) (lt : i < length numbers) (long : length seen ≡ length numbers) (below : get_or numbers i 0 < length numbers)
     (each : (s : ℕ) → s < length numbers → get_or seen s false ≡ list_any (λ n. n == s) (take i numbers)) where

@@ -6,6 +6,7 @@ use Rattle.std.proofs.lemmas.Bool.{lt-ltb, le-ltb}
 use Rattle.std.proofs.lemmas.List.{length-map, map-append, take_more}
 use Rattle.std.proofs.lemmas.List.Folds.{list_any-append}
 use Rattle.std.proofs.lemmas.List.FromFn.{length-range_with_len, get_or-range_with_len}
+use Rattle.grid_lemmas.proofs.Bools.{or_false}
 use Rattle.grid_graph.specs.Joined.{joined, is_least, least_nodes, group_of, groups}
 use Rattle.grid_graph.specs.Components.{places, component_number, component_numbers}
 use Rattle.grid_graph.specs.Graph.{graph, joined_in, EndsBelow}
@@ -13,8 +14,9 @@ use Rattle.grid_graph.proofs.Below.{pairs_below}
 use Rattle.grid_graph.proofs.Counts.{at_place, long_places}
 use Rattle.grid_groups.proofs.Steps.{places_more, places_passed}
 use Rattle.grid_structure.proofs.Found.{any-map}
-use Rattle.grid_islands.proofs.Sized.{number_below, same_number}
+use Rattle.grid_islands.proofs.Sized.{same_number}
 use Rattle.grid_screen.specs.Counting.{first_count, is_first}
+use Rattle.grid_islands.proofs.Numbers.{numbers_long}
 
 any_same : {X : Type 0} (p q : X → Bool) (xs : List X) → ((i : ℕ) (d : X) → i < length xs → p (get_or xs i d) ≡ q (get_or xs i d)) → list_any p xs ≡ list_any q xs
 any_same p q [] h = refl
@@ -28,10 +30,6 @@ get_places : (n i d : ℕ) → i < n → get_or (places n) i d ≡ i
 unfolding places
 get_places n i d lt = get_or-range_with_len 0 n i d lt ∙ omega arith
 
-or_false : (a : Bool) → a || false ≡ a
-or_false true = refl
-or_false false = refl
-
 -- nothing below a place stands at it or behind
 front_alone : (g : ℕ → Bool) (k m : ℕ) → list_any (λ b. nat_lt b k && g b) (places (k + m)) ≡ list_any (λ b. nat_lt b k && g b) (places k)
 front_alone g k zero = let same : k + 0 ≡ k = omega arith in ap (λ z. list_any (λ b. nat_lt b k && g b) (places z)) same
@@ -42,16 +40,6 @@ front_alone g k (suc m) =
     ∙ ap (λ t. list_any p (places (k + m)) || ((t && g (k + m)) || false)) (le-ltb (k + m) k (omega arith)) ∙ or_false (list_any p (places (k + m))) ∙ front_alone g k m
 
 module _ (count : ℕ) (pairs : List (ℕ × ℕ)) (ends : EndsBelow pairs count) where
-  pub numbers_long : (numbers : List ℕ) → numbers ≡ component_numbers count pairs → length numbers ≡ count
-  unfolding component_numbers
-  numbers_long numbers e = long_places count (component_number count pairs) numbers e
-
-  pub numbers_below : (numbers : List ℕ) → numbers ≡ component_numbers count pairs → (k : ℕ) → k < length numbers → get_or numbers k 0 < length numbers
-  unfolding component_numbers
-  numbers_below numbers e k lt =
-      let less : k < count = omega (arith, lt, numbers_long numbers e) in
-      omega (arith, at_place count (component_number count pairs) numbers k e less, numbers_long numbers e, number_below (graph count pairs) (pairs_below count pairs ends) k less)
-
   -- the numbers that stand before a place
   before : (k : ℕ) → k ≤ count → (numbers : List ℕ) → numbers ≡ component_numbers count pairs → take k numbers ≡ map (component_number count pairs) (places k)
   unfolding component_numbers places
@@ -98,4 +86,4 @@ module _ (count : ℕ) (pairs : List (ℕ × ℕ)) (ends : EndsBelow pairs count
   pub groups_counted : (numbers : List ℕ) → numbers ≡ component_numbers count pairs → first_count numbers (length numbers) ≡ length (groups (places count) pairs)
   unfolding groups least_nodes
   groups_counted numbers e =
-      ap (first_count numbers) (numbers_long numbers e) ∙ counted_firsts count (omega arith) numbers e ∙ sym (length-map (filter (is_least (places count) pairs) (places count)) (group_of (places count) pairs))
+      ap (first_count numbers) (numbers_long count pairs ends numbers e) ∙ counted_firsts count (omega arith) numbers e ∙ sym (length-map (filter (is_least (places count) pairs) (places count)) (group_of (places count) pairs))

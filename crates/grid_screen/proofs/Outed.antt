@@ -6,6 +6,7 @@ use Rattle.std.specs.Option.{option_map}
 use Rattle.std.proofs.lemmas.Bool.{and_parts, or_left, or_right, false≢true, ltb-true, ne_eqb, eq-eqb}
 use Rattle.std.proofs.lemmas.List.{get_or-map, append-nil}
 use Rattle.std.proofs.lemmas.Grind.{flat_map-append}
+use Rattle.grid_lemmas.proofs.Lists.{all_at, map_got, map_twice, position_map}
 use Rattle.grid_graph.specs.Components.{places}
 use Rattle.grid_graph.proofs.Counts.{at_place}
 use Rattle.grid_ids.specs.Name.{same_id, has_id}
@@ -22,7 +23,6 @@ use Rattle.grid_structure.specs.declared.End.{End}
 use Rattle.grid_structure.specs.Network.{Network}
 use Rattle.grid_structure.specs.Sites.{levels, branches, branch_ends, find_level}
 use Rattle.grid_structure.specs.Soundness.{IsSound, sides_from}
-use Rattle.grid_structure.proofs.Places.{position_map, got_below}
 use Rattle.grid_structure.proofs.Found.{some_find}
 use Rattle.grid_busview.specs.Views.{node_buses_of}
 use Rattle.grid_islands.specs.Islands.{NetworkBus, holds, bus_at, pair_between, pairs_among, branch_pairs, bus_pairs}
@@ -36,6 +36,7 @@ use Rattle.grid_screen.specs.Steps.{Stands}
 use Rattle.grid_screen.proofs.Buses.{bus_number, same_level, same_row, own_level, own_row, looked_at}
 use Rattle.grid_screen.proofs.Shown.{Change}
 use Rattle.grid_screen.proofs.Stands.{Ended, AllStand, all_stand, ends_alike, branches_alike}
+use Rattle.std.proofs.lemmas.Option.{slice_get_within}
 
 -- ---- the terminals that are left
 
@@ -61,11 +62,6 @@ all_kept {X} u (x ∷ xs) = by (u x) refl (all_kept u xs)
     by : (b : Bool) → u x ≡ b → list_all u (filter u xs) ≡ true → list_all u (cond b (x ∷ filter u xs) (filter u xs)) ≡ true
     by true e again = rw e again
     by false e again = again
-
-all_at : {X : Type 0} (t : X → Bool) (xs : List X) (k : ℕ) (x : X) → list_all t xs ≡ true → slice_get xs k ≡ Some x → t x ≡ true
-all_at t [] k x h at = cc
-all_at t (y ∷ xs) zero x h at = let same : y ≡ x = cc in ap t (sym same) ∙ (and_parts (t y) (list_all t xs) h).0
-all_at t (y ∷ xs) (suc k) x h at = all_at t xs k x (and_parts (t y) (list_all t xs) h).1 at
 
 none_above : (u : Placed → Bool) (n : ℕ) (ps : List Placed) → list_all (nat_lt n) (map (λ (p : Placed). p.node) ps) ≡ true → list_any (λ (p : Placed). p.node == n) (filter u ps) ≡ false
 none_above u n [] h = refl
@@ -195,15 +191,6 @@ left_branches {X} f removed (b ∷ bs) = by (has_id removed b.id) (left_branches
 
 -- ---- lists by place
 
-get_map : {X Y : Type 0} (f : X → Y) (xs : List X) (k : ℕ) (x : X) → slice_get xs k ≡ Some x → slice_get (map f xs) k ≡ Some (f x)
-get_map f [] k x at = cc
-get_map f (y ∷ xs) zero x at = let same : y ≡ x = cc in ap (λ z. Some (f z)) same
-get_map f (y ∷ xs) (suc k) x at = get_map f xs k x at
-
-map_twice : {X Y Z : Type 0} (h : Y → Z) (g : X → Y) (xs : List X) → map h (map g xs) ≡ map (λ x. h (g x)) xs
-map_twice h g [] = refl
-map_twice h g (x ∷ xs) = ap (λ z. h (g x) ∷ z) (map_twice h g xs)
-
 -- ---- the pairs of the branches that are left
 
 module _ (net new : Network) (sound : IsSound net) (removed : List (List ℕ)) (listed : Listed) (flags : List (List Bool)) (changes : Changes) (rows : List (List Bool)) (left : levels new ≡ map (level_without removed) (levels net))
@@ -237,7 +224,7 @@ module _ (net new : Network) (sound : IsSound net) (removed : List (List ℕ)) (
       ∙ ap (λ (at : ℕ × VoltageLevel). (node_buses_of (positioned at.1 (row_at flags at.0))).places) (level_at (levels net) k l (k, l) at)
 
   level_now : (k : ℕ) (l : VoltageLevel) → slice_get (levels net) k ≡ Some l → slice_get (levels new) k ≡ Some (level_without removed l)
-  level_now k l at = ap (λ z. slice_get z k) left ∙ get_map (level_without removed) (levels net) k l at
+  level_now k l at = ap (λ z. slice_get z k) left ∙ map_got (level_without removed) (levels net) k l at
 
   within : (n : ℕ) (node : ℤ) → node ≡ pos n → nat_le n max_node ≡ true → node_within node ≡ Some n
   unfolding node_within
@@ -279,7 +266,7 @@ module _ (net new : Network) (sound : IsSound net) (removed : List (List ℕ)) (
         ∙ ap (λ z. number_of_node (nodes then) (node_buses_of (positioned then z)).places end.node) (sym (own_row listed (levels net) flags changes (levels new) rows s e.place c q))
 
     inside : e.place < length (levels net)
-    inside = got_below (levels net) e.place e.level e.at
+    inside = slice_get_within (levels net) e.place e.level e.at
 
     pub left_end : has_id removed id ≡ false → now_of now (spot_of net spots end) ≡ bus_at new buses_left end
     unfolding bus_at number_at

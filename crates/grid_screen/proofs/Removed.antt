@@ -1,9 +1,8 @@
 -- What the removal of equipment leaves of a network's levels and branches.
-use Rattle.std.proofs.Common.{◌≡◌, refl, sym, ap, ◌∙◌, subst, ℕ, Bool, true, false, not, ◌||◌, List, [], ◌∷◌, ◌++◌, map}
-use Rattle.std.specs.Prelude.{filter, flat_map, Ok}
+use Rattle.std.proofs.Common.{◌≡◌, refl, sym, ap, ◌∙◌, subst, ℕ, Bool, true, false, not, ◌||◌, List, ◌++◌, map}
+use Rattle.std.specs.Prelude.{Ok}
 use Rattle.std.specs.List.{list_any}
 use Rattle.std.proofs.lemmas.Bool.{false≢true}
-use Rattle.std.proofs.lemmas.List.Elements.{filter-append}
 use Rattle.std.proofs.lemmas.List.Folds.{list_any-append}
 use Rattle.grid_ids.specs.Name.{same_id, has_id}
 use Rattle.grid_ids.specs.Refusing.{refuse_if}
@@ -12,47 +11,20 @@ use Rattle.grid_level.proofs.Editing as on_level
 use Rattle.grid_structure.specs.declared.NamedBranch.{NamedBranch}
 use Rattle.grid_structure.specs.declared.Edit.TheVariants.{RemoveEquipment}
 use Rattle.grid_structure.specs.declared.EditFault.TheVariants as faults
-use Rattle.grid_structure.specs.Network.{Network, Substation}
+use Rattle.grid_structure.specs.Network.{Network}
 use Rattle.grid_structure.specs.Sites.{levels, branches, single_ids, branch_ids, equipment_ids}
-use Rattle.grid_structure.specs.Editing.{apply, with_levels, substation_without, without_branch}
+use Rattle.grid_structure.specs.Editing.{apply, with_levels, without_branch}
 use Rattle.grid_structure.proofs.Counts.{not_there}
 use Rattle.grid_structure.proofs.Dropping.{none_out}
-use Rattle.grid_structure.proofs.Framing.{frame-with_levels, same_branches}
 use Rattle.grid_structure.proofs.Levels.{levels-with_levels}
-use Rattle.grid_structure.proofs.Removing.{dropped}
+use Rattle.grid_structure.proofs.Removing.{dropped, branches-dropped, cleared_branches, levels-dropped}
 
 -- ---- an equipment that is removed
 
-levels-dropped : (id : List ℕ) (subs : List Substation) → flat_map (λ (s : Substation). s.levels) (map (substation_without id) subs) ≡ flat_map (λ (s : Substation). s.levels) subs
-unfolding substation_without
-levels-dropped id [] = refl
-levels-dropped id (s ∷ subs) = ap (λ z. s.levels ++ z) (levels-dropped id subs)
-
-transformers-dropped : (id : List ℕ) (subs : List Substation) → flat_map (λ (s : Substation). s.transformers) (map (substation_without id) subs) ≡ without_branch id (flat_map (λ (s : Substation). s.transformers) subs)
-unfolding substation_without without_branch
-transformers-dropped id [] = refl
-transformers-dropped id (s ∷ subs) =
-    ap (λ z. filter (λ (b : NamedBranch). not (same_id id b.id)) s.transformers ++ z) (transformers-dropped id subs)
-    ∙ sym (filter-append (λ (b : NamedBranch). not (same_id id b.id)) s.transformers (flat_map (λ (s : Substation). s.transformers) subs))
-
-levels_left : (id : List ℕ) (net : Network) → levels (dropped id net) ≡ levels net
-unfolding levels
-levels_left id net = levels-dropped id net.substations
-
-branches_left : (id : List ℕ) (net : Network) → branches (dropped id net) ≡ without_branch id (branches net)
-unfolding branches without_branch
-branches_left id net =
-    ap (λ z. z ++ filter (λ (b : NamedBranch). not (same_id id b.id)) net.lines) (transformers-dropped id net.substations)
-    ∙ sym (filter-append (λ (b : NamedBranch). not (same_id id b.id)) (flat_map (λ (s : Substation). s.transformers) net.substations) net.lines)
-
-cleared_branches : (id : List ℕ) (net : Network) → branches (with_levels (level_without_equipment id) net) ≡ branches net
-unfolding with_levels level_without_equipment
-cleared_branches id net = same_branches (with_levels (level_without_equipment id) net) net (frame-with_levels (level_without_equipment id) (λ l. refl) net) refl
-
 -- the levels without its terminals, and the branches without it
 pub record Lessened (net new : Network) (id : List ℕ) : Type 0 where
-  pub levels_left : levels new ≡ map (level_without_equipment id) (levels net)
-  pub branches_left : branches new ≡ without_branch id (branches net)
+  pub levels-dropped : levels new ≡ map (level_without_equipment id) (levels net)
+  pub branches-dropped : branches new ≡ without_branch id (branches net)
 
 pub lessened : (net new : Network) (id : List ℕ) → apply net (RemoveEquipment id) ≡ Ok new → Lessened net new id
 unfolding apply
@@ -61,8 +33,8 @@ lessened net new id h =
     let cleared = with_levels (level_without_equipment id) net in
     let is : dropped id cleared ≡ new = cc (t.next) in
     subst (λ (z : Network). Lessened net z id) is (record {
-      levels_left = levels_left id cleared ∙ levels-with_levels (level_without_equipment id) net;
-      branches_left = branches_left id cleared ∙ ap (without_branch id) (cleared_branches id net);
+      levels-dropped = levels-dropped id cleared ∙ levels-with_levels (level_without_equipment id) net;
+      branches-dropped = branches-dropped id cleared ∙ ap (without_branch id) (cleared_branches id net);
     })
 
 -- ---- no equipment of the id

@@ -3,13 +3,15 @@ use Rattle.std.proofs.Common.{◌≡◌, refl, sym, ap, ◌∙◌, subst, ℕ, z
 use Rattle.std.specs.Prelude.{slice_get, slice_set, Box}
 use Rattle.std.specs.declared.alloc.Global.{Global}
 use Rattle.std.proofs.lemmas.Bool.{cases_eq}
+use Rattle.grid_lemmas.proofs.Lists.{get_other, get_set, some_got}
 use Rattle.grid_level.specs.VoltageLevel.{VoltageLevel}
 use Rattle.grid_powers.specs.Listed.{Listed}
 use Rattle.grid_states.specs.Rows.{row_at}
-use Rattle.grid_structure.proofs.Places.{length-slice_set, got_below}
+use Rattle.grid_structure.proofs.Places.{length-slice_set}
 use Rattle.grid_screen.specs.declared.outage.Changed.{Changed}
 use Rattle.grid_screen.specs.Screened.{Changes, change_at, shown_levels, shown_rows, IsLookedAt}
 use Rattle.grid_screen.specs.Steps.{IsPut, Stands}
+use Rattle.std.proofs.lemmas.Option.{slice_get_within}
 
 abbrev pub Change : Type 0
 Change = Option (Box Changed Global)
@@ -98,25 +100,13 @@ rows_put (o ∷ changes) (r ∷ rows) (suc k) c long =
     rows-cons o (slice_set changes k (Some c)) r rows ∙ ap (λ z. row_by o r ∷ z) (rows_put changes rows k c (omega (arith, long)))
     ∙ ap (λ z. slice_set z (suc k) c.value.opened) (sym (rows-cons o changes r rows))
 
-get_set : {X : Type 0} (xs : List X) (k : ℕ) (y : X) → k < length xs → slice_get (slice_set xs k y) k ≡ Some y
-get_set [] k y lt = absurd (omega arith)
-get_set (x ∷ xs) zero y lt = refl
-get_set (x ∷ xs) (suc k) y lt = get_set xs k y (omega arith)
-
-get_other : {X : Type 0} (xs : List X) (k j : ℕ) (y : X) → (k ≡ j → ⊥) → slice_get (slice_set xs k y) j ≡ slice_get xs j
-get_other [] k j y ne = refl
-get_other (x ∷ xs) zero zero y ne = absurd (ne refl)
-get_other (x ∷ xs) zero (suc j) y ne = refl
-get_other (x ∷ xs) (suc k) zero y ne = refl
-get_other (x ∷ xs) (suc k) (suc j) y ne = get_other xs k j y (λ e. ne (omega (arith, e)))
-
 -- another level at a place, where its switches stay and its flags are as many
 pub put_stands : (listed : Listed) (before : List VoltageLevel) (flags : List (List Bool)) (old new : Changes) (ls : List VoltageLevel) (rows : List (List Bool)) (k : ℕ) (l level : VoltageLevel) (opened : List Bool)
     → Stands listed before flags old ls rows → IsPut listed k level opened old new → slice_get before k ≡ Some l → level.switches ≡ l.switches → length opened ≡ length l.switches
     → Stands listed before flags new (slice_set ls k level) (slice_set rows k opened)
 unfolding row_at
 put_stands listed before flags old new ls rows k l level opened s p at stay fit =
-    let inside : k < length before = got_below before k l at in
+    let inside : k < length before = slice_get_within before k l at in
     let rows_long : length rows ≡ length before = ap length (sym s.rows_are) ∙ length-shown_rows old flags (s.long ∙ sym s.rows_long) ∙ s.rows_long in
     let levels_long : length ls ≡ length before = ap length (sym s.levels_are) ∙ length-shown_levels old before s.long in
     record {
@@ -161,11 +151,6 @@ pub changed_at : (changes : Changes) (k : ℕ) (o : Change) → k < length chang
 changed_at [] k o lt e = absurd (omega arith)
 changed_at (x ∷ changes) zero o lt e = sym e
 changed_at (x ∷ changes) (suc k) o lt e = changed_at changes k o (omega arith) e
-
-pub some_got : {X : Type 0} (xs : List X) (n : ℕ) → n < length xs → (x : X) × (slice_get xs n ≡ Some x)
-some_got [] n l = absurd (omega arith)
-some_got (x ∷ xs) zero l = (x, refl)
-some_got (x ∷ xs) (suc n) l = some_got xs n (omega arith)
 
 pub level_changed : (changes : Changes) (ls : List VoltageLevel) (k : ℕ) (c : Box Changed Global) → length changes ≡ length ls → k < length ls → change_at changes k ≡ Some c → slice_get (shown_levels changes ls) k ≡ Some c.value.level
 level_changed changes ls k c long lt e = let l = some_got ls k lt in get_shown changes ls k l.0 long l.1 ∙ ap (λ z. Some (level_by z l.0)) e

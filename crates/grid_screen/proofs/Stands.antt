@@ -1,11 +1,14 @@
 -- Where the terminals of an equipment stand in a sound network.
-use Rattle.std.proofs.Common.{◌≡◌, refl, sym, ap, ◌∙◌, subst, ℕ, ℤ, pos, zero, suc, ◌+◌, ◌<◌, ◌≤◌, Bool, true, false, cond, not, ◌&&◌, ◌||◌, List, [], ◌∷◌, length, map, arith, inl, inr, Option, Some, None}
-use Rattle.std.specs.Prelude.{filter, find, flat_map, position, slice_get, is_some, ◌==◌}
+use Rattle.std.proofs.Common.{◌≡◌, refl, sym, ap, ◌∙◌, subst, ℕ, ℤ, pos, zero, suc, ◌+◌, ◌<◌, ◌≤◌, Bool, true, false, cond, not, ◌&&◌, ◌||◌, List, [], ◌∷◌, length, map, arith, inl, inr, Some}
+use Rattle.std.specs.Prelude.{filter, flat_map, position, slice_get, ◌==◌}
 use Rattle.std.specs.Option.{option_map}
 use Rattle.std.specs.List.{list_any, list_all}
 use Rattle.std.proofs.lemmas.List.Folds.{list_any-append}
 use Rattle.std.proofs.lemmas.Bool.{or_cases, or_left, or_right, and_parts, and_from, false≢true, true≢false, eq-eqb, eqb-true}
+use Rattle.grid_lemmas.proofs.Lists.{all_at, some_got}
+use Rattle.grid_lemmas.proofs.Options.{some_value}
 use Rattle.grid_ids.specs.Name.{same_id, has_id}
+use Rattle.grid_ids.proofs.Alike.{same_is}
 use Rattle.grid_level.specs.declared.Placed.{Placed}
 use Rattle.grid_level.specs.declared.Stand.{Stand}
 use Rattle.grid_level.specs.declared.Stand.TheVariants.{Busbar, Feeder, BranchEnd}
@@ -22,14 +25,14 @@ use Rattle.grid_structure.specs.Network.{Network}
 use Rattle.grid_structure.specs.Sites.{levels, branches, branch_ends, branch_ids, single_ids, equipment_ids, site, find_level, all_ids}
 use Rattle.grid_structure.specs.Soundness.{IsSound, record_sides, placed_sides, sides_from, same_side, all_among}
 use Rattle.grid_structure.specs.Indexed.{has_terminal, level_of_terminal}
-use Rattle.grid_structure.proofs.Cleared.{mentions, nothing_left}
+use Rattle.grid_structure.proofs.Cleared.{mentions, unmentioned}
 use Rattle.grid_structure.proofs.Counts.{times, not_there, differ-times}
-use Rattle.grid_structure.proofs.Found.{any-flat_map, some_find, some_position, terminal_somewhere, terminal_tested, terminal_test}
-use Rattle.grid_structure.proofs.Framing.{is_same, same_is, level_ids_once}
+use Rattle.grid_structure.proofs.Found.{any-flat_map, some_position, terminal_somewhere, terminal_tested, terminal_test}
+use Rattle.grid_structure.proofs.Framing.{is_same, level_ids_once}
 use Rattle.grid_structure.proofs.Places.{position_found}
 use Rattle.grid_structure.proofs.Removing.{sides_by}
-use Rattle.grid_structure.proofs.Sides.{Side, has, has-append, same_side_is, is_same_side, among_has, sides_of, sides_at, sides_in}
-use Rattle.grid_structure.proofs.Uniquely.{side_in, one_home, one_place, some_branch, names_of_branches}
+use Rattle.grid_structure.proofs.Sides.{Side, has, has-append, same_side_is, is_same_side, sides_of, sides_at, sides_in}
+use Rattle.grid_structure.proofs.Uniquely.{side_in, one_home, one_place, some_branch, names_of_branches, recorded}
 
 -- ---- a terminal of the equipment
 
@@ -50,19 +53,6 @@ pub any_there : {X : Type 0} (t : X → Bool) (xs : List X) (k : ℕ) (x : X) �
 any_there t [] k x at h = cc
 any_there t (y ∷ xs) zero x at h = let same : y ≡ x = cc in or_left (t y) (list_any t xs) (ap t same ∙ h)
 any_there t (y ∷ xs) (suc k) x at h = or_right (t y) (list_any t xs) (any_there t xs k x at h)
-
-all_there : {X : Type 0} (t : X → Bool) (xs : List X) (k : ℕ) (x : X) → list_all t xs ≡ true → slice_get xs k ≡ Some x → t x ≡ true
-all_there t [] k x h at = cc
-all_there t (y ∷ xs) zero x h at = let same : y ≡ x = cc in ap t (sym same) ∙ (and_parts (t y) (list_all t xs) h).0
-all_there t (y ∷ xs) (suc k) x h at = all_there t xs k x (and_parts (t y) (list_all t xs) h).1 at
-
--- no terminal is of the equipment
-pub unmentioned : (id : List ℕ) (l : VoltageLevel) → mentions id l ≡ false → level_without_equipment id l ≡ l
-unmentioned id l h = nothing_left id l (ap (option_map (λ (p : Placed). p.node)) (gone (find (λ (p : Placed). same_id id p.terminal.equipment) l.placed) (some_find (λ (p : Placed). same_id id p.terminal.equipment) l.placed ∙ h)))
-  where
-    gone : (o : Option Placed) → is_some o ≡ false → o ≡ None
-    gone (Some p) e = absurd (true≢false e)
-    gone None e = refl
 
 -- ---- the sides of branches
 
@@ -87,10 +77,6 @@ branch_range (b ∷ bs) x h = elim (or_cases (has (sides_from b.id 1 (branch_end
   | inl a ↦ (let r = side_range b.id 1 (branch_ends b.shape) x a in (omega (arith, r.0), omega (arith, r.1, many_ends b.shape)))
   | inr a ↦ branch_range bs x a
 ]
-
-recorded : (net : Network) (x : Side) → IsSound net → has (sides_in (levels net)) x ≡ true → has (sides_by (branches net)) x ≡ true
-unfolding placed_sides record_sides
-recorded net x s h = among_has (sides_in (levels net)) (sides_by (branches net)) x s.placed_are_sides h
 
 -- a branch end that stands in a level is a side of it
 end_side : (id : List ℕ) (ps : List Placed) (k : ℕ) (p : Placed) → slice_get ps k ≡ Some p → is_branch_end p.stand ≡ true → has (sides_at id ps) (p.terminal.equipment, p.terminal.side, id, pos p.node) ≡ true
@@ -130,20 +116,11 @@ one_of_three net k j l p s at here = by (is_branch_end p.stand) refl
     alone BranchEnd e h = absurd (true≢false e)
 
     passes : side_passes p.terminal.side p.stand ≡ true
-    passes = all_there stand_passes l.placed j p (on_level.passes_of l (all_there level_passes (levels net) k l s.each_level at)).stands here
+    passes = all_at stand_passes l.placed j p (on_level.passes_of l (all_at level_passes (levels net) k l s.each_level at)).stands here
 
     by : (t : Bool) → is_branch_end p.stand ≡ t → (1 ≤ p.terminal.side) × (p.terminal.side ≤ 3)
     by true e = branch_range (branches net) (p.terminal.equipment, p.terminal.side, l.id, pos p.node) (recorded net _ s (side_in (levels net) k l _ at (end_side l.id l.placed j p here e)))
     by false e = let one = alone p.stand e passes in (omega (arith, one), omega (arith, one))
-
-some_of : {X : Type 0} (o : Option X) → is_some o ≡ true → (x : X) × (o ≡ Some x)
-some_of (Some x) h = (x, refl)
-some_of None h = absurd (false≢true h)
-
-some_got : {X : Type 0} (xs : List X) (n : ℕ) → n < length xs → (x : X) × (slice_get xs n ≡ Some x)
-some_got [] n l = absurd (omega arith)
-some_got (x ∷ xs) zero l = (x, refl)
-some_got (x ∷ xs) (suc n) l = some_got xs n (omega arith)
 
 -- a level with a terminal of the equipment is at the site of one of its sides
 pub record Sited (net : Network) (id : List ℕ) (k : ℕ) : Type 0 where
@@ -160,12 +137,12 @@ sited net id k l s at h =
     let side = m.item.terminal.side in
     let range = one_of_three net k m.place l m.item s at m.at in
     let here : has_terminal id side l ≡ true = any_there (λ (p : Placed). same_id id p.terminal.equipment && (p.terminal.side == side)) l.placed m.place m.item m.at (and_from (same_id id m.item.terminal.equipment) (side == side) m.own (eq-eqb side side refl)) in
-    let found = some_of (position (has_terminal id side) (levels net)) (some_position (has_terminal id side) (levels net) ∙ any_there (has_terminal id side) (levels net) k l at here) in
+    let found = some_value (position (has_terminal id side) (levels net)) (some_position (has_terminal id side) (levels net) ∙ any_there (has_terminal id side) (levels net) k l at here) in
     let passes = position_found (has_terminal id side) (levels net) found.0 found.1 in
     let there = some_got (levels net) found.0 passes.0 in
     let same : found.0 ≡ k = one_home net id side found.0 k there.0 l s there.1 at (passes.1 there.0 there.1) here in
     let first : level_of_terminal net id side ≡ Some k = found.1 ∙ ap (λ z. Some z) same in
-    let node = some_of (terminal_test id side l) (sym (terminal_tested id side l) ∙ here) in
+    let node = some_value (terminal_test id side l) (sym (terminal_tested id side l) ∙ here) in
     record { side = side; least = range.0; most = range.1; node = node.0; is = terminal_somewhere net id side k l first at ∙ ap (option_map (λ y. (k, y))) node.1 }
 
 -- ---- no equipment has the id
@@ -289,7 +266,7 @@ found_at : (net : Network) (k : ℕ) (l : VoltageLevel) → IsSound net → slic
 unfolding find_level
 found_at net k l s at =
     let test = λ (x : VoltageLevel). same_id l.id x.id in
-    let found = some_of (position test (levels net)) (some_position test (levels net) ∙ any_there test (levels net) k l at (is_same l.id l.id refl)) in
+    let found = some_value (position test (levels net)) (some_position test (levels net) ∙ any_there test (levels net) k l at (is_same l.id l.id refl)) in
     let passes = position_found test (levels net) found.0 found.1 in
     let there = some_got (levels net) found.0 passes.0 in
     let alike : l.id ≡ there.0.id = same_is l.id there.0.id (passes.1 there.0 there.1) in

@@ -5,7 +5,9 @@ use Rattle.std.specs.List.{enumerate_from, list_any}
 use Rattle.std.specs.Option.{option_map}
 use Rattle.std.proofs.lemmas.Bool.{eq-eqb, eqb-true, true≢false, false≢true, or_left, or_right, or_cases}
 use Rattle.std.proofs.lemmas.List.Folds.{list_any-append}
+use Rattle.grid_lemmas.proofs.Lists.{map_twice, set_same}
 use Rattle.grid_ids.specs.Name.{same_id, has_id}
+use Rattle.grid_ids.proofs.Alike.{same_is, same_swap}
 use Rattle.grid_level.specs.declared.Placed.{Placed}
 use Rattle.grid_level.specs.declared.Switch.{Switch}
 use Rattle.grid_level.specs.VoltageLevel.{VoltageLevel}
@@ -22,8 +24,7 @@ use Rattle.grid_structure.specs.Sites.{levels, branches, equipment_ids, find_swi
 use Rattle.grid_structure.specs.Editing.{apply, without_branch}
 use Rattle.grid_structure.specs.Soundness.{IsSound}
 use Rattle.grid_structure.proofs.Cleared.{all_cleared, is_at, mentions}
-use Rattle.grid_structure.proofs.Framing.{same_is, is_same}
-use Rattle.grid_structure.proofs.Gaining.{same_swap}
+use Rattle.grid_structure.proofs.Framing.{is_same}
 use Rattle.grid_structure.proofs.Soundly.{apply_sound}
 use Rattle.grid_busview.specs.Views.{bus_view_of}
 use Rattle.grid_watts.specs.Watts.{level_watts, watts_at, watts_for}
@@ -83,10 +84,6 @@ all_stay : {X : Type 0} (name : X → List ℕ) (xs : List X) → filter (λ x. 
 unfolding has_id
 all_stay name [] = refl
 all_stay name (x ∷ xs) = ap (λ z. x ∷ z) (all_stay name xs)
-
-map_twice : {X Y Z : Type 0} (h : Y → Z) (g : X → Y) (xs : List X) → map h (map g xs) ≡ map (λ x. h (g x)) xs
-map_twice h g [] = refl
-map_twice h g (x ∷ xs) = ap (λ z. h (g x) ∷ z) (map_twice h g xs)
 
 map_alike : {X Y : Type 0} (f g : X → Y) (xs : List X) → ((x : X) → f x ≡ g x) → map f xs ≡ map g xs
 map_alike f g [] h = refl
@@ -187,14 +184,9 @@ open_row [] p h = absurd (false≢true h)
 open_row (x ∷ row) zero h = ap (λ z. z ∷ row) (sym h)
 open_row (x ∷ row) (suc p) h = ap (λ z. x ∷ z) (open_row row p h)
 
-same_row : (rows : List (List Bool)) (k : ℕ) (row : List Bool) → row ≡ get_or rows k [] → slice_set rows k row ≡ rows
-same_row [] k row e = refl
-same_row (r ∷ rows) zero row e = ap (λ z. z ∷ rows) e
-same_row (r ∷ rows) (suc k) row e = ap (λ z. r ∷ z) (same_row rows k row e)
-
 still_open : (rows : List (List Bool)) (k p : ℕ) → get_or (row_at rows k) p false ≡ true → with_flag rows k p true ≡ rows
 unfolding with_flag with_row row_at
-still_open rows k p h = same_row rows k (slice_set (get_or rows k []) p true) (open_row (get_or rows k []) p h)
+still_open rows k p h = set_same rows k (slice_set (get_or rows k []) p true) (open_row (get_or rows k []) p h)
 
 -- the structure and the watts stay
 record Opened (state : State) (k p : ℕ) (new : State) : Type 0 where

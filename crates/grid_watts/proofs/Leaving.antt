@@ -1,15 +1,14 @@
 -- By how much a sum changes where an equipment is removed, or gets other watts.
 use Rattle.std.proofs.Common.{◌≡◌, refl, sym, ap, ◌∙◌, subst, ℕ, ℤ, pos, ◌+◌, ◌≤◌, Bool, true, false, cond, not, List, [], ◌∷◌, ◌++◌, arith, Option, Some}
-use Rattle.std.specs.Prelude.{◌+ℤ◌, neg_ℤ, map, filter, find, unwrap_or, Ok}
-use Rattle.std.proofs.lemmas.Bool.{true≢false, and_parts, false_from_ne_true}
+use Rattle.std.specs.Prelude.{◌+ℤ◌, neg_ℤ, map, find, unwrap_or, Ok}
+use Rattle.std.proofs.lemmas.Bool.{and_parts}
 use Rattle.std.proofs.lemmas.Int.{ints}
-use Rattle.std.proofs.lemmas.List.{map-append}
 use Rattle.std.proofs.lemmas.List.Elements.{filter-append}
 use Rattle.grid_ids.specs.Name.{same_id, has_id}
 use Rattle.grid_ids.specs.Refusing.{refuse_if}
+use Rattle.grid_ids.proofs.Alike.{same_is, same_swap}
 use Rattle.grid_level.specs.declared.Placed.{Placed}
 use Rattle.grid_level.specs.VoltageLevel.{VoltageLevel}
-use Rattle.grid_level.specs.Passing.{is_branch_end}
 use Rattle.grid_level.specs.LevelEdits.{level_without_equipment}
 use Rattle.grid_level.proofs.Editing as on_level
 use Rattle.grid_structure.specs.Network.{Network, Substation}
@@ -19,12 +18,13 @@ use Rattle.grid_structure.specs.declared.Edit.{Edit}
 use Rattle.grid_structure.specs.declared.Edit.TheVariants as edits
 use Rattle.grid_structure.specs.declared.EditFault.TheVariants as faults
 use Rattle.grid_structure.specs.Soundness.{IsSound}
-use Rattle.grid_structure.proofs.Counts.{times, times-append}
-use Rattle.grid_structure.proofs.Framing.{locals, same_is, is_same}
+use Rattle.grid_structure.proofs.Counts.{times}
+use Rattle.grid_structure.proofs.Framing.{locals}
 use Rattle.grid_structure.proofs.Levels.{levels-with_levels}
 use Rattle.grid_structure.proofs.OneLevel.{names_of}
 use Rattle.grid_structure.proofs.Uniquely.{local_once}
 use Rattle.grid_structure.proofs.Removing.{dropped}
+use Rattle.grid_structure.proofs.Naming.{names_both}
 use Rattle.grid_powers.specs.Listed.{Listed, value_in, with_value, without_value}
 use Rattle.grid_powers.proofs.Listing.{value_without, value_with-other, value_with-own}
 use Rattle.grid_busview.specs.Views.{stand_watts}
@@ -34,20 +34,11 @@ use Rattle.grid_watts.proofs.Summing.{summed, adds, all_placed, whole}
 use Rattle.grid_watts.proofs.Owning.{IsPart, others, split, others_alike, owned_found}
 use Rattle.grid_watts.proofs.Shifting.{substations_alike, substation_stays, level_stays, busbar_stays, switch_stays, switch_less_stays, internal_stays, internal_less_stays, injection_brings, branch_stays}
 
-same_turn : (a b : List ℕ) → same_id a b ≡ false → same_id b a ≡ false
-same_turn a b e = false_from_ne_true (same_id b a) (λ is. true≢false (sym (is_same a b (sym (same_is b a is))) ∙ e))
-
 -- ---- each id stands under at most one single
-
-names-append : (id : List ℕ) (xs ys : List Placed) → times id (names_of (xs ++ ys)) ≡ times id (names_of xs) + times id (names_of ys)
-names-append id xs ys =
-    let t : Placed → Bool = λ p. not (is_branch_end p.stand) in
-    let f : Placed → List ℕ = λ p. p.terminal.equipment in
-    ap (λ z. times id (map f z)) (filter-append t xs ys) ∙ ap (times id) (map-append f (filter t xs) (filter t ys)) ∙ times-append id (map f (filter t xs)) (map f (filter t ys))
 
 pub names_within : (id : List ℕ) (ls : List VoltageLevel) → times id (names_of (all_placed ls)) ≤ locals id ls
 names_within id [] = omega arith
-names_within id (l ∷ ls) = omega (arith, names-append id l.placed (all_placed ls), names_within id ls)
+names_within id (l ∷ ls) = omega (arith, names_both id l.placed (all_placed ls), names_within id ls)
 
 names_once : (net : Network) (id : List ℕ) → IsSound net → times id (names_of (all_placed (levels net))) ≤ 1
 names_once net id s = omega (arith, names_within id (levels net), local_once net id s)
@@ -72,7 +63,7 @@ left id (l ∷ ls) = ap (λ z. others id l.placed ++ z) (left id ls) ∙ sym (fi
 others_keep : (part : Part) (listed : Listed) (id : List ℕ) (p : Placed) → same_id id p.terminal.equipment ≡ false → adds part (without_value id listed) p ≡ adds part listed p
 unfolding watts_at watts_for
 others_keep part listed id p e =
-    ap (λ v. part p.stand (cond (is_powered p.stand) (unwrap_or v (stand_watts p.stand)) (pos 0))) (value_without id p.terminal.equipment listed (same_turn id p.terminal.equipment e))
+    ap (λ v. part p.stand (cond (is_powered p.stand) (unwrap_or v (stand_watts p.stand)) (pos 0))) (value_without id p.terminal.equipment listed (same_swap id p.terminal.equipment e))
 
 substation_same : (id : List ℕ) (s : Substation) → all_placed (substation_without id s).levels ≡ all_placed s.levels
 unfolding substation_without
@@ -126,7 +117,7 @@ watts_listed id p watts listed k =
 others_stay : (part : Part) (listed : Listed) (id : List ℕ) (watts : ℤ) (p : Placed) → same_id id p.terminal.equipment ≡ false → adds part (with_value id watts listed) p ≡ adds part listed p
 unfolding watts_at watts_for
 others_stay part listed id watts p e =
-    ap (λ v. part p.stand (cond (is_powered p.stand) (unwrap_or v (stand_watts p.stand)) (pos 0))) (value_with-other id p.terminal.equipment watts listed (same_turn id p.terminal.equipment e))
+    ap (λ v. part p.stand (cond (is_powered p.stand) (unwrap_or v (stand_watts p.stand)) (pos 0))) (value_with-other id p.terminal.equipment watts listed (same_swap id p.terminal.equipment e))
 
 pub set_moves : (part : Part) (net : Network) (id : List ℕ) (p : Placed) (watts : ℤ) (listed : Listed) → IsPart part → IsSound net → powered net id ≡ Some p
     → whole part net (with_value id watts listed) ≡ whole part net listed +ℤ set_part part listed watts p

@@ -3,8 +3,9 @@ use Rattle.std.proofs.Common.{◌≡◌, refl, sym, ap, ◌∙◌, subst, ℕ, z
 use Rattle.std.specs.Prelude.{map, filter, find, slice_get, ◌==◌, nat_lt}
 use Rattle.std.specs.Option.{option_map}
 use Rattle.std.specs.List.{list_any, list_all}
-use Rattle.std.proofs.lemmas.Bool.{and_parts, or_cases, or_left, or_right, eqb-true, eq-eqb, ltb-true, false≢true, true≢false, false_from_ne_true}
+use Rattle.std.proofs.lemmas.Bool.{and_parts, or_cases, or_left, or_right, eqb-true, eq-eqb, false≢true, true≢false, false_from_ne_true}
 use Rattle.grid_ids.specs.Name.{same_id}
+use Rattle.grid_ids.proofs.Alike.{same_is}
 use Rattle.grid_level.specs.declared.Placed.{Placed}
 use Rattle.grid_level.specs.declared.Stand.{Stand}
 use Rattle.grid_level.specs.declared.Stand.TheVariants.{Busbar, Feeder, BranchEnd}
@@ -17,11 +18,11 @@ use Rattle.grid_structure.specs.declared.Site.{Site}
 use Rattle.grid_structure.specs.Sites.{levels, branches, site, first_found, terminal_spot}
 use Rattle.grid_structure.specs.Soundness.{IsSound, placed_sides, record_sides, same_side}
 use Rattle.grid_structure.proofs.Counts.{times}
-use Rattle.grid_structure.proofs.Framing.{same_is}
 use Rattle.grid_structure.proofs.OneLevel.{names_of}
 use Rattle.grid_structure.proofs.Sides.{Side, has, has-append, among_has, sides_at, sides_in, is_same_side}
 use Rattle.grid_structure.proofs.Removing.{sides_by}
 use Rattle.grid_structure.proofs.Uniquely.{names_of_branches, some_branch, local_once}
+use Rattle.grid_structure.proofs.Cleared.{above_found}
 use Rattle.grid_watts.specs.Watts.{is_powered, powered, powered_by, terminals}
 use Rattle.grid_watts.proofs.Summing.{all_placed}
 use Rattle.grid_watts.proofs.Owning.{branch_end_is_none, count_more}
@@ -150,7 +151,7 @@ by_first_side net id s =
 abbrev node_in : List ℕ → VoltageLevel → Option ℕ
 node_in id l = option_map (λ (p : Placed). p.node) (find (first_side id) l.placed)
 
--- the places that are found are not before the first one, and not behind the last one
+-- the places that are found are not before the first one, and not above_found the last one
 found_within : (id : List ℕ) (ls : List VoltageLevel) (c k n : ℕ) → first_found c (node_in id) ls ≡ Some (k, n) → (c ≤ k) × (k < c + length ls)
 found_within id [] c k n h = cc
 found_within id (l ∷ ls) c k n h = by (find (first_side id) l.placed) h (found_within id ls (c + 1) k n)
@@ -222,18 +223,6 @@ nowhere_from id (x ∷ ls) c h = by (find (first_side id) x.placed) refl h (nowh
 
 -- ---- by the node
 
--- a found one stands behind the nodes that all its list does
-behind : (test : Placed → Bool) (m : ℕ) (ps : List Placed) (p : Placed) → list_all (nat_lt m) (map (λ (q : Placed). q.node) ps) ≡ true → find test ps ≡ Some p → m < p.node
-behind test m [] p h at = cc
-behind test m (q ∷ ps) p h at = by (test q) at (behind test m ps p parts.1)
-  where
-    parts : (nat_lt m q.node ≡ true) × (list_all (nat_lt m) (map (λ (q : Placed). q.node) ps) ≡ true)
-    parts = and_parts (nat_lt m q.node) (list_all (nat_lt m) (map (λ (q : Placed). q.node) ps)) h
-
-    by : (t : Bool) → ◌≡◌ {A = Option Placed} (cond t (Some q) (find test ps)) (Some p) → (find test ps ≡ Some p → m < p.node) → m < p.node
-    by true at again = let same : q ≡ p = cc in subst (λ (z : Placed). m < z.node) same (ltb-true m q.node parts.0)
-    by false at again = again at
-
 -- the one that is found is what stands at its node
 at_node : (test : Placed → Bool) (ps : List Placed) (p : Placed) → is_rising (map (λ (q : Placed). q.node) ps) ≡ true → find test ps ≡ Some p → find (stands_at p.node) ps ≡ Some p
 unfolding is_rising stands_at
@@ -247,7 +236,7 @@ at_node test (q ∷ ps) p rises at = by (test q) at (at_node test ps p parts.1)
         → ◌≡◌ {A = Option Placed} (cond (q.node == p.node) (Some q) (find (stands_at p.node) ps)) (Some p)
     by true at again = let same : q ≡ p = cc in let here : (q.node == p.node) ≡ true = eq-eqb q.node p.node (ap (λ (z : Placed). z.node) same) in ap (λ t. cond t (Some q) (find (stands_at p.node) ps)) here ∙ ap (λ (z : Placed). Some z) same
     by false at again =
-        let later = behind test q.node ps p parts.0 at in
+        let later = above_found test q.node ps p parts.0 at in
         let other : (q.node == p.node) ≡ false = false_from_ne_true (q.node == p.node) (λ e. let z : q.node ≡ p.node = eqb-true q.node p.node e in omega (arith, z, later)) in
         ap (λ t. cond t (Some q) (find (stands_at p.node) ps)) other ∙ again at
 

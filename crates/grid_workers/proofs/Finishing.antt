@@ -8,6 +8,7 @@ use Rattle.std.proofs.lemmas.List.Elements.{All-head, All-tail}
 use Rattle.std.proofs.lemmas.Option.{slice_get_past}
 use mathlib.Core.List.{IsPrefix}
 use native.Mathlib.Decide.{dec_le}
+use Rattle.grid_lemmas.proofs.Bools.{not_either}
 use Rattle.grid_structure.specs.Network.{Network}
 use Rattle.grid_requests.specs.declared.request.Request.{Request}
 use Rattle.grid_core.specs.History.{History, Command, IsHistory, asked_by}
@@ -39,10 +40,6 @@ all_of front script p le = sym (append-nil front) ∙ (ap (λ (l : List Request)
     none [] e = refl
     none (x ∷ xs) e = absurd (omega (arith, e))
 
-or_no : (a b : Bool) → (a || b) ≡ false → (a ≡ false) × (b ≡ false)
-or_no false b e = (refl, e)
-or_no true b e = absurd (true≢false e)
-
 or_yes : (a b : Bool) → a ≡ false → (a || b) ≡ true → b ≡ true
 or_yes a b off e = sym (ap (λ (x : Bool). x || b) off) ∙ e
 
@@ -69,13 +66,13 @@ whole h b a zero (s ∷ ss) news i work fits same below full = absurd (omega (ar
 whole h b a (suc count) (s ∷ ss) [] i work fits same below full = absurd work
 whole h b a (suc count) (s ∷ ss) (new ∷ news) zero work fits same below full =
     let e : a ≡ a + 0 = omega arith in
-    let most : length s ≤ length new.mine = ltb-false (length new.mine) (length s) (or_no (has_left s new) (is_short ss news) full).0 in
+    let most : length s ≤ length new.mine = ltb-false (length new.mine) (length s) (not_either (has_left s new) (is_short ss news) full).0 in
     subst (λ (n : ℕ). reverse (asked_by n h.steps) ≡ s) e
     (ap (λ (l : List Request). reverse l) (asked_is h b a s new work.0 (All-head (Fits h) new news fits)) ∙ all_of (reverse new.mine) s work.0.mine (omega (arith, most, length-reverse new.mine)))
 whole h b a (suc count) (s ∷ ss) (new ∷ news) (suc i) work fits same below full =
     let e : a + 1 + i ≡ a + suc i = omega arith in
     subst (λ (n : ℕ). reverse (asked_by n h.steps) ≡ script_at ss i) e
-    (whole h b (a + 1) count ss news i work.1 (All-tail (Fits h) new news fits) (omega (arith, same)) (omega (arith, below)) (or_no (has_left s new) (is_short ss news) full).1)
+    (whole h b (a + 1) count ss news i work.1 (All-tail (Fits h) new news fits) (omega (arith, same)) (omega (arith, below)) (not_either (has_left s new) (is_short ss news) full).1)
 
 -- a worker, counted from a on, that has commands left
 abbrev Left : History → ℕ → List (List Request) → Type 0

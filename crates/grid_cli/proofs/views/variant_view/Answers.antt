@@ -1,7 +1,7 @@
 use Rattle.std.proofs.Common.{refl}
+use Rattle.grid_ids.proofs.Alike.{stands}
 use Rattle.grid_core.specs.History.{live, is_live}
 use Rattle.grid_report.specs.Histories.{variant_view}
-use Rattle.grid_cli.proofs.Showing.{stands}
 use Rattle.grid_cli.proofs.views.variant_view.Goals as goal
 
 pub all_views-requires-clause-live : goal.all_views-requires-clause-live

@@ -2,10 +2,10 @@ use Rattle.std.proofs.Common.{List, sym, subst, ap, ◌∙◌, ◌<◌, ◌^◌,
 use Rattle.std.specs.Prelude.{◌-◌, slice_get}
 use Rattle.std.proofs.lemmas.List.{take_all}
 use Rattle.std.proofs.lemmas.List.Elements.{All-append, All-cons, All-nil}
+use Rattle.grid_lemmas.proofs.Lists.{map_one_more}
 use Rattle.grid_core.specs.History.{live}
 use Rattle.grid_report.specs.declared.outcome.VariantView.{VariantView}
 use Rattle.grid_report.specs.Histories.{variant_view, variant_views}
-use Rattle.grid_cli.proofs.Showing.{one_more}
 use Rattle.grid_cli.proofs.Shown.{last_shown}
 use Rattle.grid_cli.proofs.views.variant_views.Goals as goal
 
@@ -13,7 +13,7 @@ pub loop-place-preserved : goal.loop-place-preserved
 loop-place-preserved c = record {
   views =
       c.in_ok-push.ensures.ok ∙ ap (λ vs. vs ++ c.in_ok-view.view ∷ []) c.loop-place.invariant.views
-      ∙ sym (one_more (variant_view c.args.world.now.origin c.args.world.now.steps) (live c.args.world.now.steps) c.loop-place.place c.in_ok-view.view c.in_ok-view.ensures.view);
+      ∙ sym (map_one_more (variant_view c.args.world.now.origin c.args.world.now.steps) (live c.args.world.now.steps) c.loop-place.place c.in_ok-view.view c.in_ok-view.ensures.view);
   count = omega (arith, ap length c.in_ok-push.ensures.ok, length-append c.loop-place.views (c.in_ok-view.view ∷ []), c.loop-place.invariant.count);
   each =
       let few = λ (v : VariantView). length v.views < 2 ^ 32 in

@@ -4,7 +4,7 @@ use Rattle.grid_structure.specs.Sites.{levels}
 use Rattle.grid_core.specs.History.{structure}
 use Rattle.grid_core.specs.Replies.{view}
 use Rattle.grid_report.specs.Histories.{variant_view}
-use Rattle.grid_cli.proofs.Stepping.{given_more}
+use Rattle.grid_lemmas.proofs.Ranges.{given_more}
 use Rattle.grid_cli.proofs.views.views_beside.Goals as goal
 
 pub loop-level-preserved : goal.loop-level-preserved

@@ -1,7 +1,8 @@
 use Rattle.std.proofs.Common.{[], ◌++◌, sym, subst, take, ap, ◌∙◌}
+use Rattle.grid_lemmas.proofs.Lists.{take_next}
 use Rattle.grid_configured.specs.Checks.{each_check, ids_of, line_check, line_ends, line_ids}
 use Rattle.grid_configured.specs.Standing.{Stands}
-use Rattle.grid_configured.proofs.Checking.{ends, goes_on, is_done, next_one}
+use Rattle.grid_configured.proofs.Checking.{ends, goes_on, is_done}
 use Rattle.grid_json.specs.Reading.{Fails}
 use Rattle.grid_configured.proofs.checks.check_lines.Goals as goal
 
@@ -21,7 +22,7 @@ loop-i-preserved c =
     let i = c.loop-i.i in
     let line = c.index-lines-i.result in
     record {
-      stands = subst (λ z. Stands (ids_of levels ++ line_ids z) levels (line_ends z) c.check_line.new.standing) (sym (next_one lines i line c.loop-i-test.true c.index-lines-i.is)) (c.in-Ok.ensures.stands levels (take i lines) c.loop-i.invariant.stands);
+      stands = subst (λ z. Stands (ids_of levels ++ line_ids z) levels (line_ends z) c.check_line.new.standing) (sym (take_next lines i line c.loop-i-test.true c.index-lines-i.is)) (c.in-Ok.ensures.stands levels (take i lines) c.loop-i.invariant.stands);
       left = goes_on (line_check levels) lines i line _ c.loop-i-test.true c.index-lines-i.is c.loop-i.invariant.left (c.in-Ok.ensures.check levels (take i lines) c.loop-i.invariant.stands);
     }
 

@@ -1,6 +1,6 @@
 use Rattle.std.proofs.Common.{◌≡◌, sym, ap, ◌∙◌, [], ◌∷◌, ◌++◌, length, arith}
 use Rattle.std.specs.List.{filter_map, range_with_len}
-use Rattle.grid_report.proofs.Planned.{found_more}
+use Rattle.grid_lemmas.proofs.Ranges.{given_more}
 use Rattle.grid_configured.specs.Histories.{view}
 use Rattle.grid_configured.specs.Reports.{variant_view}
 use Rattle.grid_configured.proofs.replay.level_views.Goals as goal
@@ -12,7 +12,7 @@ loop-level-preserved c =
       within = omega (arith, c.len-level-end.ensures, ap (λ n. length n.levels) c.network.ensures, c.requires.few, c.loop-level-test.true);
       views =
           c.in_ok-push.ensures.ok ∙ ap (λ vs. vs ++ c.in_ok-view.view ∷ []) c.loop-level.invariant.views
-          ∙ sym (found_more (view world.network world.steps c.args.name.now) c.loop-level.level c.in_ok-view.view c.in_ok-view.ensures);
+          ∙ sym (given_more (view world.network world.steps c.args.name.now) c.loop-level.level c.in_ok-view.view c.in_ok-view.ensures);
     }
 
 pub returns : goal.returns

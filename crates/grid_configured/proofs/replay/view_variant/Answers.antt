@@ -1,7 +1,7 @@
 use Rattle.std.proofs.Common.{refl}
+use Rattle.grid_ids.proofs.Alike.{stands}
 use Rattle.grid_core.specs.History.{live, is_live}
 use Rattle.grid_configured.specs.Reports.{variant_view}
-use Rattle.grid_configured.proofs.Showing.{stands}
 use Rattle.grid_configured.proofs.replay.view_variant.Goals as goal
 
 pub level_views-requires-clause-live : goal.level_views-requires-clause-live

@@ -1,15 +1,15 @@
 use Rattle.std.proofs.Common.{sym, ap, ◌∙◌, [], ◌∷◌, ◌++◌, map, arith}
 use Rattle.std.proofs.lemmas.List.{take_all}
+use Rattle.grid_lemmas.proofs.Lists.{map_one_more}
 use Rattle.grid_core.specs.History.{live}
 use Rattle.grid_configured.specs.Reports.{variant_view, variant_views}
-use Rattle.grid_configured.proofs.Showing.{one_more}
 use Rattle.grid_configured.proofs.replay.view_variants.Goals as goal
 
 pub loop-place-preserved : goal.loop-place-preserved
 loop-place-preserved c =
     let world = c.args.world.now in
     c.in_ok-push.ensures.ok ∙ ap (λ vs. vs ++ c.in_ok-view.view ∷ []) c.loop-place.invariant
-    ∙ sym (one_more (variant_view world.network world.steps) (live world.steps) c.loop-place.place c.in_ok-view.view c.in_ok-view.ensures)
+    ∙ sym (map_one_more (variant_view world.network world.steps) (live world.steps) c.loop-place.place c.in_ok-view.view c.in_ok-view.ensures)
 
 pub returns : goal.returns
 unfolding variant_views

@@ -1,5 +1,6 @@
 use Rattle.std.proofs.Common.{◌≡◌, ◌++◌, ap, ◌∙◌}
-use Rattle.grid_report.proofs.Begun.{on_err, on_err_map, before, within, at_end, cut, cut_at, whole}
+use Rattle.grid_lemmas.proofs.Results.{on_err}
+use Rattle.grid_report.proofs.Begun.{on_err_map, before, within, at_end, cut, cut_at, whole}
 use Rattle.grid_report.proofs.report.write_blocks.Goals as goal
 
 pub returns-in_err-show-clause-err : goal.returns-in_err-show-clause-err

@@ -1,4 +1,4 @@
-use Rattle.std.proofs.Common.{◌≡◌, sym, ap, ◌∙◌, subst, ℕ, ℤ, length, arith, rules}
+use Rattle.std.proofs.Common.{◌≡◌, sym, ap, ◌∙◌, subst, length, arith, rules}
 use Rattle.std.specs.Prelude.{count_by}
 use Rattle.std.proofs.lemmas.Int.{to_z-of_z}
 use mir.Syntax.{w128}
@@ -6,10 +6,11 @@ use mir.Val.{SFits, to_z, of_z}
 use Rattle.grid_graph.specs.Components.{component_numbers, places}
 use Rattle.grid_graph.specs.Graph.{EndsBelow}
 use Rattle.grid_graph.specs.Joined.{groups}
-use Rattle.grid_screen.specs.declared.Figures.{Figures}
 use Rattle.grid_screen.specs.Screened.{figures_by, is_zero, main_sum}
-use Rattle.grid_screen.proofs.Grouped.{numbers_long, numbers_below, groups_counted}
+use Rattle.grid_islands.proofs.Numbers.{numbers_long, numbers_below}
+use Rattle.grid_screen.proofs.Grouped.{groups_counted}
 use Rattle.grid_screen.proofs.counting.count_figures.Goals as goal
+use Rattle.grid_screen.proofs.Figured.{build}
 
 pub components-requires : goal.components-requires
 components-requires c = subst (EndsBelow c.args.pairs.now) (sym c.in_ok-count.ensures.value) c.requires.ends
@@ -29,9 +30,6 @@ sum_main-requires-clause-long c =
 pub sum_main-requires-clause-few : goal.sum_main-requires-clause-few
 sum_main-requires-clause-few c =
     omega (arith, numbers_long c.in_ok-count.count c.args.pairs.now (subst (EndsBelow c.args.pairs.now) (sym c.in_ok-count.ensures.value) c.requires.ends) c.slice-2.result.now (c.slice-2.ensures ∙ c.in_ok-numbers.ensures), c.in_ok-count.ensures.few)
-
-build : ℕ → ℕ → ℕ → ℤ → ℤ → Figures
-build b n m l g = record { buses = b; components = n; main = m; load = l; generation = g }
 
 pub returns : goal.returns
 unfolding figures_by build

@@ -4,9 +4,10 @@ use Rattle.std.proofs.lemmas.Result.{on_ok_weaker}
 use Rattle.grid_level.specs.LevelEdits.{level_without_equipment}
 use Rattle.grid_structure.specs.Sites.{levels, site}
 use Rattle.grid_states.specs.Rows.{row_at}
+use Rattle.grid_core.proofs.Operating.{at_site, no_site}
 use Rattle.grid_screen.specs.Screened.{shown_levels, shown_rows}
 use Rattle.grid_screen.specs.Steps.{IsPut, cleared_side}
-use Rattle.grid_screen.proofs.Changing.{no_site, some_site, site_inside, flags_as_many, cleared_stands, none_cleared, side_cleared, stands_as}
+use Rattle.grid_screen.proofs.Changing.{site_inside, flags_as_many, cleared_stands, none_cleared, side_cleared, stands_as}
 use Rattle.grid_screen.proofs.outage.clear_side.Goals as goal
 
 pub returns-in-None : goal.returns-in-None
@@ -20,12 +21,12 @@ returns-in-None c =
 pub copy_standing-requires-clause-place : goal.copy_standing-requires-clause-place
 copy_standing-requires-clause-place c =
     let net = c.args.structure.now in
-    site_inside net c.args.id.now c.args.side c.in-Some.site.level c.in-Some.site.node (some_site (site net c.args.id.now c.args.side) c.in-Some.site (sym c.in-Some.is ∙ c.site.ensures))
+    site_inside net c.args.id.now c.args.side c.in-Some.site.level c.in-Some.site.node (at_site (site net c.args.id.now c.args.side) c.in-Some.site (sym c.in-Some.is ∙ c.site.ensures))
 
 pub change-requires-clause-place : goal.change-requires-clause-place
 change-requires-clause-place c =
     let net = c.args.structure.now in
-    omega (arith, c.requires.long, site_inside net c.args.id.now c.args.side c.in-Some.site.level c.in-Some.site.node (some_site (site net c.args.id.now c.args.side) c.in-Some.site (sym c.in-Some.is ∙ c.site.ensures)))
+    omega (arith, c.requires.long, site_inside net c.args.id.now c.args.side c.in-Some.site.level c.in-Some.site.node (at_site (site net c.args.id.now c.args.side) c.in-Some.site (sym c.in-Some.is ∙ c.site.ensures)))
 
 pub change-requires-clause-flags : goal.change-requires-clause-flags
 unfolding level_without_equipment
@@ -35,7 +36,7 @@ change-requires-clause-flags c =
     let ls = shown_levels changes (levels net) in
     let rows = shown_rows changes c.args.states.now in
     let k = c.in-Some.site.level in
-    let inside = site_inside net c.args.id.now c.args.side k c.in-Some.site.node (some_site (site net c.args.id.now c.args.side) c.in-Some.site (sym c.in-Some.is ∙ c.site.ensures)) in
+    let inside = site_inside net c.args.id.now c.args.side k c.in-Some.site.node (at_site (site net c.args.id.now c.args.side) c.in-Some.site (sym c.in-Some.is ∙ c.site.ensures)) in
     let here = ap (λ z. shown_levels z (levels net)) c.deref.ensures.value in
     let standing = c.in_ok-standing.standing in
     let at = ap (λ z. slice_get z k) (sym here) ∙ c.in_ok-standing.ensures.level in
@@ -53,7 +54,7 @@ returns c =
     let ls = shown_levels changes (levels net) in
     let rows = shown_rows changes c.args.states.now in
     let k = c.in-Some.site.level in
-    let found = some_site (site net id c.args.side) c.in-Some.site (sym c.in-Some.is ∙ c.site.ensures) in
+    let found = at_site (site net id c.args.side) c.in-Some.site (sym c.in-Some.is ∙ c.site.ensures) in
     let inside = site_inside net id c.args.side k c.in-Some.site.node found in
     let standing = c.in_ok-standing.standing in
     let at = ap (λ z. slice_get (shown_levels z (levels net)) k) (sym c.deref.ensures.value) ∙ c.in_ok-standing.ensures.level in

@@ -1,22 +1,23 @@
 use Rattle.std.proofs.Common.{sym, ◌∙◌, arith}
 use Rattle.std.proofs.lemmas.Result.{on_ok_weaker}
 use Rattle.grid_structure.specs.Sites.{levels, find_switch}
-use Rattle.grid_structure.proofs.Places.{got_below}
+use Rattle.grid_structure.proofs.Losing.{from_nowhere, from_spot}
 use Rattle.grid_screen.specs.Screened.{shown_levels, shown_rows}
 use Rattle.grid_screen.specs.Steps.{levels_with_out, rows_with_out}
-use Rattle.grid_screen.proofs.Changing.{no_spot, some_spot, switch_in, switch_out, equipment_out, stands_as}
+use Rattle.grid_screen.proofs.Changing.{switch_in, switch_out, equipment_out, stands_as}
 use Rattle.grid_screen.proofs.outage.put_out.Goals as goal
+use Rattle.std.proofs.lemmas.Option.{slice_get_within}
 
 pub open_switch-requires-clause-level : goal.open_switch-requires-clause-level
 open_switch-requires-clause-level c =
     let net = c.args.structure.now in
-    let there = switch_in net c.args.id.now c.in-Some.at.level c.in-Some.at.place (some_spot (find_switch net c.args.id.now) c.in-Some.at (sym c.in-Some.is ∙ c.find_switch.ensures)) in
-    got_below (levels net) c.in-Some.at.level there.level there.at
+    let there = switch_in net c.args.id.now c.in-Some.at.level c.in-Some.at.place (from_spot (find_switch net c.args.id.now) c.in-Some.at (sym c.in-Some.is ∙ c.find_switch.ensures)) in
+    slice_get_within (levels net) c.in-Some.at.level there.level there.at
 
 pub open_switch-requires-clause-place : goal.open_switch-requires-clause-place
 open_switch-requires-clause-place c =
     let net = c.args.structure.now in
-    let there = switch_in net c.args.id.now c.in-Some.at.level c.in-Some.at.place (some_spot (find_switch net c.args.id.now) c.in-Some.at (sym c.in-Some.is ∙ c.find_switch.ensures)) in
+    let there = switch_in net c.args.id.now c.in-Some.at.level c.in-Some.at.place (from_spot (find_switch net c.args.id.now) c.in-Some.at (sym c.in-Some.is ∙ c.find_switch.ensures)) in
     omega (arith, there.inside, c.requires.flags_fit c.in-Some.at.level there.level there.at)
 
 pub returns-in-Some : goal.returns-in-Some
@@ -28,7 +29,7 @@ returns-in-Some c =
     let ls = shown_levels c.args.changes.now.items (levels net) in
     let rows = shown_rows c.args.changes.now.items c.args.states.now in
     let at = c.in-Some.at in
-    let out = switch_out net id at.level at.place ls rows (some_spot (find_switch net id) at (sym c.in-Some.is ∙ c.find_switch.ensures)) in
+    let out = switch_out net id at.level at.place ls rows (from_spot (find_switch net id) at (sym c.in-Some.is ∙ c.find_switch.ensures)) in
     on_ok_weaker c.open_switch.result
     (λ s. stands_as listed (levels net) c.args.states.now new ls (levels_with_out net ls id) _ (rows_with_out net rows id) s (sym out.0) (sym out.1)) c.open_switch.ensures
 
@@ -40,6 +41,6 @@ returns-in-None c =
     let new = c.take_out.new.changes.items in
     let ls = shown_levels c.args.changes.now.items (levels net) in
     let rows = shown_rows c.args.changes.now.items c.args.states.now in
-    let out = equipment_out net id ls rows (no_spot (find_switch net id) (sym c.in-None.is ∙ c.find_switch.ensures)) in
+    let out = equipment_out net id ls rows (from_nowhere (find_switch net id) (sym c.in-None.is ∙ c.find_switch.ensures)) in
     on_ok_weaker c.take_out.result
     (λ s. stands_as listed (levels net) c.args.states.now new _ (levels_with_out net ls id) rows (rows_with_out net rows id) s (sym out.0) (sym out.1)) c.take_out.ensures

@@ -1,7 +1,8 @@
 use Rattle.std.proofs.Common.{refl, ap, ◌∙◌}
+use Rattle.grid_lemmas.proofs.Results.{on_err}
 use Rattle.grid_core.specs.declared.reply.Reply.TheVariants.{Done}
 use Rattle.grid_core.specs.Made.{made_of}
-use Rattle.grid_core.proofs.Making.{each_ok, any_err}
+use Rattle.grid_core.proofs.Making.{each_ok}
 use Rattle.grid_core.proofs.Moving.{all_room, equipment_taken, equipment_narrow}
 use Rattle.grid_core.proofs.Reshaping.{edit_alone, equipment_rows}
 use Rattle.grid_core.proofs.Widening.{edit_refused}
@@ -22,4 +23,4 @@ returns-in-Err-clause-made c =
     (λ made is. edit_refused c.args.self.now _ c.args.worker c.args.edit.now c.in-Err.fault made (c.in-Err.ensures.same, refl, refl, refl, refl) c.in-Err.ensures.refused is)
 
 pub returns-in-Err-clause-same : goal.returns-in-Err-clause-same
-returns-in-Err-clause-same c = any_err c.refuse_edit.result (c.in-Err.ensures.same, refl, refl, refl, refl)
+returns-in-Err-clause-same c = on_err c.refuse_edit.result (c.in-Err.ensures.same, refl, refl, refl, refl)

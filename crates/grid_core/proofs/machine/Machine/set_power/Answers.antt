@@ -3,6 +3,7 @@ use Rattle.std.proofs.lemmas.List.{set-get_or}
 use Rattle.std.proofs.lemmas.Int.{to_z-of_z}
 use Rattle.std.specs.Prelude.{IsTrue}
 use mir.Syntax.{w64}
+use Rattle.grid_lemmas.proofs.Results.{on_err}
 use Rattle.grid_structure.specs.Sites.{sides}
 use Rattle.std.specs.Ordering.{int_eq}
 use Rattle.grid_powers.specs.Listed.{PowerList}
@@ -10,7 +11,7 @@ use Rattle.grid_watts.specs.Watts.{watts_at}
 use Rattle.grid_watts.specs.Moves.{set_to}
 use Rattle.grid_watts.specs.Ranges.{HasRoom, is_narrow}
 use Rattle.grid_requests.specs.declared.request.Request.TheVariants as requests
-use Rattle.grid_core.proofs.Making.{each_ok, any_err}
+use Rattle.grid_core.proofs.Making.{each_ok}
 use Rattle.grid_core.proofs.Flagging.{of_variant, powers_within, dead_made, same_get}
 use Rattle.grid_core.proofs.Moving.{all_room}
 use Rattle.grid_core.proofs.Setting.{set_nowhere, set_none, set_same, set_made, sides_there, sides_nowhere}
@@ -49,7 +50,7 @@ set-requires c = subst HasRoom (sym c.index_mut.ensures.value) (all_room c.args.
 
 pub returns-in_err-set-clause-same : goal.returns-in_err-set-clause-same
 returns-in_err-set-clause-same c =
-    any_err c.from_residual-in_err-set.result
+    on_err c.from_residual-in_err-set.result
     (refl, refl, refl, refl, ap (λ p. set c.args.self.now.powers.items c.in-Some.slot p) (c.in_err-set.ensures.err ∙ c.index_mut.ensures.value) ∙ set-get_or c.args.self.now.powers.items c.in-Some.slot c.index_mut.result.now)
 
 pub returns-clause-made : goal.returns-clause-made

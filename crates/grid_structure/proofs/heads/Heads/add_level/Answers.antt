@@ -1,9 +1,9 @@
 use Rattle.std.proofs.Common.{◌≡◌, ◌<◌, refl, Some, arith, length, get_or, ◌/◌, ◌+◌}
 use Rattle.std.specs.Prelude.{slice_get}
+use Rattle.grid_lemmas.proofs.Lists.{get_there}
 use Rattle.grid_structure.specs.declared.structure.Head.{Head}
 use Rattle.grid_structure.specs.declared.heads.Own.TheVariants.{Levels, Transformers}
 use Rattle.grid_structure.specs.Blocks.{count_of}
-use Rattle.grid_structure.proofs.Places.{get_there}
 use Rattle.grid_structure.proofs.Blocks.{sums_changed, sums_same, in_block, stands, levels_summed}
 use Rattle.grid_structure.proofs.heads.Heads.add_level.Goals as goal
 
