@@ -28,16 +28,3 @@ returns c =
     let nothing : c.node_of_equipment.result ≡ None = c.in_default.is in
     let none : option_map (λ (p : Placed). p.node) (find (λ (p : Placed). same_id c.args.id.now p.terminal.equipment) c.loop-node.level.placed) ≡ None = rw c.placed.ensures at (sym c.node_of_equipment.ensures ∙ nothing) in
     sym (nothing_left c.args.id.now c.loop-node.level none) ∙ c.loop-node.invariant
-
--- the same where the text of the terminal's id lies apart and is given back
-
-pub loop-node-smaller-in-Some : goal.loop-node-smaller-in-Some
-loop-node-smaller-in-Some c =
-    let found : option_map (λ (p : Placed). p.node) (find (λ (p : Placed). same_id c.args.id.now p.terminal.equipment) c.loop-node.level.placed) ≡ Some c.in-Some.node = rw c.placed.ensures at (sym c.in-Some.ensures) in
-    rw c.take_terminal.ensures.rest (one_fewer c.args.id.now c.loop-node.level c.in-Some.node c.keeps.ensures.placed_rise (found_one c.loop-node.level.placed c.args.id.now c.in-Some.node found))
-
-pub loop-node-preserved-in-Some : goal.loop-node-preserved-in-Some
-loop-node-preserved-in-Some c =
-    let found : option_map (λ (p : Placed). p.node) (find (λ (p : Placed). same_id c.args.id.now p.terminal.equipment) c.loop-node.level.placed) ≡ Some c.in-Some.node = rw c.placed.ensures at (sym c.in-Some.ensures) in
-    ap (level_without_equipment c.args.id.now) c.take_terminal.ensures.rest
-    ∙ one_gone c.args.id.now c.loop-node.level c.in-Some.node c.keeps.ensures.placed_rise (found_one c.loop-node.level.placed c.args.id.now c.in-Some.node found) ∙ c.loop-node.invariant
