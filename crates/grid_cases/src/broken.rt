@@ -1,6 +1,7 @@
 // Broken input of which no single case tells enough, or whose text is long.
 use crate::words::words_of;
-use grid_cli::{Status, grid_once};
+use grid_cli::grid_once;
+use grid_forms::Status;
 use grid_source::{SureSink, SureSource};
 use std::alloc::Global;
 use std::io;

@@ -8,7 +8,8 @@ mod failing;
 mod words;
 
 use crate::words::words_of;
-use grid_cli::{Status, grid};
+use grid_cli::grid;
+use grid_forms::Status;
 use grid_lines::{ending, usage_text};
 use grid_manager::Idle;
 use grid_source::{KeepingSource, SureSink, SureSource};

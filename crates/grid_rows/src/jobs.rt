@@ -1,5 +1,6 @@
 // Worked jobs, and what the top call on one thread makes of a job.
-use grid_cli::{Status, grid_once};
+use grid_cli::grid_once;
+use grid_forms::Status;
 use grid_source::{SureSink, SureSource};
 use std::alloc::Global;
 use std::test::Fail;

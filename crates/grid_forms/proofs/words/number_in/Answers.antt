@@ -2,8 +2,8 @@ use Rattle.std.proofs.Common.{◌≡◌, ◌≤◌, ◌∙◌, sym, subst, true}
 use Rattle.std.proofs.lemmas.Bool.{true≢false}
 use Rattle.std.specs.Prelude.{decimal}
 use Rattle.std.specs.Str.{bytes_eq}
-use Rattle.grid_cli.proofs.Numbers.{number_found, number_missing}
-use Rattle.grid_cli.proofs.words.number_in.Goals as goal
+use Rattle.grid_forms.proofs.Numbers.{number_found, number_missing}
+use Rattle.grid_forms.proofs.words.number_in.Goals as goal
 
 pub returns-in-Ok-clause-number : goal.returns-in-Ok-clause-number
 returns-in-Ok-clause-number c =

@@ -7,7 +7,7 @@ use Rattle.std.specs.Str.Parse.{ParsesUnsigned}
 use Rattle.std.proofs.lemmas.Bool.{cases_lt, true≢false}
 use Rattle.std.proofs.lemmas.Fmt.{decimal_injective, parse-decimal}
 use Rattle.std.proofs.lemmas.Slice.Eq.{bytes_eq-Decides}
-use Rattle.grid_cli.specs.Words.{number_among}
+use Rattle.grid_forms.specs.Words.{number_among}
 
 -- a test that holds of one number alone finds just that one
 only : (test : ℕ → Bool) (first count n : ℕ) → first ≤ n → n < first + count → test n ≡ true → ((m : ℕ) → m < first + count → test m ≡ true → m ≡ n) → find test (range_with_len first count) ≡ Some n

@@ -1,7 +1,7 @@
 // The words of a call.
 ghost use Rattle.std.specs.Prelude.{◌≡◌, ◌↔◌, ◌≤◌, true, map, string_bytes, decimal, IfSome, IsTrue};
 ghost use Rattle.std.specs.Str.{bytes_eq};
-ghost use Rattle.grid_cli.specs.Words.{form_of, form_by_name, sized_form, number_among, IsWithin};
+ghost use Rattle.grid_forms.specs.Words.{form_of, form_by_name, sized_form, number_among, IsWithin};
 
 use itoa::Buffer;
 
