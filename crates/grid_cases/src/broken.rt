@@ -34,6 +34,11 @@ pub(crate) fn beginnings(alloc: Global, job: &[u8]) -> io::Result<Option<u64>> {
     Ok(Some(count))
 }
 
+/// How a check of so many spaces ends, where nothing is written.
+pub(crate) fn spaces(alloc: Global, count: usize) -> io::Result<Option<Status>> {
+    checked(alloc, vec![in alloc; b' '; count]?)
+}
+
 /// How a check of a job ends in which one worker has this many commands, where nothing is written.
 pub(crate) fn commands(alloc: Global, count: u32) -> io::Result<Option<Status>> {
     let mut text = String::from_str(alloc, r#"{"format":1,"network":{"id":"N"},"workers":[["#)?;
