@@ -1,4 +1,4 @@
-use Rattle.grid_part_rows.proofs.boards.Both.ask.Given as goal
+use Rattle.grid_rows.proofs.stale.Desk.ask.Given as goal
 
 -- the name of the counter
 abbrev pub ghosts-answered : goal.ghosts-answered

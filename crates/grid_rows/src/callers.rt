@@ -1,13 +1,14 @@
 ghost use Rattle.std.specs.Prelude.{◌≡◌};
 
-use crate::between::{CASES, Case, Parts, parts_of};
-use crate::boards::read;
-use crate::networks::FOUR;
-use crate::replies::expect;
+use crate::cases::{CASES, Case, Parts, parts_of};
+use crate::networks::{FOUR, read};
 use grid_bench::Bench;
 use grid_core::{Journal, Reply, Request, Script};
+use grid_events::Filters;
 use grid_ids::{Duplicate, Memory};
 use grid_manager::{Blank, Gate, Manager, Named, Seat};
+use grid_report::{Outcome, VariantViews, write_report};
+use grid_source::SureSink;
 use grid_structure::Structure;
 use std::alloc::Global;
 use std::marker::Brand;
@@ -233,21 +234,26 @@ fn left_of_two<R: Threads + Wait + Sync>(
     left_of(rt, alloc, job.network.copy()?, &parts, gate)
 }
 
-/// Whose step stands at a place of a journal, and how many buses it tells, where it tells any.
-fn told_at(journal: &Journal, place: usize) -> Option<(u32, Option<usize>)> {
-    let entry = journal.get(place)?;
-    match &entry.reply {
-        Reply::Bus(view) => Some((entry.worker, Some(view.buses.len()))),
-        _ => Some((entry.worker, None)),
-    }
-}
+// The report of the two: worker 1's step stands first, and worker 0 sees what it left.
+const OPENED_FIRST: &str =
+    "order 1 0\nworker 0\n1 InitialState bus_view VL: 0 buses\nworker 1\n1 InitialState open BC: done\nend\n";
 
-/// Asserts that worker 1's step stands first, and tells no bus view, and that worker 0's is behind it and tells no bus.
-fn expect_held_last(rt: &impl Abort, journal: &Journal) -> Result<(), Fail> {
-    assert_eq!(rt; journal.len(), 2);
-    assert_eq!(rt; told_at(journal, 0), Some((1, None)));
-    assert_eq!(rt; told_at(journal, 1), Some((0, Some(0))));
-    Ok(())
+/// Asserts the report of two workers' steps, without views.
+fn expect_report(
+    rt: &impl Abort,
+    alloc: Global,
+    journal: Journal,
+    wanted: &str,
+) -> Result<(), Fail> {
+    let outcome = Outcome {
+        journal,
+        workers: 2,
+        views: VariantViews::empty(alloc),
+        filters: Filters::empty(alloc),
+    };
+    let mut sink = SureSink::new(Vec::new(alloc), 4096);
+    assert!(rt; write_report(alloc, &outcome, &mut sink).is_ok());
+    Ok(assert_eq!(rt; sink.bytes(), wanted.as_bytes()))
 }
 
 /// Asserts that both callers made eight steps and were told of eight.
@@ -263,7 +269,7 @@ fn a_held_step_comes_last(rt: HostRuntime) -> Result<(), Fail> {
     let gate = Hold::new(0, false);
     let left = left_of_two(&rt, rt.alloc(), LOOK_AND_OPEN, &gate)?;
     assert!(rt; !gate.used_up.load(Ordering::SeqCst));
-    expect_held_last(&rt, &left.journal)
+    expect_report(&rt, rt.alloc(), left.journal, OPENED_FIRST)
 }
 
 #[test]
@@ -273,23 +279,12 @@ fn each_is_told_of_all_steps(rt: HostRuntime) -> Result<(), Fail> {
     expect_all_told(&rt, &left)
 }
 
-/// Asserts how a journal ends: with a step of worker 0, then what worker 1 asked, and what both saw then.
-fn expect_end(rt: &impl Abort, alloc: Global, journal: &Journal, case: &Case) -> Result<(), Fail> {
-    let [.., between, asked, second, first] = journal.slice() else {
-        return Ok(assert!(rt; false));
-    };
-    assert_eq!(rt; (between.worker, asked.worker), (0, 1));
-    expect(rt, alloc, &asked.reply, case.reply)?;
-    assert_eq!(rt; (first.worker, second.worker), (0, 1));
-    expect(rt, alloc, &first.reply, case.seen_by_0)?;
-    expect(rt, alloc, &second.reply, case.seen_by_1)
-}
-
 /// A case by two callers, of whom the gate holds worker 1 at work until worker 0's calls between have returned.
 fn by_callers<R: Threads + Wait + Sync + Abort>(
     rt: &R,
     alloc: Global,
     case: &Case,
+    wanted: &str,
 ) -> Result<(), Fail> {
     let job = case.job(alloc)?;
     let Some(parts) = parts_of(job.scripts.slice()) else {
@@ -300,15 +295,15 @@ fn by_callers<R: Threads + Wait + Sync + Abort>(
     assert!(rt; !gate.used_up.load(Ordering::SeqCst));
     let steps = left.journal.len() as u64;
     assert_eq!(rt; left.met, (steps, steps));
-    expect_end(rt, alloc, &left.journal, case)
+    expect_report(rt, alloc, left.journal, wanted)
 }
 
 #[test]
 fn a_step_that_was_held_sees_what_came_between(rt: HostRuntime) -> Result<(), Fail> {
     let alloc = rt.alloc();
     for case in CASES {
-        if case.by_callers {
-            by_callers(&rt, alloc, &case)?;
+        if let Some(wanted) = case.report {
+            by_callers(&rt, alloc, &case, wanted)?;
         }
     }
     Ok(())

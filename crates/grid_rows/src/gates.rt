@@ -1,67 +1,33 @@
-use crate::jobs::{FOUR_REPORT, named, told, words};
+// Runs of whole jobs with gates.
+use crate::networks::{FOUR, with_scripts};
 use grid_bench::Bench;
 use grid_cli::grid;
+use grid_forms::Status;
 use grid_ids::Id;
-use grid_manager::{Gate, Idle};
-use grid_part_rows::networks::{FOUR, with_scripts};
+use grid_manager::Gate;
 use grid_source::{SureSink, SureSource};
 use std::alloc::Global;
+use std::process::Abort;
 use std::sync::Wait;
-use std::sync::atomic::{AtomicBool, Ordering};
+use std::sync::atomic::{AtomicBool, AtomicUsize, Ordering};
 use std::test::Fail;
 use std::thread;
 use std::thread::Threads;
 
-/// The status of a call with these words on this input, and what it wrote.
-pub(crate) fn ran<R: Threads + Wait + Sync, G: Gate>(
+/// What a run of a job with a gate writes.
+fn ran<R: Threads + Wait + Sync + Abort, G: Gate>(
     rt: &R,
     alloc: Global,
-    texts: &[&str],
-    input: Vec<u8>,
+    job: Vec<u8>,
     gate: &G,
-) -> Result<(String, String), Fail> {
-    let words = words(alloc, texts)?;
-    let mut source = SureSource::new(input, 4096);
+) -> Result<String, Fail> {
+    let mut words = Vec::new(alloc);
+    words.push(String::from_str(alloc, "run")?)?;
+    let mut source = SureSource::new(job, 4096);
     let mut sink = SureSink::new(Vec::new(alloc), 4096);
     let status = grid(rt, alloc, words.as_slice(), &mut source, &mut sink, gate);
-    let written = String::from_utf8(sink.bytes().to_vec(alloc)?)?;
-    Ok((named(alloc, status)?, written))
-}
-
-/// The first line of a report, and the others.
-fn first_line(report: &str) -> (&str, &str) {
-    report.split_once("\n").unwrap_or(("", ""))
-}
-
-/// The job with an order in place of none: that of a report's first line.
-fn ordered(alloc: Global, job: &str, line: &str) -> Result<Vec<u8>, Fail> {
-    let (front, _end) = job.rsplit_once("}").unwrap_or(("", ""));
-    let mut text = String::from_str(alloc, front)?;
-    text.push_str(",\"order\":[")?;
-    for (place, word) in line.split(" ").enumerate() {
-        if place > 1 {
-            text.push_str(",")?;
-        }
-        if place > 0 {
-            text.push_str(word)?;
-        }
-    }
-    text.push_str("]}")?;
-    Ok(text.into_bytes())
-}
-
-#[test]
-fn a_run_is_replayed(rt: HostRuntime) -> Result<(), Fail> {
-    let alloc = rt.alloc();
-    let (status, report) = ran(&rt, alloc, &["run"], FOUR.as_bytes().to_vec(alloc)?, &Idle)?;
-    assert_eq!(rt; status.as_str(), "Done");
-    let (line, rest) = first_line(report.as_str());
-    let (_turns, wanted) = first_line(FOUR_REPORT);
-    assert_eq!(rt; rest, wanted);
-    let (again, replayed) = told(alloc, &["replay"], ordered(alloc, FOUR, line)?)?;
-    assert_eq!(rt; again.as_str(), "Done");
-    assert_eq!(rt; replayed.as_str(), report.as_str());
-    Ok(())
+    assert!(rt; matches!(status, Status::Done));
+    Ok(String::from_utf8(sink.bytes().to_vec(alloc)?)?)
 }
 
 /// Holds the first calls of workers 0 and 1 until both have begun, and worker 0 until worker 1's second call.
@@ -141,10 +107,9 @@ fn third_turn(line: &str, worker: &str) -> Option<usize> {
 fn the_order_is_the_one_that_happened(rt: HostRuntime) -> Result<(), Fail> {
     let alloc = rt.alloc();
     let gate = Crossing::new();
-    let (status, report) = ran(&rt, alloc, &["run"], FOUR.as_bytes().to_vec(alloc)?, &gate)?;
-    assert_eq!(rt; status.as_str(), "Done");
+    let report = ran(&rt, alloc, FOUR.as_bytes().to_vec(alloc)?, &gate)?;
     assert!(rt; !gate.used_up.load(Ordering::SeqCst));
-    let (line, _rest) = first_line(report.as_str());
+    let line = report.as_str().lines().next().unwrap_or("");
     let (Some(held), Some(before)) = (third_turn(line, "0"), third_turn(line, "1")) else {
         assert!(rt; false);
         return Ok(());
@@ -153,47 +118,73 @@ fn the_order_is_the_one_that_happened(rt: HostRuntime) -> Result<(), Fail> {
     Ok(())
 }
 
-/// Looks at the bench of each call: the first is to keep one level, the second both.
+/// Looks at the bench of each call, and whether it keeps two levels as it is to at this call.
 #[derive(Drop)]
 struct Looking {
     one: Id,
     other: Id,
-    looked: AtomicBool,
-    kept_one: AtomicBool,
-    kept_both: AtomicBool,
+    wanted: &'static [(bool, bool)],
+    calls: AtomicUsize,
+    differs: AtomicBool,
 }
 
 impl Gate for Looking {
     fn at_work(&self, _worker: u32, bench: &Bench) {
+        let call = self.calls.load(Ordering::SeqCst);
         let kept = (bench.keeps(&self.one), bench.keeps(&self.other));
-        if self.looked.load(Ordering::SeqCst) {
-            self.kept_both.store(kept == (true, true), Ordering::SeqCst);
-        } else {
-            self.kept_one.store(kept == (true, false), Ordering::SeqCst);
+        if self.wanted.get(call) != Some(&kept) {
+            self.differs.store(true, Ordering::SeqCst);
         }
-        self.looked.store(true, Ordering::SeqCst);
+        self.calls.store(call.saturating_add(1), Ordering::SeqCst);
     }
+}
+
+/// Runs a script on the four levels, and asserts which of two levels the bench keeps at each call that has a task.
+fn expect_kept<R: Threads + Wait + Sync + Abort>(
+    rt: &R,
+    alloc: Global,
+    script: &str,
+    levels: (&str, &str),
+    wanted: &'static [(bool, bool)],
+) -> Result<(), Fail> {
+    let gate = Looking {
+        one: Id::new(alloc, levels.0)?,
+        other: Id::new(alloc, levels.1)?,
+        wanted,
+        calls: AtomicUsize::new(0),
+        differs: AtomicBool::new(false),
+    };
+    ran(rt, alloc, with_scripts(alloc, FOUR, script)?, &gate)?;
+    assert_eq!(rt; gate.calls.load(Ordering::SeqCst), wanted.len());
+    Ok(assert!(rt; !gate.differs.load(Ordering::SeqCst)))
 }
 
 #[test]
 fn a_bench_is_kept_from_step_to_step(rt: HostRuntime) -> Result<(), Fail> {
-    let alloc = rt.alloc();
-    let gate = Looking {
-        one: Id::new(alloc, "A")?,
-        other: Id::new(alloc, "D")?,
-        looked: AtomicBool::new(false),
-        kept_one: AtomicBool::new(false),
-        kept_both: AtomicBool::new(false),
-    };
     // A refusal between the two leaves the bench as it is.
-    let job = with_scripts(
-        alloc,
-        FOUR,
+    expect_kept(
+        &rt,
+        rt.alloc(),
         r#"[{"do":"bus_view","level":"A"},{"do":"bus_view","level":"ZZ"},{"do":"bus_view","level":"D"}]"#,
-    )?;
-    let (status, _report) = ran(&rt, alloc, &["run"], job, &gate)?;
-    assert_eq!(rt; status.as_str(), "Done");
-    assert!(rt; gate.kept_one.load(Ordering::SeqCst));
-    assert!(rt; gate.kept_both.load(Ordering::SeqCst));
-    Ok(())
+        ("A", "D"),
+        &[(true, false), (true, true)],
+    )
+}
+
+#[test]
+fn tasks_keep_what_they_need(rt: HostRuntime) -> Result<(), Fail> {
+    // Each in a variant of its own, with a bench of its own.
+    expect_kept(
+        &rt,
+        rt.alloc(),
+        r#"[{"do":"clone","from":"InitialState","to":"V1"},{"do":"use","variant":"V1"},{"do":"connect","equipment":"LC"},{"do":"clone","from":"InitialState","to":"V2"},{"do":"use","variant":"V2"},{"do":"disconnect","equipment":"LC"},{"do":"clone","from":"InitialState","to":"V3"},{"do":"use","variant":"V3"},{"do":"bus_breaker_view","level":"C"},{"do":"clone","from":"InitialState","to":"V4"},{"do":"use","variant":"V4"},{"do":"bus_view","level":"A"},{"do":"clone","from":"InitialState","to":"V5"},{"do":"use","variant":"V5"},{"do":"components","level":"A"}]"#,
+        ("A", "C"),
+        &[
+            (false, false),
+            (false, false),
+            (false, true),
+            (true, false),
+            (true, true),
+        ],
+    )
 }

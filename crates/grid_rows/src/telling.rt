@@ -1,11 +1,9 @@
 // Worlds that tell listeners what happens, and copies of what a job is made of.
-use crate::boards::read;
-use crate::networks::{FOUR, duo_with};
+use crate::networks::{DUO, FOUR, read, with_scripts};
 use grid_core::{Journal, Request, Script, World};
 use grid_events::{Event, Events, Filter, Listener, Subscriptions};
 use grid_ids::{Duplicate, Id, Memory, Same};
 use grid_json::Job;
-use grid_print::print_job;
 use std::alloc::Global;
 use std::test::Fail;
 
@@ -39,7 +37,7 @@ fn updates_of(alloc: Global, variant: &str) -> Result<Filter, Fail> {
 
 // A variant in which the coupler is opened twice, and the same coupler opened in the initial one.
 const OPENS: &str =
-    r#"{"do":"open","switch":"BC"},{"do":"clone","from":"InitialState","to":"VA"},{"do":"use","variant":"VA"},{"do":"close","switch":"BC"},{"do":"open","switch":"ZZ"},{"do":"close","switch":"BC"}"#;
+    r#"[{"do":"open","switch":"BC"},{"do":"clone","from":"InitialState","to":"VA"},{"do":"use","variant":"VA"},{"do":"close","switch":"BC"},{"do":"open","switch":"ZZ"},{"do":"close","switch":"BC"}]"#;
 
 /// Makes the steps of a script in a world of one worker, and tells them: the journal of those that were made.
 fn tell<L: Listener>(
@@ -59,7 +57,7 @@ fn tell<L: Listener>(
 
 /// The job of the level with that script.
 fn job_that_opens(alloc: Global) -> Result<Job, Fail> {
-    let bytes = duo_with(alloc, OPENS, "]]}")?;
+    let bytes = with_scripts(alloc, DUO, OPENS)?;
     read(alloc, bytes.as_slice())
 }
 
@@ -136,27 +134,5 @@ fn copies(rt: HostRuntime) -> Result<(), Fail> {
     let alloc = rt.alloc();
     let job = read(alloc, FOUR.as_bytes())?;
     assert!(rt; copies_are_equal(&job)?);
-    Ok(())
-}
-
-#[test]
-fn a_job_with_retain_has_format_two(rt: HostRuntime) -> Result<(), Fail> {
-    let alloc = rt.alloc();
-    let job = read(
-        alloc,
-        br#"{"format":2,"network":{"id":"N"},"workers":[[{"do":"retain","switch":"X","retained":true}]]}"#.as_slice(),
-    )?;
-    let printed = print_job(alloc, &job)?;
-    assert!(rt;
-        printed
-            .as_slice()
-            .starts_with(br#"{"format":2,"#.as_slice())
-    );
-    assert!(rt;
-        matches!(
-            job.scripts.get(0).and_then(|script| script.get(0)),
-            Some(Request::RetainSwitch { .. })
-        )
-    );
     Ok(())
 }

@@ -1,4 +1,4 @@
-use Rattle.grid_part_rows.proofs.callers.left_of.Given as goal
+use Rattle.grid_rows.proofs.callers.left_of.Given as goal
 
 -- the name of the blank's table
 abbrev pub ghosts-pair : goal.ghosts-pair

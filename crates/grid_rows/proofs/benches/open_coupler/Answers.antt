@@ -1,7 +1,7 @@
 use Rattle.std.proofs.Common.{refl, Bool, false, true, List, [], ◌∷◌, arith}
 use Rattle.grid_bench.specs.Contents.{content}
 use Rattle.grid_bench.proofs.Trying.{fourth_costs}
-use Rattle.grid_part_rows.proofs.benches.open_coupler.Goals as goal
+use Rattle.grid_rows.proofs.benches.open_coupler.Goals as goal
 
 pub returns : goal.returns
 returns g c =
