@@ -19,20 +19,18 @@ use std::test::Fail;
 use std::thread;
 use std::thread::Threads;
 
-/// Holds a worker at work until the other is done, who begins once it is at work. Each waits for at most so many turns.
+/// Holds worker 1 at work until worker 0 is done, who begins once it is at work. Each waits for at most so many turns.
 #[derive(Drop)]
 struct Hold {
-    held: u32,
     begun: AtomicBool,
     done: AtomicBool,
     used_up: AtomicBool,
 }
 
 impl Hold {
-    /// It holds this worker, or, where it is open from the start, none.
-    fn new(held: u32, open: bool) -> Hold {
+    /// It holds worker 1, or, where it is open from the start, none.
+    fn new(open: bool) -> Hold {
         Hold {
-            held,
             begun: AtomicBool::new(open),
             done: AtomicBool::new(open),
             used_up: AtomicBool::new(false),
@@ -53,7 +51,7 @@ impl Hold {
 
 impl Gate for Hold {
     fn at_work(&self, worker: u32, _bench: &Bench) {
-        if worker == self.held {
+        if worker == 1 {
             self.begun.store(true, Ordering::SeqCst);
             self.wait_for(&self.done);
         }
@@ -128,15 +126,6 @@ fn at_once<R: Threads + Wait + Sync, N: Named + Send + Sync, M: Caller<N> + Sync
     )
 }
 
-/// The seat of the worker that a gate holds, and the other.
-fn held_first<N: Named>(first: Seat<N>, second: Seat<N>, gate: &Hold) -> (Seat<N>, Seat<N>) {
-    if gate.held == 0 {
-        (first, second)
-    } else {
-        (second, first)
-    }
-}
-
 /// The scripts of a case: those before, one after the other; what is asked and what comes between, at once; and a look by
 /// the worker that was held, then by the other.
 fn both_scripts<R: Threads + Wait + Sync, N: Named + Send + Sync, M: Caller<N> + Sync>(
@@ -149,8 +138,7 @@ fn both_scripts<R: Threads + Wait + Sync, N: Named + Send + Sync, M: Caller<N> +
 ) -> (Seat<N>, Seat<N>) {
     let first = all_calls(rt, manager, first, parts.before_by_0, gate);
     let second = all_calls(rt, manager, second, parts.before_by_1, gate);
-    let (held, free) = held_first(first, second, gate);
-    let (held, free) = at_once(rt, manager, held, parts.asked, free, parts.between, gate);
+    let (held, free) = at_once(rt, manager, second, parts.asked, first, parts.between, gate);
     let held = all_calls(rt, manager, held, parts.look, gate);
     let free = all_calls(rt, manager, free, parts.look, gate);
     (held, free)
@@ -210,12 +198,7 @@ fn left_of<R: Threads + Wait + Sync>(
     Ok(pair::<R, Brand>(rt, alloc, blank, parts, gate)?)
 }
 
-// A busbar section and a load with a breaker between them: one bus, and none once the breaker is open. One worker looks, the
-// other opens.
-const LOOK_AND_OPEN: &str =
-    r#"{"format":1,"network":{"id":"N","substations":[{"id":"S","levels":[{"id":"VL","nominal_v":225000,"busbars":[{"id":"BBS","node":0}],"switches":[{"id":"BC","kind":"BREAKER","node1":0,"node2":1}],"injections":[{"kind":"LOAD","id":"L1","node":1,"p0":5,"q0":0}]}]}]},"workers":[[{"do":"bus_view","level":"VL"}],[{"do":"open","switch":"BC"}]]}"#;
-
-/// What the first two workers of a job leave, of whom the gate may hold the first.
+/// What two callers leave who make a job's first two scripts at once.
 fn left_of_two<R: Threads + Wait + Sync>(
     rt: &R,
     alloc: Global,
@@ -233,10 +216,6 @@ fn left_of_two<R: Threads + Wait + Sync>(
     };
     left_of(rt, alloc, job.network.copy()?, &parts, gate)
 }
-
-// The report of the two: worker 1's step stands first, and worker 0 sees what it left.
-const OPENED_FIRST: &str =
-    "order 1 0\nworker 0\n1 InitialState bus_view VL: 0 buses\nworker 1\n1 InitialState open BC: done\nend\n";
 
 /// Asserts the report of two workers' steps, without views.
 fn expect_report(
@@ -265,16 +244,8 @@ fn expect_all_told(rt: &impl Abort, left: &Left) -> Result<(), Fail> {
 }
 
 #[test]
-fn a_held_step_comes_last(rt: HostRuntime) -> Result<(), Fail> {
-    let gate = Hold::new(0, false);
-    let left = left_of_two(&rt, rt.alloc(), LOOK_AND_OPEN, &gate)?;
-    assert!(rt; !gate.used_up.load(Ordering::SeqCst));
-    expect_report(&rt, rt.alloc(), left.journal, OPENED_FIRST)
-}
-
-#[test]
 fn each_is_told_of_all_steps(rt: HostRuntime) -> Result<(), Fail> {
-    let gate = Hold::new(0, true);
+    let gate = Hold::new(true);
     let left = left_of_two(&rt, rt.alloc(), FOUR, &gate)?;
     expect_all_told(&rt, &left)
 }
@@ -290,7 +261,7 @@ fn by_callers<R: Threads + Wait + Sync + Abort>(
     let Some(parts) = parts_of(job.scripts.slice()) else {
         return Ok(assert!(rt; false));
     };
-    let gate = Hold::new(1, false);
+    let gate = Hold::new(false);
     let left = left_of(rt, alloc, job.network.copy()?, &parts, &gate)?;
     assert!(rt; !gate.used_up.load(Ordering::SeqCst));
     let steps = left.journal.len() as u64;
