@@ -1,7 +1,8 @@
 //! The program: real streams round the top call.
 #![tactic(auto)]
 
-use grid_cli::Status;
+use grid_cli::grid;
+use grid_forms::Status;
 use grid_lines::{Fault, ending, usage_text};
 use grid_manager::Idle;
 use grid_source::{KeepingSource, StdSink, StdSource};
@@ -51,7 +52,7 @@ fn main(rt: HostRuntime) -> ExitCode {
     };
     let mut source = KeepingSource::new(rt.alloc(), StdSource::new(rt.reader()));
     let mut sink = StdSink::new(io::writer(&rt));
-    let status = grid_cli::grid(
+    let status = grid(
         &rt,
         rt.alloc(),
         words.as_slice(),

@@ -1,6 +1,7 @@
 // Broken input of which no single case tells enough, or whose text is long.
 use crate::words::words_of;
-use grid_cli::{Status, grid_once};
+use grid_cli::grid_once;
+use grid_forms::Status;
 use grid_source::{SureSink, SureSource};
 use std::alloc::Global;
 use std::io;
@@ -31,6 +32,11 @@ pub(crate) fn beginnings(alloc: Global, job: &[u8]) -> io::Result<Option<u64>> {
         count = count.saturating_add(1);
     }
     Ok(Some(count))
+}
+
+/// How a check of so many spaces ends, where nothing is written.
+pub(crate) fn spaces(alloc: Global, count: usize) -> io::Result<Option<Status>> {
+    checked(alloc, vec![in alloc; b' '; count]?)
 }
 
 /// How a check of a job ends in which one worker has this many commands, where nothing is written.

@@ -1,6 +1,7 @@
 // Sources and sinks of which one call fails.
 use crate::words::words_of;
-use grid_cli::{Status, grid};
+use grid_cli::grid;
+use grid_forms::Status;
 use grid_manager::Idle;
 use grid_source::{MemorySink, MemorySource, SureSink, SureSource};
 use std::alloc::Global;

@@ -1,32 +1,25 @@
 //! Runs whole jobs by the top call. Each folder of `data/` is a case: the words, the job, and the exit status, the output and
 //! the line on standard error that they must give, and for a job with a fault also its place and reason. Then come what is
-//! told by many calls each: broken input, and sources and sinks that fail.
+//! told by many calls each: broken input, sources and sinks that fail, the pieces of a long output, a run on threads that is
+//! replayed by its order, and many contingencies at once.
 #![tactic(auto)]
 
 mod broken;
+mod compare;
+mod ending;
 mod failing;
+mod pieces;
+mod replayed;
+mod screened;
 mod words;
 
-use crate::words::words_of;
-use grid_cli::{Status, grid};
-use grid_lines::{ending, usage_text};
-use grid_manager::Idle;
-use grid_source::{KeepingSource, SureSink, SureSource};
-use std::alloc::Global;
+use crate::compare::first_difference;
+use crate::ending::{Ending, fault_of, run, told};
+use grid_forms::Status;
+use grid_lines::usage_text;
 use std::sync::Wait;
 use std::thread::Threads;
 use std::{fs, io};
-
-/// What a run has come to.
-#[derive(Drop)]
-struct Ending {
-    status: u8,
-    /// The place of a job's first fault and the reason, or no text.
-    fault: String,
-    output: Vec<u8>,
-    /// The line on standard error, or no text.
-    line: String,
-}
 
 /// The names of the cases, in order.
 fn names(rt: &HostRuntime) -> io::Result<Vec<String>> {
@@ -53,52 +46,20 @@ fn text_of(rt: &HostRuntime, name: &str, file: &str) -> io::Result<String> {
     }
 }
 
-/// The place of a fault, and the name of its reason.
-fn fault_of(alloc: Global, status: &Status) -> io::Result<String> {
-    match status {
-        Status::BadJob { place, reason } => {
-            let reason = format!(in alloc; "{reason:?}")?;
-            let name = reason.as_str().split_whitespace().next().unwrap_or("");
-            Ok(format!(in alloc; "{} {name}", place.text())?)
-        }
-        _ => Ok(String::new(alloc)),
-    }
+/// The one line of a case's file, or no text where there is none.
+fn line_of(rt: &HostRuntime, name: &str, file: &str) -> io::Result<String> {
+    let text = text_of(rt, name, file)?;
+    Ok(String::from_str(rt.alloc(), text.as_str().trim_end())?)
 }
 
-/// The exit status, and the line on standard error.
-fn told(alloc: Global, words: &[String], status: Status, job: &[u8]) -> io::Result<(u8, String)> {
-    let (number, fault) = ending(alloc, words, status, job);
-    match fault {
-        Some(fault) => Ok((number, format!(in alloc; "{fault}")?)),
-        None => Ok((number, String::new(alloc))),
-    }
-}
-
-/// What the words make of a job.
-fn run<R: Threads + Wait + Sync>(
-    threads: &R,
-    alloc: Global,
-    words: &str,
-    job: Vec<u8>,
-) -> io::Result<Ending> {
-    let list = words_of(alloc, words)?;
-    let mut source = KeepingSource::new(alloc, SureSource::new(job, 4096));
-    let mut sink = SureSink::new(Vec::new(alloc), 4096);
-    let status = grid(
-        threads,
-        alloc,
-        list.as_slice(),
-        &mut source,
-        &mut sink,
-        &Idle,
-    );
-    let fault = fault_of(alloc, &status)?;
-    let (status, line) = told(alloc, list.as_slice(), status, source.kept().unwrap_or(&[]))?;
+/// What a case must come to.
+fn wanted_of(rt: &HostRuntime, name: &str) -> io::Result<Ending> {
+    let output = format!(in rt.alloc(); "{name}/output")?;
     Ok(Ending {
-        status,
-        fault,
-        output: sink.bytes().to_vec(alloc)?,
-        line,
+        status: line_of(rt, name, "status")?,
+        fault: line_of(rt, name, "fault")?,
+        output: fs::read_to_string(rt, output.as_str())?,
+        line: line_of(rt, name, "line")?,
     })
 }
 
@@ -107,22 +68,21 @@ fn difference<R: Threads + Wait + Sync>(
     rt: &HostRuntime,
     threads: &R,
     name: &str,
-) -> io::Result<Option<&'static str>> {
+) -> io::Result<Option<String>> {
     let words = text_of(rt, name, "words")?;
     let job = part(rt, name, "job.json")?;
-    let ending = run(threads, rt.alloc(), words.as_str(), job)?;
-    let status = text_of(rt, name, "status")?;
-    if status.trim().parse::<u8>().ok() != Some(ending.status) {
-        return Ok(Some("another exit status"));
-    }
-    if text_of(rt, name, "fault")?.as_str().trim_end() != ending.fault.as_str() {
-        return Ok(Some("another fault"));
-    }
-    if part(rt, name, "output")? != ending.output {
-        return Ok(Some("another output"));
-    }
-    if text_of(rt, name, "line")?.as_str().trim_end() != ending.line.as_str() {
-        return Ok(Some("another line"));
+    let got = run(threads, rt.alloc(), words.as_str(), job)?;
+    let wanted = wanted_of(rt, name)?;
+    for (what, got, wanted) in [
+        ("exit status", &got.status, &wanted.status),
+        ("fault", &got.fault, &wanted.fault),
+        ("output", &got.output, &wanted.output),
+        ("line", &got.line, &wanted.line),
+    ] {
+        let place = first_difference(rt.alloc(), got.as_str(), wanted.as_str())?;
+        if !place.is_empty() {
+            return Ok(Some(format!(in rt.alloc(); "another {what}, {place}")?));
+        }
     }
     Ok(None)
 }
@@ -173,6 +133,14 @@ fn show_checked(
     }
 }
 
+/// Prints how a check of so many spaces ended.
+fn show_spaces(rt: &HostRuntime, count: usize) -> io::Result<()> {
+    match broken::spaces(rt.alloc(), count)? {
+        Some(status) => println!(rt; "{count} spaces: exit status {}", status.number()),
+        None => println!(rt; "{count} spaces: something was written"),
+    }
+}
+
 /// Prints what comes of broken input of which no single case tells enough.
 fn show_broken(rt: &HostRuntime) -> io::Result<()> {
     let alloc = rt.alloc();
@@ -187,7 +155,8 @@ fn show_broken(rt: &HostRuntime) -> io::Result<()> {
     for count in [200_000, 200_001] {
         show_checked(rt, count, "switches", &broken::switches(alloc, count)?)?;
     }
-    Ok(())
+    show_spaces(rt, 33_554_432)?;
+    show_spaces(rt, 33_554_433)
 }
 
 /// Prints a count of calls, each of which failed as it must.
@@ -213,10 +182,42 @@ fn show_failing<R: Threads + Wait + Sync>(rt: &HostRuntime, threads: &R) -> io::
     Ok(())
 }
 
+/// Prints the pieces in which the report of a long job is handed out.
+fn show_pieces(rt: &HostRuntime) -> io::Result<()> {
+    print!(rt; "too_many_variants: pieces of")?;
+    for size in pieces::pieces_of(rt.alloc(), part(rt, "too_many_variants", "job.json")?)? {
+        print!(rt; " {size}")?;
+    }
+    println!(rt; " bytes")
+}
+
+/// Prints whether a run of three workers is replayed by its order, and how its report is that of the case.
+fn show_replayed<R: Threads + Wait + Sync>(rt: &HostRuntime, threads: &R) -> io::Result<()> {
+    let job = text_of(rt, "four_report", "job.json")?;
+    let wanted = text_of(rt, "four_report", "output")?;
+    let (ran, replayed) = replayed::both_reports(threads, rt.alloc(), job.as_str())?;
+    let place = first_difference(rt.alloc(), replayed.as_str(), ran.as_str())?;
+    if place.is_empty() && replayed::same_behind_order(ran.as_str(), wanted.as_str()) {
+        println!(rt; "four_report: a run on threads is replayed by its order")
+    } else {
+        println!(rt; "four_report: a run on threads is not replayed by its order, {place}")
+    }
+}
+
+/// Prints how many of many contingencies are found alike.
+fn show_screened<R: Threads + Wait + Sync>(rt: &HostRuntime, threads: &R) -> io::Result<()> {
+    let job = text_of(rt, "screen", "job.json")?;
+    let (found, lines) = screened::lines_of(threads, rt.alloc(), job.as_str(), 4_096)?;
+    println!(rt; "screen: {found} contingencies in {lines} lines")
+}
+
 /// Prints what is told by many calls each.
 fn show_parts<R: Threads + Wait + Sync>(rt: &HostRuntime, threads: &R) -> io::Result<()> {
     show_broken(rt)?;
-    show_failing(rt, threads)
+    show_failing(rt, threads)?;
+    show_pieces(rt)?;
+    show_replayed(rt, threads)?;
+    show_screened(rt, threads)
 }
 
 fn main(rt: HostRuntime) -> io::Result<()> {

@@ -4,10 +4,10 @@ use Rattle.std.specs.Prelude.{⊤}
 use Rattle.std.specs.Io.KnownBytes.{Consumes, IsAtEnd}
 use Rattle.std.proofs.lemmas.Bool.{le-ltb, lt-ltb}
 use Rattle.grid_source.specs.declared.whole.TheConstants.{MOST}
-use Rattle.grid_cli.specs.declared.words.Form.{Form}
-use Rattle.grid_cli.specs.declared.words.Form.TheVariants.{Check, Replay, Run, Print, Hvdc, Screen, Configured, Make, Trial}
-use Rattle.grid_cli.specs.declared.once.Status.{Status}
-use Rattle.grid_cli.specs.declared.once.Status.TheVariants as statuses
+use Rattle.grid_forms.specs.declared.words.Form.{Form}
+use Rattle.grid_forms.specs.declared.words.Form.TheVariants.{Check, Replay, Run, Print, Hvdc, Screen, Configured, Make, Trial}
+use Rattle.grid_forms.specs.declared.status.Status.{Status}
+use Rattle.grid_forms.specs.declared.status.Status.TheVariants as statuses
 use Rattle.grid_cli.specs.Once.{ReadsWhole, Outcome, OutcomeOf, WritesAlone, IsOutput, fault_in, fault_of, status_for, status_within, wanted, IsWanted, Exact, made_text}
 use Rattle.grid_cli.specs.Trials.{trial_text}
 

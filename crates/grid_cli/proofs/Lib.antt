@@ -3,7 +3,6 @@ pub mod Scheduled
 pub mod Showing
 pub mod Written
 pub mod Exact
-pub mod Numbers
 pub mod Numbering
 pub mod Trialled
 pub mod Threading

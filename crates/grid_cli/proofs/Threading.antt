@@ -15,7 +15,7 @@ use Rattle.grid_report.specs.Histories.{AsksScripts, IsOrder, history_of, outcom
 use Rattle.grid_report.proofs.Begun.{at_start}
 use Rattle.grid_report.proofs.Ordered.{counted, steps_told}
 use Rattle.grid_workers.specs.Runs.{IsRun}
-use Rattle.grid_cli.specs.declared.once.Status.TheVariants as statuses
+use Rattle.grid_forms.specs.declared.status.Status.TheVariants as statuses
 use Rattle.grid_cli.specs.Orders.{IsScheduled, order_of, replay_text}
 use Rattle.grid_cli.specs.Once.{Writes, WritesReport, status_after}
 use Rattle.grid_cli.specs.Threaded.{IsOutcomeOf}

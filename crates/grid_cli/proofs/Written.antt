@@ -15,12 +15,12 @@ use Rattle.grid_json.specs.Whole.{job_of, JobGives}
 use Rattle.grid_hvdc.specs.declared.HvdcJob.{HvdcJob}
 use Rattle.grid_screen.specs.declared.ScreenJob.{ScreenJob}
 use Rattle.grid_configured.specs.declared.network.ConfiguredJob.{ConfiguredJob}
-use Rattle.grid_cli.specs.declared.words.Form.{Form}
-use Rattle.grid_cli.specs.declared.words.Form.TheVariants.{Check, Replay, Run, Print, Hvdc, Screen, Configured}
+use Rattle.grid_forms.specs.declared.words.Form.{Form}
+use Rattle.grid_forms.specs.declared.words.Form.TheVariants.{Check, Replay, Run, Print, Hvdc, Screen, Configured}
 use Rattle.grid_cli.specs.declared.once.Answer.{Answer}
 use Rattle.grid_cli.specs.declared.once.Answer.TheVariants as answers
-use Rattle.grid_cli.specs.declared.once.Status.{Status}
-use Rattle.grid_cli.specs.declared.once.Status.TheVariants as statuses
+use Rattle.grid_forms.specs.declared.status.Status.{Status}
+use Rattle.grid_forms.specs.declared.status.Status.TheVariants as statuses
 use Rattle.grid_cli.specs.Orders.{order_of, replay_text}
 use Rattle.grid_cli.specs.Hvdc.{hvdc_text}
 use Rattle.grid_cli.specs.Screen.{screen_text}

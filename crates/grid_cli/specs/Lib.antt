@@ -1,4 +1,4 @@
-pub mod Words
+pub mod Forms
 pub mod Counts
 pub mod Orders
 pub mod Trials

@@ -20,26 +20,15 @@ use Rattle.grid_cli.specs.Screen.{screen_text}
 use Rattle.grid_cli.specs.Configured.{configured_job_text}
 use Rattle.grid_print.specs.Job.{job_text, network_text}
 use Rattle.grid_make.specs.MadeJob.{made_job}
-use Rattle.grid_cli.specs.declared.words.Form.{Form}
-use Rattle.grid_cli.specs.declared.words.Form.TheVariants.{Check, Replay, Run, Print, Hvdc, Screen, Configured, Make, Trial}
+use Rattle.grid_forms.specs.declared.words.Form.{Form}
+use Rattle.grid_forms.specs.declared.words.Form.TheVariants.{Check, Replay, Run, Print, Hvdc, Screen, Configured, Make, Trial}
 use Rattle.grid_cli.specs.declared.once.Answer.{Answer}
 use Rattle.grid_cli.specs.declared.once.Answer.TheVariants as answers
-use Rattle.grid_cli.specs.declared.once.Status.{Status}
-use Rattle.grid_cli.specs.declared.once.Status.TheVariants as statuses
+use Rattle.grid_forms.specs.declared.status.Status.{Status}
+use Rattle.grid_forms.specs.declared.status.Status.TheVariants as statuses
 use Rattle.grid_cli.specs.Counts.{check_text}
 use Rattle.grid_cli.specs.Orders.{replay_text, IsReport}
 use Rattle.grid_cli.specs.Trials.{trial_text}
-
--- the program's exit status
-abbrev pub exit_number : Status → ℕ
-exit_number statuses.Done = 0
-exit_number statuses.Usage = 2
-exit_number statuses.ReadFault = 3
-exit_number statuses.TooLong = 4
-exit_number statuses.BadJson = 5
-exit_number (statuses.BadJob place reason) = 6
-exit_number statuses.WriteFault = 7
-exit_number statuses.NoMemory = 8
 
 -- ---- the output
 

@@ -3,8 +3,8 @@ use Rattle.std.specs.Prelude.{◌≡◌, ℕ, Option, Some, List}
 use Rattle.grid_json.specs.declared.whole.Job.{Job}
 use Rattle.grid_report.specs.declared.outcome.Outcome.{Outcome}
 use Rattle.grid_report.specs.Histories.{IsOrder, history_of, outcome_of}
-use Rattle.grid_cli.specs.declared.words.Form.{Form}
-use Rattle.grid_cli.specs.declared.words.Form.TheVariants.{Run, Screen}
+use Rattle.grid_forms.specs.declared.words.Form.{Form}
+use Rattle.grid_forms.specs.declared.words.Form.TheVariants.{Run, Screen}
 use Rattle.grid_cli.specs.declared.threaded.Served.{Served}
 use Rattle.grid_cli.specs.declared.threaded.Served.TheVariants.{ByWorkers, ByScreening, ByOneThread}
 use Rattle.grid_cli.specs.Words.{on_one_thread}

@@ -7,17 +7,18 @@ ghost use Rattle.grid_report.specs.Histories.{IsOrder};
 ghost use Rattle.grid_configured.specs.Checks.{IsTranslatable};
 ghost use Rattle.grid_configured.specs.Names.{IsConfiguredRequest};
 ghost use Rattle.grid_configured.specs.Reports.{history_of, report_after};
-ghost use Rattle.grid_cli.specs.declared.words.Form.{Form};
+ghost use Rattle.grid_forms.specs.declared.words.Form.{Form};
 ghost use Rattle.grid_cli.specs.Configured.{IsRunnable, configured_job_text};
 ghost use Rattle.grid_cli.specs.Once.{OutcomeOf, Writes, ReadsConfigured, ReadsNone, configured_fault};
 
-use crate::once::{Status, read_source, status_for, status_of};
+use crate::once::{read_source, status_for, status_of};
 use crate::running::chosen_order;
 use grid_configured::{
     ConfiguredJob, ConfiguredNetwork, ConfiguredOutcome, read_configured, run_configured,
     write_configured,
 };
 use grid_core::Script;
+use grid_forms::Status;
 use grid_ids::Memory;
 use grid_json::Order;
 use grid_source::{Sink, Source};

@@ -6,14 +6,15 @@ ghost use Rattle.grid_source.specs.Causes.{Rose};
 ghost use Rattle.grid_source.specs.Whole.{IsBegun};
 ghost use Rattle.grid_core.specs.History.{live};
 ghost use Rattle.grid_report.specs.Histories.{history_of};
-ghost use Rattle.grid_cli.specs.declared.words.Form.{Form};
+ghost use Rattle.grid_forms.specs.declared.words.Form.{Form};
 ghost use Rattle.grid_cli.specs.Orders.{IsScheduled, order_of};
 ghost use Rattle.grid_cli.specs.Once.{OutcomeOf, Writes, ReadsHvdc, ReadsNone, hvdc_fault};
 ghost use Rattle.grid_cli.specs.Hvdc.{named_text, numbers_text, hvdc_text, part_text};
 
-use crate::once::{Status, read_source, status_for, status_of};
+use crate::once::{read_source, status_for, status_of};
 use crate::running::replayed;
 use grid_core::World;
+use grid_forms::Status;
 use grid_hvdc::{HvdcJob, HvdcLine, put_variant, read_hvdc};
 use grid_ids::{Id, Memory};
 use grid_json::Job;

@@ -10,8 +10,6 @@ mod screen;
 mod threaded;
 mod trial;
 mod views;
-mod words;
 
-pub use once::{Status, grid_once};
+pub use once::grid_once;
 pub use threaded::grid;
-pub use words::{Form, MOST_SEED, MOST_SIZE, read_words};

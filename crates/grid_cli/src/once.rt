@@ -3,65 +3,26 @@ ghost use Rattle.std.specs.Prelude.{◌≡◌, ◌≢◌, ◌↔◌, ◌≤◌, 
 ghost use Rattle.grid_source.specs.Causes.{Rose};
 ghost use Rattle.grid_json.specs.Job.{command_total};
 ghost use Rattle.grid_print.specs.Job.{network_text};
-ghost use Rattle.grid_cli.specs.declared.words.TheConstants.{MOST_SEED, MOST_SIZE};
-ghost use Rattle.grid_cli.specs.Words.{form_alone, ReadsNothing};
+ghost use Rattle.grid_forms.specs.declared.words.TheConstants.{MOST_SEED, MOST_SIZE};
+ghost use Rattle.grid_cli.specs.Forms.{form_alone, ReadsNothing};
 ghost use Rattle.grid_cli.specs.Orders.{IsScheduled, replay_text};
 ghost use Rattle.grid_cli.specs.Once as once;
-ghost use Rattle.grid_cli.specs.Once.{Outcome, OutcomeOf, form_for, Exact, Writes, ReadsWhole, ReadsPart, ReadsNone, ReadsJob, job_fault, status_after, text_of, made_text, exit_number};
+ghost use Rattle.grid_cli.specs.Once.{Outcome, OutcomeOf, form_for, Exact, Writes, ReadsWhole, ReadsPart, ReadsNone, ReadsJob, job_fault, status_after, text_of, made_text};
 
 use crate::configured::read_and_configure;
 use crate::counts::write_counts;
 use crate::hvdc::read_and_number;
 use crate::running::run_job;
 use crate::trial::write_trial;
-use crate::words::{Form, read_words};
+use grid_forms::{Form, Status, read_words};
 use grid_ids::Memory;
-use grid_json::{Job, JobFault, Place, Reason, read_job};
+use grid_json::{Job, JobFault, read_job};
 use grid_make::make_job;
 use grid_print::{print_job, print_network};
 use grid_report::{ReportFault, write_report};
 use grid_source::{ReadAllFault, Sink, Source, read_all, write_all};
 use grid_structure::Structure;
 use std::alloc::Global;
-
-/// How a run ends. The numbers are the program's exit statuses.
-#[derive(Debug, Drop)]
-pub enum Status {
-    /// 0: the output was written whole.
-    Done,
-    /// 2: the words are no form. Nothing was read.
-    Usage,
-    /// 3: the source failed. Nothing was written.
-    ReadFault,
-    /// 4: the input has more than 33,554,432 bytes. Nothing was written.
-    TooLong,
-    /// 5: the input is no JSON. Nothing was written.
-    BadJson,
-    /// 6: the input is JSON, but no job: its first fault, and where that stands. Nothing was written.
-    BadJob { place: Place, reason: Reason },
-    /// 7: the sink failed. A front of the output was written.
-    WriteFault,
-    /// 8: memory is wanting. A front of the output was written, or nothing.
-    NoMemory,
-}
-
-impl Status {
-    /// The program's exit status. The numbers are this project's own.
-    pub fn number(&self) -> u8
-        ensures { result ≡ exit_number self.now }
-    {
-        match self {
-            Status::Done => 0,
-            Status::Usage => 2,
-            Status::ReadFault => 3,
-            Status::TooLong => 4,
-            Status::BadJson => 5,
-            Status::BadJob { .. } => 6,
-            Status::WriteFault => 7,
-            Status::NoMemory => 8,
-        }
-    }
-}
 
 /// Does what the words ask for, from the source to the sink, on the calling thread. It serves every form but `run` and
 /// `screen`, which are Usage here as words of no form are. It takes no lock.

@@ -6,15 +6,16 @@ ghost use Rattle.grid_source.specs.Causes.{Rose};
 ghost use Rattle.grid_source.specs.Whole.{IsBegun};
 ghost use Rattle.grid_report.specs.Histories.{history_of};
 ghost use Rattle.grid_screen.specs.Findings.{CaseFits};
-ghost use Rattle.grid_cli.specs.declared.words.Form.{Form};
+ghost use Rattle.grid_forms.specs.declared.words.Form.{Form};
 ghost use Rattle.grid_cli.specs.Orders.{IsScheduled, order_of};
 ghost use Rattle.grid_cli.specs.Once.{OutcomeOf, Writes, ReadsScreen, ReadsNone, screen_fault};
 ghost use Rattle.grid_cli.specs.Screen.{AreFound, lines_of, part_text, screen_text};
 ghost use Rattle.grid_cli.specs.Screen as screens;
 
-use crate::once::{Status, read_source, status_for, status_of};
+use crate::once::{read_source, status_for, status_of};
 use crate::running::replayed;
 use grid_core::{Case, World};
+use grid_forms::Status;
 use grid_ids::{Id, Memory};
 use grid_json::Job;
 use grid_report::{ReportFault, Shown, Text, write_blocks};

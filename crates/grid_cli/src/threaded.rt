@@ -1,15 +1,16 @@
 // The top call, and the form `run`: workers on threads of their own.
 ghost use Rattle.std.specs.Prelude.{◌≡◌, ◌≢◌, ◌↔◌, None, IfOk, map, string_bytes};
 ghost use Rattle.grid_source.specs.Causes.{Rose};
-ghost use Rattle.grid_cli.specs.Words.{form_of, ReadsNothing};
+ghost use Rattle.grid_forms.specs.Words.{form_of};
+ghost use Rattle.grid_cli.specs.Forms.{ReadsNothing};
 ghost use Rattle.grid_cli.specs.Orders.{IsScheduled};
 ghost use Rattle.grid_cli.specs.Once.{Outcome, OutcomeOf, Exact, WritesReport};
 ghost use Rattle.grid_cli.specs.Threaded.{IsOutcomeOf, IsServed};
 
-use crate::once::{Status, grid_once, read_from, status_of};
+use crate::once::{grid_once, read_from, status_of};
 use crate::running::outcome;
 use crate::screen::read_and_screen;
-use crate::words::{Form, read_words};
+use grid_forms::{Form, Status, read_words};
 use grid_ids::Memory;
 use grid_json::Job;
 use grid_manager::Gate;

@@ -4,7 +4,7 @@ ghost use Rattle.std.specs.Io.KnownBytes.{Appends};
 ghost use Rattle.grid_source.specs.Causes.{Rose};
 ghost use Rattle.grid_source.specs.Whole.{IsBegun};
 ghost use Rattle.grid_make.specs.MadeJob.{made_job};
-ghost use Rattle.grid_cli.specs.declared.words.TheConstants.{MOST_SEED, MOST_SIZE};
+ghost use Rattle.grid_forms.specs.declared.words.TheConstants.{MOST_SEED, MOST_SIZE};
 ghost use Rattle.grid_cli.specs.Trials.{is_updated, trial_head, trial_of, trial_text};
 
 use crate::counts::{count_commands, put_counted};

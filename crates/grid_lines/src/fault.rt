@@ -1,13 +1,13 @@
 // The line on standard error.
 ghost use Rattle.std.specs.Prelude.{◌≡◌, ◌↔◌, IsNone};
-ghost use Rattle.grid_cli.specs.Once.{exit_number};
+ghost use Rattle.grid_forms.specs.Exits.{exit_number};
 
 use crate::look::{Seen, owner, shown};
 use crate::not_json::{NotJson, not_json};
 use crate::told::why_seen;
 use crate::why::{Why, why_of};
 use crate::wrong_words::{WrongWords, wrong_words};
-use grid_cli::{Form, Status, read_words};
+use grid_forms::{Form, Status, read_words};
 use grid_json::{Place, Reason};
 use serde_json::Value;
 use std::alloc::{AllocError, Global};

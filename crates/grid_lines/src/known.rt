@@ -1,7 +1,7 @@
 //! The members that the objects of a job may have, and the words that it may use: for the line on standard error. They are
 //! those of the reader, listed once more.
 
-use grid_cli::Form;
+use grid_forms::Form;
 
 /// The words of `do`, by the format that each came with.
 const COMMANDS: [(&str, i64); 23] = [

@@ -1,6 +1,6 @@
 //! What a job has at the place of its first fault.
 
-use grid_cli::Form;
+use grid_forms::Form;
 use serde_json::Value;
 use std::alloc::{AllocError, Global};
 

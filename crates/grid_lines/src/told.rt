@@ -6,7 +6,7 @@ use crate::known::{
 };
 use crate::look::{Seen, found, level_of_side, missing_bus, missing_level, shown, text_of};
 use crate::why::Why;
-use grid_cli::Form;
+use grid_forms::Form;
 use grid_json::Reason;
 use grid_structure::EditFault;
 use std::alloc::{AllocError, Global};

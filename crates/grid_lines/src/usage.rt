@@ -1,7 +1,7 @@
 //! The usage text.
 
 use clap::Command;
-use grid_cli::{MOST_SEED, MOST_SIZE};
+use grid_forms::{MOST_SEED, MOST_SIZE};
 use grid_source::MOST;
 use std::alloc::{AllocError, Global};
 

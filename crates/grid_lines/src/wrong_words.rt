@@ -1,7 +1,7 @@
 //! Which of the words that the program was called with is wrong.
 
 use crate::look::shown;
-use grid_cli::{Form, MOST_SEED, MOST_SIZE, read_words};
+use grid_forms::{Form, MOST_SEED, MOST_SIZE, read_words};
 use std::alloc::{AllocError, Global};
 use thiserror::Error;
 

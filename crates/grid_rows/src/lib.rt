@@ -1,12 +1,18 @@
-//! Worked examples by the top call, of what no whole job on one thread shows: sources and sinks that fail, threads, and
-//! what one thread and many make of one job.
+//! Worked examples of what no whole job by the top call shows: commits that come between, callers, gates, listeners, and at
+//! what cost labels follow.
 #![tactic(auto)]
 
 #[cfg(test)]
-mod jobs;
+mod benches;
 #[cfg(test)]
-mod screening;
+mod callers;
 #[cfg(test)]
-mod streams;
+mod cases;
 #[cfg(test)]
-mod threads;
+mod gates;
+#[cfg(test)]
+mod networks;
+#[cfg(test)]
+mod stale;
+#[cfg(test)]
+mod telling;

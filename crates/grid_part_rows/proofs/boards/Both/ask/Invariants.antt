@@ -1,5 +1,0 @@
-use Rattle.grid_part_rows.proofs.boards.Both.ask.Given as goal
-
--- the name of the counter
-abbrev pub ghosts-answered : goal.ghosts-answered
-ghosts-answered a = record { name = a.blank.name; parts = a.blank.parts }

@@ -1,0 +1,12 @@
+use Rattle.std.proofs.Common.{refl, Bool, false, true, List, [], ◌∷◌, arith}
+use Rattle.grid_bench.specs.Contents.{content}
+use Rattle.grid_bench.proofs.Trying.{fourth_costs}
+use Rattle.grid_rows.proofs.benches.open_coupler.Goals as goal
+
+pub returns : goal.returns
+returns g c =
+    let level = c.args.level.now in
+    let closed : List Bool = false ∷ true ∷ false ∷ false ∷ false ∷ [] in
+    let retained : List Bool = false ∷ false ∷ false ∷ true ∷ false ∷ [] in
+    let cost = c.refresh.ensures.cost.changed (content level closed retained) c.requires.kept refl in
+    omega (arith, cost, fourth_costs level retained false true false false false true c.requires.switches, c.requires.nodes)

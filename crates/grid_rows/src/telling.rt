@@ -1,0 +1,138 @@
+// Worlds that tell listeners what happens, and copies of what a job is made of.
+use crate::networks::{DUO, FOUR, read, with_scripts};
+use grid_core::{Journal, Request, Script, World};
+use grid_events::{Event, Events, Filter, Listener, Subscriptions};
+use grid_ids::{Duplicate, Id, Memory, Same};
+use grid_json::Job;
+use std::alloc::Global;
+use std::test::Fail;
+
+/// Keeps the events that it hears.
+#[derive(Drop)]
+struct Recorder {
+    events: Events,
+}
+
+impl Listener for Recorder {
+    ghost heard = { λ recorder. recorder.events };
+
+    fn hear(&mut self, event: &Event) -> Result<(), Memory> {
+        self.events.push(event.copy()?)?;
+        Ok(())
+    }
+}
+
+/// What is told of updates in a variant alone.
+fn updates_of(alloc: Global, variant: &str) -> Result<Filter, Fail> {
+    Ok(Filter {
+        created: false,
+        removed: false,
+        updated: true,
+        variant_created: false,
+        variant_overwritten: false,
+        variant_removed: false,
+        variant: Some(Id::new(alloc, variant)?),
+    })
+}
+
+// A variant in which the coupler is opened twice, and the same coupler opened in the initial one.
+const OPENS: &str =
+    r#"[{"do":"open","switch":"BC"},{"do":"clone","from":"InitialState","to":"VA"},{"do":"use","variant":"VA"},{"do":"close","switch":"BC"},{"do":"open","switch":"ZZ"},{"do":"close","switch":"BC"}]"#;
+
+/// Makes the steps of a script in a world of one worker, and tells them: the journal of those that were made.
+fn tell<L: Listener>(
+    alloc: Global,
+    job: &Job,
+    script: &Script,
+    listeners: &mut Subscriptions<L>,
+) -> Result<Journal, Fail> {
+    let mut world = World::start(alloc, job.network.copy()?, 1)?;
+    for request in script.slice() {
+        if world.step_told(0, request, listeners).is_err() {
+            break;
+        }
+    }
+    Ok(world.into_journal())
+}
+
+/// The job of the level with that script.
+fn job_that_opens(alloc: Global) -> Result<Job, Fail> {
+    let bytes = with_scripts(alloc, DUO, OPENS)?;
+    read(alloc, bytes.as_slice())
+}
+
+/// Whether the one listener has heard this event alone.
+fn heard_just(listeners: &Subscriptions<Recorder>, event: &Event) -> bool {
+    match listeners.slice() {
+        [subscription] => match subscription.listener.events.slice() {
+            [heard] => heard.same(event),
+            _ => false,
+        },
+        _ => false,
+    }
+}
+
+#[test]
+fn a_recorder_hears_the_one_event(rt: HostRuntime) -> Result<(), Fail> {
+    let alloc = rt.alloc();
+    let job = job_that_opens(alloc)?;
+    let Some(script) = job.scripts.get(0) else {
+        return Ok(assert!(rt; false));
+    };
+    let mut listeners = Subscriptions::empty(alloc);
+    let recorder = Recorder {
+        events: Events::empty(alloc),
+    };
+    assert!(rt;
+        listeners
+            .subscribe(updates_of(alloc, "VA")?, recorder)
+            .is_ok()
+    );
+    let journal = tell(alloc, &job, script, &mut listeners)?;
+    assert_eq!(rt; journal.len(), 6);
+    assert!(rt; journal.copy()?.same(&journal));
+    let closed = Event::Updated {
+        variant: Id::new(alloc, "VA")?,
+        switch: Id::new(alloc, "BC")?,
+        opened: false,
+    };
+    assert!(rt; heard_just(&listeners, &closed));
+    Ok(())
+}
+
+#[test]
+fn a_boxed_recorder_is_told(rt: HostRuntime) -> Result<(), Fail> {
+    let alloc = rt.alloc();
+    let job = job_that_opens(alloc)?;
+    let Some(script) = job.scripts.get(0) else {
+        return Ok(assert!(rt; false));
+    };
+    let mut boxed: Subscriptions<Box<dyn Listener>> = Subscriptions::empty(alloc);
+    let recorder: Box<dyn Listener> = Box::new(
+        alloc,
+        Recorder {
+            events: Events::empty(alloc),
+        },
+    )?;
+    assert!(rt; boxed.subscribe(updates_of(alloc, "VA")?, recorder).is_ok());
+    assert_eq!(rt; tell(alloc, &job, script, &mut boxed)?.len(), 6);
+    Ok(())
+}
+
+/// Whether each command of a script, each listener and the network are equal to their copies.
+fn copies_are_equal(job: &Job) -> Result<bool, Fail> {
+    let mut equal = job.network.copy()?.same(&job.network);
+    equal = equal && job.filters.copy()?.same(&job.filters);
+    for script in job.scripts.slice() {
+        equal = equal && script.copy()?.same(script);
+    }
+    Ok(equal)
+}
+
+#[test]
+fn copies(rt: HostRuntime) -> Result<(), Fail> {
+    let alloc = rt.alloc();
+    let job = read(alloc, FOUR.as_bytes())?;
+    assert!(rt; copies_are_equal(&job)?);
+    Ok(())
+}
