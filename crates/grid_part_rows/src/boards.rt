@@ -9,7 +9,7 @@ use grid_core::{Reply, Request, Script, Scripts, World};
 use grid_ids::{Duplicate, Id, Memory, Same};
 use grid_json::{Job, read_job};
 use grid_level::Flags;
-use grid_queue::Steps;
+use grid_queue::Counts;
 use grid_structure::Structure;
 use std::alloc::Global;
 use std::marker::Brand;
@@ -17,20 +17,24 @@ use std::process::Abort;
 use std::sync::ledger::{Blank, Ledger};
 use std::test::Fail;
 
-/// What a bench answers, with a counter of its own.
-fn answered<L: Ledger>(
+/// What a bench answers, with counters of its own.
+fn answered<L: Ledger, W: Ledger>(
     bench: &mut Bench,
     base: Base,
     task: Task,
-    blank: Blank,
+    visits: Blank,
+    writes: Blank,
 ) -> Result<Answer, Fail>
-    requires name { blank.name ≡ L.name }
-    requires parts { blank.parts ≡ L.parts }
-    requires some { 0 < blank.parts }
+    requires visits_name { visits.name ≡ L.name }
+    requires visits_parts { visits.parts ≡ L.parts }
+    requires visits_some { 0 < visits.parts }
+    requires writes_name { writes.name ≡ W.name }
+    requires writes_parts { writes.parts ≡ W.parts }
+    requires writes_some { 0 < writes.parts }
     requires task { IsTaskOf base task }
 {
-    let mut steps: Steps<L> = Steps::begin(blank);
-    Ok(bench.answer(base, task, &mut steps)?)
+    let mut counts: Counts<L, W> = Counts::begin(visits, writes);
+    Ok(bench.answer(base, task, &mut counts)?)
 }
 
 /// A board of two workers with a bench, and a world that makes the same steps.
@@ -66,10 +70,11 @@ impl Both {
         requires { worker < 2 }
     {
         match self.board.snapshot(worker, request)? {
-            Some((base, task)) => Ok(Some(answered::<Brand>(
+            Some((base, task)) => Ok(Some(answered::<Brand, Brand>(
                 &mut self.bench,
                 base,
                 task,
+                Blank::new(1),
                 Blank::new(1),
             )?)),
             None => Ok(None),
@@ -103,7 +108,13 @@ impl Both {
     {
         match self.board.snapshot(worker, request)? {
             Some((base, task)) => {
-                let answer = answered::<Brand>(&mut self.bench, base, task, Blank::new(1))?;
+                let answer = answered::<Brand, Brand>(
+                    &mut self.bench,
+                    base,
+                    task,
+                    Blank::new(1),
+                    Blank::new(1),
+                )?;
                 Ok(self.board.commit(worker, request, answer)?)
             }
             None => Ok(self.board.commit_plain(worker, request)?),
