@@ -6,8 +6,8 @@ use crate::classes::Classes;
 use grid_queue::{Steps, WorkQueue};
 use std::sync::ledger::Ledger;
 
-/// Gives the nodes of a greater label a lesser one, at a write at most for each node that has one of the two. Both classes
-/// are gone through in rising order, up to the last node of the greater label.
+/// Gives the nodes of a greater label a lesser one, at a write at most for each node that has one of the two. Both
+/// classes are gone through in rising order, up to the last node of the greater label.
 pub(crate) fn unite<W: Ledger>(
     classes: &mut Classes,
     lesser: u32,
@@ -42,8 +42,9 @@ pub(crate) fn unite<W: Ledger>(
     }
 }
 
-/// Parts the nodes of a label: where the label's own node was put on a walk, those that were not put, and else those that
-/// were, have the least of them as label. It goes through the label's nodes in rising order, at a write for each at most.
+/// Parts the nodes of a label: where the label's own node was put on a walk, those that were not put, and else those
+/// that were, have the least of them as label. It goes through the label's nodes in rising order, at a write for each
+/// at most.
 pub(crate) fn part<W: Ledger>(
     classes: &mut Classes,
     walked: &WorkQueue,

@@ -114,8 +114,8 @@ impl Classes {
         next
     }
 
-    /// Moves a node from behind the one before it to behind a node of another class, or to a class of its own where there
-    /// is none, at a write. Tells what followed it.
+    /// Moves a node from behind the one before it to behind a node of another class, or to a class of its own where
+    /// there is none, at a write. Tells what followed it.
     pub(crate) fn take_out<W: Ledger>(
         &mut self,
         before: u32,
