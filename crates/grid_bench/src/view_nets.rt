@@ -10,7 +10,7 @@ use crate::nets::Labelled;
 use grid_groups::NodeIndices;
 use grid_ids::{Memory, same_items};
 use grid_labels::Labels;
-use grid_queue::Steps;
+use grid_queue::{Counts, Steps};
 use std::alloc::Global;
 use std::marker::Model;
 use std::sync::ledger::Ledger;
@@ -56,32 +56,34 @@ fn second_net<L: Ledger>(
 
 // Lets an edge pass or not in the second of two nets, where another flag is set in the first one thereafter. None for the
 // second net says that it is the first, and it becomes one of its own where the two flags differ.
-fn set_second<L: Ledger>(
+fn set_second<L: Ledger, W: Ledger>(
     alloc: Global,
     second: &mut Option<Labelled>,
     first: &Labelled,
     edge: u32,
     ends: (u32, u32),
     flags: (bool, bool),
-    steps: &mut Steps<L>,
+    counts: &mut Counts<L, W>,
 ) -> Result<(), Memory>
     requires { IsEdgeOf (unwrap_or second.old first.now) edge ends.0 ends.1 }
     ensures net { OnOk result (unwrap_or second.new (with_passing first.now edge flags.0)
         ≡ with_passing (unwrap_or second.old first.now) edge flags.1) }
     ensures same { OnErr result (second.new ≡ second.old) }
-    ensures free { OnErr result (steps.new ≡ steps.old) }
-    ensures cost { steps.new
-        ≤ steps.old + set_cost (unwrap_or second.old first.now) edge ends.0 ends.1 flags.1 }
+    ensures free { OnErr result (counts.new ≡ counts.old) }
+    ensures visits { counts.new.visits
+        ≤ counts.old.visits + set_cost (unwrap_or second.old first.now) edge ends.0 ends.1 flags.1 }
+    ensures writes { counts.new.writes
+        ≤ counts.old.writes + set_cost (unwrap_or second.old first.now) edge ends.0 ends.1 flags.1 }
 {
     if let Some(net) = second {
-        net.set(edge, ends.0, ends.1, flags.1, steps);
+        net.set(edge, ends, flags.1, counts);
         return Ok(());
     }
     if flags.0 == flags.1 {
         return Ok(());
     }
     let mut net = first.copy(alloc)?;
-    net.set(edge, ends.0, ends.1, flags.1, steps);
+    net.set(edge, ends, flags.1, counts);
     *second = Some(net);
     Ok(())
 }
@@ -127,15 +129,16 @@ impl ViewNets {
         }
     }
 
-    /// Lets the edge at a place, between two nodes, pass or not in each net. It visits at most the nodes that are joined to
-    /// one of them before or after. After want of memory the nets are as they were, and nothing was visited.
-    pub(crate) fn set<L: Ledger>(
+    /// Lets the edge at a place, between two nodes, pass or not in each net. It visits, and writes to, at most the
+    /// nodes that are joined to one of them before or after. After want of memory the nets are as they were, and
+    /// nothing was visited or written.
+    pub(crate) fn set<L: Ledger, W: Ledger>(
         &mut self,
         edge: u32,
         ends: (u32, u32),
         bus: bool,
         breaker: bool,
-        steps: &mut Steps<L>,
+        counts: &mut Counts<L, W>,
     ) -> Result<(), Memory>
         requires bus { IsEdgeOf self.old.bus edge ends.0 ends.1 }
         requires breaker { IsEdgeOf self.old.breaker edge ends.0 ends.1 }
@@ -143,9 +146,12 @@ impl ViewNets {
             ≡ net_pair (with_passing self.old.bus edge bus) (with_passing self.old.breaker edge
             breaker)) }
         ensures same { OnErr result (self.new ≡ self.old) }
-        ensures free { OnErr result (steps.new ≡ steps.old) }
-        ensures cost { steps.new
-            ≤ steps.old + (set_cost self.old.bus edge ends.0 ends.1 bus + set_cost self.old.breaker
+        ensures free { OnErr result (counts.new ≡ counts.old) }
+        ensures visits { counts.new.visits
+            ≤ counts.old.visits + (set_cost self.old.bus edge ends.0 ends.1 bus + set_cost self.old.breaker
+            edge ends.0 ends.1 breaker) }
+        ensures writes { counts.new.writes
+            ≤ counts.old.writes + (set_cost self.old.bus edge ends.0 ends.1 bus + set_cost self.old.breaker
             edge ends.0 ends.1 breaker) }
     {
         let flags = (bus, breaker);
@@ -156,9 +162,9 @@ impl ViewNets {
             edge,
             ends,
             flags,
-            steps,
+            counts,
         )?;
-        self.bus.set(edge, ends.0, ends.1, bus, steps);
+        self.bus.set(edge, ends, bus, counts);
         Ok(())
     }
 }

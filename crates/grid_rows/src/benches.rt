@@ -7,7 +7,7 @@ ghost use Rattle.grid_bench.specs.Stores.{kept_for};
 use crate::networks::{DUO, read};
 use grid_bench::{Bench, SharedLevel};
 use grid_ids::{Duplicate, Id, Memory};
-use grid_queue::Steps;
+use grid_queue::Counts;
 use grid_structure::Structure;
 use std::alloc::Global;
 use std::marker::Brand;
@@ -31,66 +31,72 @@ fn first_level(alloc: Global, network: &Structure) -> Result<Option<SharedLevel>
 }
 
 /// A bench that keeps the level with its coupler closed.
-fn closed_bench<L: Ledger>(
+fn closed_bench<L: Ledger, W: Ledger>(
     alloc: Global,
     level: &SharedLevel,
-    steps: &mut Steps<L>,
+    counts: &mut Counts<L, W>,
 ) -> Result<Bench, Memory>
     requires { length level.now.switches ≡ 5 }
     ensures { IfOk result (λ bench. kept_for bench level.now.id
         ≡ Some (content level.now CLOSED RETAINED)) }
 {
     let mut bench = Bench::empty(alloc);
-    bench.refresh(level, &CLOSED, &RETAINED, steps)?;
+    bench.refresh(level, &CLOSED, &RETAINED, counts)?;
     Ok(bench)
 }
 
-/// The same level with the same flags again costs no visit.
-fn refresh_again<L: Ledger>(
+/// The same level with the same flags again costs no visit and no write.
+fn refresh_again<L: Ledger, W: Ledger>(
     bench: &mut Bench,
     level: &SharedLevel,
-    steps: &mut Steps<L>,
+    counts: &mut Counts<L, W>,
 ) -> Result<(), Memory>
     requires switches { length level.now.switches ≡ 5 }
     requires kept { kept_for bench.old level.now.id ≡ Some (content level.now CLOSED RETAINED) }
     ensures kept { OnOk result (kept_for bench.new level.now.id
         ≡ Some (content level.now CLOSED RETAINED)) }
-    ensures cost { steps.new ≡ steps.old }
+    ensures visits { counts.new.visits ≡ counts.old.visits }
+    ensures writes { counts.new.writes ≡ counts.old.writes }
 {
-    bench.refresh(level, &CLOSED, &RETAINED, steps)
+    bench.refresh(level, &CLOSED, &RETAINED, counts)
 }
 
 /// The coupler opens: under either rule all nodes are touched at most.
-fn open_coupler<L: Ledger>(
+fn open_coupler<L: Ledger, W: Ledger>(
     bench: &mut Bench,
     level: &SharedLevel,
-    steps: &mut Steps<L>,
+    counts: &mut Counts<L, W>,
 ) -> Result<(), Memory>
     requires switches { length level.now.switches ≡ 5 }
     requires nodes { length (nodes level.now) ≡ 6 }
     requires kept { kept_for bench.old level.now.id ≡ Some (content level.now CLOSED RETAINED) }
-    ensures { steps.new ≤ steps.old + 12 }
+    ensures visits { counts.new.visits ≤ counts.old.visits + 12 }
+    ensures writes { counts.new.writes ≤ counts.old.writes + 12 }
 {
-    bench.refresh(level, &PARTED, &RETAINED, steps)
+    bench.refresh(level, &PARTED, &RETAINED, counts)
 }
 
 /// A bench that kept the level with its coupler closed, twice, and then open.
-fn follow_coupler<L: Ledger>(
+fn follow_coupler<L: Ledger, W: Ledger>(
     rt: &impl Abort,
     alloc: Global,
     level: SharedLevel,
-    blank: Blank,
+    visits: Blank,
+    writes: Blank,
 ) -> Result<Bench, Fail>
-    requires name { blank.name ≡ L.name }
-    requires parts { blank.parts ≡ L.parts }
-    requires some { 0 < blank.parts }
+    requires visits_name { visits.name ≡ L.name }
+    requires visits_parts { visits.parts ≡ L.parts }
+    requires visits_some { 0 < visits.parts }
+    requires writes_name { writes.name ≡ W.name }
+    requires writes_parts { writes.parts ≡ W.parts }
+    requires writes_some { 0 < writes.parts }
 {
-    let mut steps: Steps<L> = Steps::begin(blank);
+    let mut counts: Counts<L, W> = Counts::begin(visits, writes);
     assert_eq!(rt; level.level().switch_count(), 5);
     assert_eq!(rt; level.level().node_count(), 6);
-    let mut bench = closed_bench(alloc, &level, &mut steps)?;
-    refresh_again(&mut bench, &level, &mut steps)?;
-    open_coupler(&mut bench, &level, &mut steps)?;
+    let mut bench = closed_bench(alloc, &level, &mut counts)?;
+    refresh_again(&mut bench, &level, &mut counts)?;
+    open_coupler(&mut bench, &level, &mut counts)?;
     Ok(bench)
 }
 
@@ -101,7 +107,7 @@ fn labels_follow_the_coupler(rt: HostRuntime) -> Result<(), Fail> {
     let Some(level) = first_level(alloc, &job.network)? else {
         return Ok(assert!(rt; false));
     };
-    let bench = follow_coupler::<Brand>(&rt, alloc, level, Blank::new(1))?;
+    let bench = follow_coupler::<Brand, Brand>(&rt, alloc, level, Blank::new(1), Blank::new(1))?;
     let id = Id::new(alloc, "VL")?;
     Ok(assert!(rt; bench.keeps(&id)))
 }

@@ -7,7 +7,7 @@ use grid_bench::{Answer, Base, Bench, Task};
 use grid_board::{Board, CommitFault};
 use grid_core::{Reply, Request, Script};
 use grid_ids::Duplicate;
-use grid_queue::Steps;
+use grid_queue::Counts;
 use grid_structure::Structure;
 use std::alloc::Global;
 use std::marker::Brand;
@@ -15,16 +15,25 @@ use std::process::Abort;
 use std::sync::ledger::{Blank, Ledger};
 use std::test::Fail;
 
-/// What a bench that keeps nothing answers, with a counter of its own.
-fn answered<L: Ledger>(alloc: Global, base: Base, task: Task, blank: Blank) -> Result<Answer, Fail>
-    requires name { blank.name ≡ L.name }
-    requires parts { blank.parts ≡ L.parts }
-    requires some { 0 < blank.parts }
+/// What a bench that keeps nothing answers, with counters of its own.
+fn answered<L: Ledger, W: Ledger>(
+    alloc: Global,
+    base: Base,
+    task: Task,
+    visits: Blank,
+    writes: Blank,
+) -> Result<Answer, Fail>
+    requires visits_name { visits.name ≡ L.name }
+    requires visits_parts { visits.parts ≡ L.parts }
+    requires visits_some { 0 < visits.parts }
+    requires writes_name { writes.name ≡ W.name }
+    requires writes_parts { writes.parts ≡ W.parts }
+    requires writes_some { 0 < writes.parts }
     requires task { IsTaskOf base task }
 {
     let mut bench = Bench::empty(alloc);
-    let mut steps: Steps<L> = Steps::begin(blank);
-    Ok(bench.answer(base, task, &mut steps)?)
+    let mut counts: Counts<L, W> = Counts::begin(visits, writes);
+    Ok(bench.answer(base, task, &mut counts)?)
 }
 
 /// A board of two workers.
@@ -44,7 +53,12 @@ impl Desk {
     /// The answer to worker 1's request on the present base, where the request has a task.
     fn ask(&mut self, alloc: Global, request: &Request) -> Result<Option<Answer>, Fail> {
         match self.board.snapshot(1, request)? {
-            Some((base, task)) => Ok(Some(answered::<Brand>(alloc, base, task, Blank::new(1))?)),
+            Some((base, task)) => {
+                let (visits, writes) = (Blank::new(1), Blank::new(1));
+                Ok(Some(answered::<Brand, Brand>(
+                    alloc, base, task, visits, writes,
+                )?))
+            }
             None => Ok(None),
         }
     }

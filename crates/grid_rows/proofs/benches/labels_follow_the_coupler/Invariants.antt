@@ -1,4 +1,8 @@
 use Rattle.grid_rows.proofs.benches.labels_follow_the_coupler.Given as goal
 
-abbrev pub ghosts-follow_coupler : goal.ghosts-follow_coupler
-ghosts-follow_coupler g a = record { name = a.blank.name; parts = a.blank.parts }
+-- the names of the counters
+abbrev pub ghosts-follow_coupler-L-Ledger : goal.ghosts-follow_coupler-L-Ledger
+ghosts-follow_coupler-L-Ledger g a = record { name = a.visits.name; parts = a.visits.parts }
+
+abbrev pub ghosts-follow_coupler-W-Ledger : goal.ghosts-follow_coupler-W-Ledger
+ghosts-follow_coupler-W-Ledger g a = record { name = a.writes.name; parts = a.writes.parts }

@@ -3,10 +3,18 @@ use Rattle.grid_bench.specs.Contents.{content}
 use Rattle.grid_bench.proofs.Trying.{fourth_costs}
 use Rattle.grid_rows.proofs.benches.open_coupler.Goals as goal
 
-pub returns : goal.returns
-returns g c =
+pub returns-clause-visits : goal.returns-clause-visits
+returns-clause-visits g c =
     let level = c.args.level.now in
     let closed : List Bool = false ∷ true ∷ false ∷ false ∷ false ∷ [] in
     let retained : List Bool = false ∷ false ∷ false ∷ true ∷ false ∷ [] in
-    let cost = c.refresh.ensures.cost.changed (content level closed retained) c.requires.kept refl in
+    let cost = c.refresh.ensures.visits.changed (content level closed retained) c.requires.kept refl in
+    omega (arith, cost, fourth_costs level retained false true false false false true c.requires.switches, c.requires.nodes)
+
+pub returns-clause-writes : goal.returns-clause-writes
+returns-clause-writes g c =
+    let level = c.args.level.now in
+    let closed : List Bool = false ∷ true ∷ false ∷ false ∷ false ∷ [] in
+    let retained : List Bool = false ∷ false ∷ false ∷ true ∷ false ∷ [] in
+    let cost = c.refresh.ensures.writes.changed (content level closed retained) c.requires.kept refl in
     omega (arith, cost, fourth_costs level retained false true false false false true c.requires.switches, c.requires.nodes)
