@@ -8,13 +8,13 @@ use Rattle.std.proofs.lemmas.List.Elements.{filter-append, All-head, All-tail, A
 use Rattle.std.proofs.lemmas.List.Sums.{sum_by-append, sum_by-cons}
 use Rattle.grid_graph.specs.Joined.{joined, is_least, least_nodes, group_of}
 use Rattle.grid_graph.specs.Components.{places}
-use Rattle.grid_graph.proofs.Reach.{In, joined_refl}
+use Rattle.grid_graph.proofs.Reach.{In, joined_refl, some_member}
 use Rattle.grid_graph.proofs.Places.{places_In, range_In}
 use Rattle.grid_graph.proofs.Filtered.{filters_same}
 use Rattle.grid_level.specs.declared.Placed.{Placed}
 use Rattle.grid_level.specs.Passing.{bus, passing, is_busbar, is_branch_end}
 use Rattle.grid_groups.specs.Groups.{leaders}
-use Rattle.grid_groups.proofs.Lists.{some_member, filter_In}
+use Rattle.grid_groups.proofs.Lists.{filter_In}
 use Rattle.grid_busview.specs.Views.{is_feeder, is_valid, is_bus}
 use Rattle.grid_configured.specs.Places.{Outlet, PlacedLevel, PlacesFit, closed_pairs, joined_places, first_places}
 use Rattle.grid_configured.specs.Translation.{bus_section, outlet_placed, outlets_at, translated_level}

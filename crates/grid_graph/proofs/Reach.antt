@@ -1,5 +1,5 @@
 -- Nodes joined by pairs: joined is an equivalence, and as many steps as there are nodes reach whatever can be reached.
-use Rattle.std.proofs.Common.{◌≡◌, refl, sym, ap, ◌∙◌, subst, ℕ, zero, suc, ◌+◌, ◌-◌, ◌≤◌, Bool, true, false, cond, List, [], ◌∷◌, ◌++◌, length, inl, inr, arith, ◌⊎◌}
+use Rattle.std.proofs.Common.{◌≡◌, refl, sym, ap, ◌∙◌, subst, ℕ, zero, suc, ◌+◌, ◌-◌, ◌<◌, ◌≤◌, Bool, true, false, cond, List, [], ◌∷◌, ◌++◌, length, inl, inr, arith, ◌⊎◌}
 use Rattle.std.specs.List.{list_any, flat_map, IsDistinct, AllByRecursion}
 use Rattle.std.specs.Cmp.{IsEquivalence}
 use Rattle.std.specs.Prelude.{eqb}
@@ -247,3 +247,7 @@ joined_symm nodes pairs h a b i w =
     let p = Walk_within pairs (length nodes) a b w in
     let r = back pairs a b p.0 p.1 in
     within_saturates nodes pairs h _ b a i (within_Walk pairs b a r.0 r.1)
+
+pub some_member : (x : ℕ) (xs : List ℕ) → In x xs → 0 < length xs
+some_member x [] i = absurd (false≢true i)
+some_member x (y ∷ ys) i = omega arith

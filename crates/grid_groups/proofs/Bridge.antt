@@ -8,7 +8,7 @@ use Rattle.grid_lemmas.proofs.Bools.{same_test}
 use Rattle.grid_graph.specs.Joined.{within, joined, is_least, least_nodes, group_of}
 use Rattle.grid_graph.specs.Components.{places}
 use Rattle.grid_graph.specs.Graph.{EndsBelow, joined_in, least_joined, labels_of}
-use Rattle.grid_graph.proofs.Reach.{In, any_from, any_of}
+use Rattle.grid_graph.proofs.Reach.{In, any_from, any_of, some_member}
 use Rattle.grid_graph.proofs.Renamed.{EndsIn, within_renamed, renamed}
 use Rattle.grid_graph.proofs.Places.{AreBelow, In_places}
 use Rattle.grid_graph.proofs.Below.{pairs_below}
@@ -16,7 +16,7 @@ use Rattle.grid_graph.proofs.Counts.{at_place, long_places}
 use Rattle.grid_graph.proofs.Least.{least_is_least, least_below, least_le, least_same, joined_from_least, n_refl, In_filter}
 use Rattle.grid_level.specs.Passing.{is_rising}
 use Rattle.grid_groups.specs.Labels.{index_in, pair_by_index, graph_among, places_with, items_at, leading, label_of}
-use Rattle.grid_groups.proofs.Lists.{items_passing, first_item, In_filtered, some_member, get_or_any, passed_all, passed_below, In_get}
+use Rattle.grid_groups.proofs.Lists.{items_passing, first_item, In_filtered, get_or_any, passed_all, passed_below, In_get}
 use Rattle.grid_groups.proofs.Indices.{rises, index_below, at_index, index_apart, index_at}
 
 pub ends_below : (ns : List ℕ) (pairs : List (ℕ × ℕ)) → EndsIn ns pairs → EndsBelow (map (pair_by_index ns) pairs) (length ns)

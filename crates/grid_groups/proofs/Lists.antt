@@ -46,10 +46,6 @@ filter_passes p x (y ∷ ys) i = passes_by p x y ys (p y) refl (filter_passes p 
 pub In_filtered : (p : ℕ → Bool) (x : ℕ) (xs : List ℕ) → In x xs → list_any (eqb x) (filter p xs) ≡ p x
 In_filtered p x xs i = same_test (list_any (eqb x) (filter p xs)) (p x) (filter_passes p x xs) (In_filter p x xs i)
 
-pub some_member : (x : ℕ) (xs : List ℕ) → In x xs → 0 < length xs
-some_member x [] i = absurd (false≢true i)
-some_member x (y ∷ ys) i = omega arith
-
 filter_In_by : (p : ℕ → Bool) (x y : ℕ) (ys : List ℕ) (t : Bool) → (In x (filter p ys) → In x ys) → In x (cond t (y ∷ filter p ys) (filter p ys)) → In x (y ∷ ys)
 filter_In_by p x y ys true rest i = elim (or_cases (eqb x y) (list_any (eqb x) (filter p ys)) i) [
   | inl h ↦ or_left (eqb x y) (list_any (eqb x) ys) h
