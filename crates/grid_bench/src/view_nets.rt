@@ -17,12 +17,22 @@ use std::sync::ledger::Ledger;
 
 /// A level's nets under the rules of the bus view and of the bus/breaker view, with the labels of their nodes. Where no
 /// closed switch is retained they are the same, and one serves both. It is seen as the two nets.
-#[derive(Drop)]
 pub(crate) struct ViewNets {
     alloc: Global,
     bus: Labelled,
     // None where it is the same as that of the bus view.
     breaker: Option<Labelled>,
+}
+
+// Written out, so that where one is dropped a proof sees one call.
+impl Drop for ViewNets {
+    fn drop(self) {
+        let ViewNets {
+            alloc: _,
+            bus: _,
+            breaker: _,
+        } = self;
+    }
 }
 
 impl Model for ViewNets {

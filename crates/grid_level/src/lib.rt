@@ -108,7 +108,6 @@ impl From<Memory> for LevelFault {
 
 /// A voltage level, seen as its record of lists: id, voltages in V, switches and internal connections in order
 /// of creation, and terminals by rising node.
-#[derive(Drop)]
 pub struct Level {
     id: Id,
     nominal_v: i64,
@@ -120,6 +119,23 @@ pub struct Level {
     internals: Vec<Internal>,
     placed: Vec<Placed>,
     uses: Uses,
+}
+
+// Written out, so that where one is dropped a proof sees one call.
+impl Drop for Level {
+    fn drop(self) {
+        let Level {
+            id: _,
+            nominal_v: _,
+            low_v: _,
+            high_v: _,
+            switches: _,
+            ends: _,
+            internals: _,
+            placed: _,
+            uses: _,
+        } = self;
+    }
 }
 
 impl Model for Level {
