@@ -93,12 +93,12 @@ impl Desk {
 
     /// The steps of a case up to worker 1's commit: whether its answer is out of date then.
     fn is_late(&mut self, rt: &impl Abort, alloc: Global, parts: &Parts<'_>) -> Result<bool, Fail> {
-        let ([answered, ..], [.., asked]) = (parts.asked.slice(), parts.asked.slice()) else {
+        let ([earlier, ..], [.., asked]) = (parts.asked.slice(), parts.asked.slice()) else {
             panic!(rt; "a request");
         };
         self.put_all(rt, 0, parts.before_by_0)?;
         self.put_all(rt, 1, parts.before_by_1)?;
-        let Some(answer) = self.ask(alloc, answered)? else {
+        let Some(answer) = self.ask(alloc, earlier)? else {
             panic!(rt; "a request that has a task");
         };
         self.put_all(rt, 0, parts.between)?;
