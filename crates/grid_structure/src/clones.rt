@@ -1,18 +1,9 @@
-// Clones of branches and edits. What has several parts that take memory is cloned by calls of their own: a derived clone of
-// so many kinds took as long to prove as half of this crate.
+// Clones of branches, part by part: a derived clone, whose every part may give up, takes long to prove.
 ghost use Rattle.std.specs.Prelude.{◌≡◌, IfOk};
 
-use crate::{Branch, Edit, End};
+use crate::{Branch, End};
 use grid_ids::Id;
 use std::alloc::AllocError;
-
-/// Equal ids.
-fn clone_ids(first: &Id, second: &Id) -> Result<(Id, Id), AllocError>
-    ensures { IfOk result (λ ids. (ids.0 ≡ first.now) × (ids.1 ≡ second.now)) }
-{
-    let first = first.clone()?;
-    Ok((first, second.clone()?))
-}
 
 /// Equal ends.
 fn clone_ends(end1: &End, end2: &End) -> Result<(End, End), AllocError>
@@ -77,103 +68,6 @@ impl Clone for Branch {
                     rated_u3: *rated_u3,
                 })
             }
-        }
-    }
-}
-
-impl Clone for Edit {
-    ghost is_clone = { λ x y. y ≡ x };
-
-    fn clone(&self) -> Result<Edit, AllocError> {
-        match self {
-            Edit::AddSubstation { id } => Ok(Edit::AddSubstation { id: id.clone()? }),
-            Edit::AddLevel {
-                id,
-                substation,
-                nominal_v,
-                low_v,
-                high_v,
-            } => {
-                let (id, substation) = clone_ids(id, substation)?;
-                Ok(Edit::AddLevel {
-                    id,
-                    substation,
-                    nominal_v: *nominal_v,
-                    low_v: *low_v,
-                    high_v: *high_v,
-                })
-            }
-            Edit::AddBusbar { id, level, node } => {
-                let (id, level) = clone_ids(id, level)?;
-                Ok(Edit::AddBusbar {
-                    id,
-                    level,
-                    node: *node,
-                })
-            }
-            Edit::AddSwitch {
-                id,
-                level,
-                kind,
-                node1,
-                node2,
-                opened,
-                retained,
-                fictitious,
-            } => {
-                let (id, level) = clone_ids(id, level)?;
-                Ok(Edit::AddSwitch {
-                    id,
-                    level,
-                    kind: *kind,
-                    node1: *node1,
-                    node2: *node2,
-                    opened: *opened,
-                    retained: *retained,
-                    fictitious: *fictitious,
-                })
-            }
-            Edit::RemoveSwitch { id } => Ok(Edit::RemoveSwitch { id: id.clone()? }),
-            Edit::AddInternal {
-                level,
-                node1,
-                node2,
-            } => Ok(Edit::AddInternal {
-                level: level.clone()?,
-                node1: *node1,
-                node2: *node2,
-            }),
-            Edit::RemoveInternal {
-                level,
-                node1,
-                node2,
-            } => Ok(Edit::RemoveInternal {
-                level: level.clone()?,
-                node1: *node1,
-                node2: *node2,
-            }),
-            Edit::AddInjection {
-                id,
-                level,
-                node,
-                item,
-            } => {
-                let (id, level) = clone_ids(id, level)?;
-                Ok(Edit::AddInjection {
-                    id,
-                    level,
-                    node: *node,
-                    item: *item,
-                })
-            }
-            Edit::AddBranch { id, shape } => {
-                let shape = shape.clone()?;
-                Ok(Edit::AddBranch {
-                    id: id.clone()?,
-                    shape,
-                })
-            }
-            Edit::RemoveEquipment { id } => Ok(Edit::RemoveEquipment { id: id.clone()? }),
         }
     }
 }
