@@ -9,28 +9,10 @@ use crate::{Entry, Request};
 use grid_ids::{Duplicate, Id, Memory};
 
 /// What an entry of the journal has before its step.
+#[derive(Drop)]
 pub(crate) struct Begun {
     pub(crate) variant: Id,
     pub(crate) asked: Request,
-}
-
-// Written out, so that where one is dropped a proof sees one call, and not a case for each kind of request.
-impl Drop for Begun {
-    fn drop(self) {
-        let Begun {
-            variant: _,
-            asked: _,
-        } = self;
-    }
-}
-
-impl Begun {
-    pub(crate) fn into_parts(self) -> (Id, Request)
-        ensures { (result.0 ≡ self.variant) × (result.1 ≡ self.asked) }
-    {
-        let Begun { variant, asked } = self;
-        (variant, asked)
-    }
 }
 
 /// The worker's working variant and its request, and room in the journal for an entry.
@@ -58,7 +40,7 @@ pub(crate) fn enter(journal: &mut Vec<Entry>, worker: u32, begun: Begun, entered
     ensures { journal.new.items
         ≡ journal.old.items ++ entry_made worker begun.variant begun.asked entered ∷ [] }
 {
-    let (variant, asked) = begun.into_parts();
+    let Begun { variant, asked } = begun;
     let (reply, events) = entered.into_parts();
     journal.push_reserved(Entry {
         worker,
