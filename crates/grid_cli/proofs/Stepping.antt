@@ -4,7 +4,6 @@ use Rattle.grid_requests.specs.declared.request.Request.{Request}
 use Rattle.grid_structure.specs.Network.{Network}
 use Rattle.grid_core.specs.History.{Command, History, longer}
 use Rattle.grid_report.specs.Histories.{step_at, steps_of, history_of}
-
 -- so many steps of the order, the newest first
 use Rattle.grid_report.proofs.Stepping.{made, made_more}
 

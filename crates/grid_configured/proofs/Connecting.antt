@@ -80,7 +80,6 @@ nothing_visited edges a [] h = refl
 nothing_visited edges a (v ∷ vs) h = absurd (let e : ◌≡◌ {A = List ℕ} (a ∷ []) (a ∷ v ∷ vs) = some_same (a ∷ []) (a ∷ v ∷ vs) h in let f = ap length e in omega (arith, f))
 
 module _ (level : PlacedLevel) (fit : PlacesFit level) (k : ℕ) (lt : k < length level.outlets) where
-
   own_breaker : slice_get (translated_level level).switches (length level.joints + k) ≡ Some (outlet_breaker (length level.buses + k, get_or level.outlets k absent))
   own_breaker = breaker_at level k (length level.joints + k) refl lt
 

@@ -8,7 +8,6 @@ use Rattle.grid_configured.specs.declared.network.ConfiguredNetwork.{ConfiguredN
 use Rattle.grid_configured.specs.declared.reply.ConfiguredReply.{ConfiguredReply}
 use Rattle.grid_configured.specs.Histories.{ConfiguredHistory, longer, reply}
 use Rattle.grid_configured.specs.Reports.{replies_of, history_of}
-
 -- so many steps of the order, the newest first
 use Rattle.grid_report.proofs.Stepping.{made, made_more}
 

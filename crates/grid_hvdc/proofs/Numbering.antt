@@ -34,7 +34,6 @@ abbrev build : ℕ → ℕ → Component
 build x y = record { number = x; size = y }
 
 module _ (count : ℕ) (pairs : List (ℕ × ℕ)) (ends : EndsBelow pairs count) where
-
   size_at : (numbers sizes : List ℕ) (v : ℕ) → numbers ≡ component_numbers count pairs → ((s : ℕ) → s < length numbers → get_or sizes s 0 ≡ count_by (is_key s) numbers)
       → v < count → get_or sizes (component_number count pairs v) 0 ≡ length (component_of count pairs v)
   size_at numbers sizes v e each lt =

@@ -55,9 +55,7 @@ impl Desk {
         match self.board.snapshot(1, request)? {
             Some((base, task)) => {
                 let (visits, writes) = (Blank::new(1), Blank::new(1));
-                Ok(Some(answered::<Brand, Brand>(
-                    alloc, base, task, visits, writes,
-                )?))
+                Ok(Some(answered::<Brand, Brand>(alloc, base, task, visits, writes)?))
             }
             None => Ok(None),
         }
