@@ -7,6 +7,7 @@ use Rattle.std.proofs.lemmas.List.{reverse-append, get_or-replicate, length-repl
 use Rattle.std.proofs.lemmas.List.Sums.{sum_by_more_le, count_by-le-length, count_by_more_yes, count_by_more_no}
 use Rattle.std.proofs.lemmas.Option.{slice_get-get_or, unwrap_or-slice_get}
 use Rattle.grid_requests.specs.declared.request.Request.{Request}
+use Rattle.grid_lemmas.proofs.Ranges.{given_more}
 use Rattle.grid_core.specs.History.{Command, command}
 use Rattle.grid_report.specs.Histories.{next_of, step_at, script_of, IsOrder}
 
