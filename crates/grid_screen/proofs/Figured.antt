@@ -67,7 +67,7 @@ module _ (f : ℕ → ℕ) where
       by true again = again (total +ℤ watts (sums_at b))
       by false again = again total
 
-pub build : ℕ → ℕ → ℕ → ℤ → ℤ → Figures
+unfoldable pub build : ℕ → ℕ → ℕ → ℤ → ℤ → Figures
 build b n m l g = record { buses = b; components = n; main = m; load = l; generation = g }
 
 pub figured : (all : List NetworkBus) (pairs : List (ℕ × ℕ)) → figures_by (map (λ (b : NetworkBus). bus_sums b.1) all) pairs ≡ figures_over all pairs

@@ -23,8 +23,8 @@ use Rattle.grid_structure.proofs.Removing.{dropped, branches-dropped, cleared_br
 
 -- the levels without its terminals, and the branches without it
 pub record Lessened (net new : Network) (id : List ℕ) : Type 0 where
-  pub levels-dropped : levels new ≡ map (level_without_equipment id) (levels net)
-  pub branches-dropped : branches new ≡ without_branch id (branches net)
+  pub levels_left : levels new ≡ map (level_without_equipment id) (levels net)
+  pub branches_left : branches new ≡ without_branch id (branches net)
 
 pub lessened : (net new : Network) (id : List ℕ) → apply net (RemoveEquipment id) ≡ Ok new → Lessened net new id
 unfolding apply
@@ -33,8 +33,8 @@ lessened net new id h =
     let cleared = with_levels (level_without_equipment id) net in
     let is : dropped id cleared ≡ new = cc (t.next) in
     subst (λ (z : Network). Lessened net z id) is (record {
-      levels-dropped = levels-dropped id cleared ∙ levels-with_levels (level_without_equipment id) net;
-      branches-dropped = branches-dropped id cleared ∙ ap (without_branch id) (cleared_branches id net);
+      levels_left = levels-dropped id cleared ∙ levels-with_levels (level_without_equipment id) net;
+      branches_left = branches-dropped id cleared ∙ ap (without_branch id) (cleared_branches id net);
     })
 
 -- ---- no equipment of the id
