@@ -7,7 +7,7 @@ use Rattle.grid_forms.specs.declared.words.Form.{Form}
 use Rattle.grid_forms.specs.declared.words.Form.TheVariants.{Run, Screen}
 use Rattle.grid_cli.specs.declared.threaded.Served.{Served}
 use Rattle.grid_cli.specs.declared.threaded.Served.TheVariants.{ByWorkers, ByScreening, ByOneThread}
-use Rattle.grid_cli.specs.Words.{on_one_thread}
+use Rattle.grid_cli.specs.Forms.{on_one_thread}
 
 -- it is what comes of the job in some order of its steps
 abbrev pub IsOutcomeOf : Job → Outcome → Type 0
