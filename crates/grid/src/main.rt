@@ -9,7 +9,7 @@ use grid_source::{KeepingSource, StdSink, StdSource};
 use std::process::ExitCode;
 use std::{env, io};
 
-/// The words behind the program's name. A word that is no text is no form.
+/// The words behind the program's name; Usage where one is no UTF-8, so that they are no form.
 fn words_of(rt: &HostRuntime) -> Result<Vec<String>, Status> {
     let all = match env::args(rt) {
         Ok(all) => all,
@@ -36,8 +36,8 @@ fn tell(rt: &HostRuntime, fault: &Fault) {
     }
 }
 
-/// Tells what a status of these words and this input has to tell, and gives its number.
-fn exit_with(rt: &HostRuntime, words: &[String], status: Status, input: &[u8]) -> ExitCode {
+/// Tells what a status of these words, if they are texts, and of this input has to tell, and gives its number.
+fn exit_with(rt: &HostRuntime, words: Option<&[String]>, status: Status, input: &[u8]) -> ExitCode {
     let (code, fault) = ending(rt.alloc(), words, status, input);
     if let Some(fault) = fault {
         tell(rt, &fault);
@@ -48,7 +48,7 @@ fn exit_with(rt: &HostRuntime, words: &[String], status: Status, input: &[u8]) -
 fn main(rt: HostRuntime) -> ExitCode {
     let words = match words_of(&rt) {
         Ok(words) => words,
-        Err(status) => return exit_with(&rt, &[], status, &[]),
+        Err(status) => return exit_with(&rt, None, status, &[]),
     };
     let mut source = KeepingSource::new(rt.alloc(), StdSource::new(rt.reader()));
     let mut sink = StdSink::new(io::writer(&rt));
@@ -61,5 +61,5 @@ fn main(rt: HostRuntime) -> ExitCode {
         &Idle,
     );
     let input = source.kept().unwrap_or(&[]);
-    exit_with(&rt, words.as_slice(), status, input)
+    exit_with(&rt, Some(words.as_slice()), status, input)
 }

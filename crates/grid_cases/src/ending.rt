@@ -40,7 +40,7 @@ pub(crate) fn told(
     status: Status,
     job: &[u8],
 ) -> io::Result<(u8, String)> {
-    let (number, fault) = ending(alloc, words, status, job);
+    let (number, fault) = ending(alloc, Some(words), status, job);
     match fault {
         Some(fault) => Ok((number, format!(in alloc; "{fault}")?)),
         None => Ok((number, String::new(alloc))),

@@ -93,7 +93,7 @@ fn bad_job(alloc: Global, form: Option<Form>, place: Place, reason: Reason, inpu
 }
 
 /// What is told of a status on standard error; nothing exactly where the output was written whole.
-fn fault_of(alloc: Global, words: &[String], status: Status, input: &[u8]) -> Option<Fault>
+fn fault_of(alloc: Global, words: Option<&[String]>, status: Status, input: &[u8]) -> Option<Fault>
     ensures { IsNone result ↔ (status ≡ Status.Done) }
 {
     match status {
@@ -107,7 +107,8 @@ fn fault_of(alloc: Global, words: &[String], status: Status, input: &[u8]) -> Op
             why: not_json(alloc, input),
         }),
         Status::BadJob { place, reason } => {
-            Some(bad_job(alloc, read_words(words), place, reason, input))
+            let form = read_words(words.unwrap_or(&[]));
+            Some(bad_job(alloc, form, place, reason, input))
         }
         Status::WriteFault => Some(Fault::WriteFault),
         Status::NoMemory => Some(Fault::NoMemory),
@@ -115,8 +116,14 @@ fn fault_of(alloc: Global, words: &[String], status: Status, input: &[u8]) -> Op
 }
 
 /// The exit status, and what is told of it on standard error. Words and input are those of the call; they are looked at again
-/// for what the line names, and an empty input makes it tell less. The numbers and the texts are this project's own.
-pub fn ending(alloc: Global, words: &[String], status: Status, input: &[u8]) -> (u8, Option<Fault>)
+/// for what the line names, and an empty input makes it tell less. The words are None where one of them is no UTF-8. The
+/// numbers and the texts are this project's own.
+pub fn ending(
+    alloc: Global,
+    words: Option<&[String]>,
+    status: Status,
+    input: &[u8],
+) -> (u8, Option<Fault>)
     ensures number { result.0 ≡ exit_number status }
     ensures told { IsNone result.1 ↔ (status ≡ Status.Done) }
 {

@@ -10,6 +10,8 @@ use thiserror::Error;
 pub enum WrongWords {
     #[error("no form was named")]
     None,
+    #[error("a word is no UTF-8")]
+    NoText,
     #[error("`{word}` is no form")]
     NoForm { word: String },
     #[error("`{form}` takes no further words, and `{word}` is one")]
@@ -76,8 +78,11 @@ fn wrong(alloc: Global, words: &[String]) -> Result<WrongWords, AllocError> {
     }
 }
 
-/// Which of the words, which are no form, is wrong.
-pub(crate) fn wrong_words(alloc: Global, words: &[String]) -> WrongWords {
+/// Which of the words, which are no form, is wrong. None stands for words of which one is no UTF-8.
+pub(crate) fn wrong_words(alloc: Global, words: Option<&[String]>) -> WrongWords {
+    let Some(words) = words else {
+        return WrongWords::NoText;
+    };
     match wrong(alloc, words) {
         Ok(wrong) => wrong,
         Err(_) => WrongWords::Unknown,
