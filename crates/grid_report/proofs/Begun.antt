@@ -51,3 +51,23 @@ module _ {X : Type 0} (f : X → List ℕ) where
 pub at_start : (old : Option (List ℕ)) (bytes : List ℕ) → IsBegun old bytes old
 at_start None bytes = tt
 at_start (Some written) bytes = (bytes, refl)
+
+-- ---- text that comes block by block
+
+-- what is still to come begins with a line
+pub next_line : (bytes text rest line more : List ℕ) → bytes ≡ text ++ rest → rest ≡ line ++ more → bytes ≡ text ++ (line ++ more)
+next_line bytes text rest line more e n = e ∙ ap (λ l. text ++ l) n
+
+-- the line is a part of what was written or waits
+pub line_on : (bytes text rest line more : List ℕ) → bytes ≡ text ++ rest → rest ≡ line ++ more → bytes ≡ (text ++ line) ++ more
+line_on bytes text rest line more e n = next_line bytes text rest line more e n ∙ sym (append_assoc text line more)
+
+pub line_more : (w0 h v : Option (List ℕ)) (text line : List ℕ) → Appends w0 h text → Appends h v line → Appends w0 v (text ++ line)
+line_more None h v text line p q = tt
+line_more (Some x) None v text line p q = absurd p
+line_more (Some x) (Some y) None text line p q = absurd q
+line_more (Some x) (Some y) (Some z) text line p q = q ∙ ap (λ l. l ++ line) p ∙ append_assoc x text line
+
+-- nothing is still to come
+pub nothing_left : (bytes text rest : List ℕ) → bytes ≡ text ++ rest → rest ≡ [] → text ≡ bytes
+nothing_left bytes text rest e none = sym (e ∙ ap (λ l. text ++ l) none ∙ append-nil text)

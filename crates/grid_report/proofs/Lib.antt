@@ -1,4 +1,5 @@
 pub mod Begun
+pub mod Coming
 pub mod Listening
 pub mod Ordered
 pub mod Parted

@@ -25,3 +25,7 @@ texts_joined f parts whole texts cut made = ap (flat_map (λ t. t)) made ∙ fla
 pub where_ok : {T E : Type 0} (P Q : T → Type 0) (R : E → Type 0) (r : Result T E) → ((t : T) → P t → Q t) → MatchResult r P R → IfOk r Q
 where_ok P Q R (Ok t) f h = f t h
 where_ok P Q R (Err e) f h = tt
+
+-- the texts of a portion are a front of what was still to come
+pub portion_next : (report first rest blocks after line : List ℕ) → report ≡ first ++ rest → first ++ rest ≡ blocks ++ after → line ≡ blocks → report ≡ line ++ after
+portion_next report first rest blocks after line p q e = p ∙ q ∙ ap (λ l. l ++ after) (sym e)

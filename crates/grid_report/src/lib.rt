@@ -3,6 +3,7 @@
 
 mod bus;
 mod command;
+mod cursors;
 mod event;
 pub mod laws;
 mod outcome;
@@ -21,5 +22,5 @@ pub use parallel::write_report_on_threads;
 pub use pieces::{Pieces, ReportFault};
 pub use plan::{put_order, put_variant, put_worker};
 pub use refusal::put_refusal;
-pub use report::{write_blocks, write_report};
+pub use report::{Blocks, write_blocks, write_report, write_text};
 pub use text::{Shown, Text, put_named, put_spaced};

@@ -1,16 +1,16 @@
 // A report whose text several threads make.
-ghost use Rattle.std.specs.Prelude.{◌≡◌, ◌≢◌, ◌≤◌, IfOk, OnOk, OnErr, Err};
+ghost use Rattle.std.specs.Prelude.{◌≡◌, ◌≢◌, ◌≤◌, ◌<◌, ◌++◌, length, IfOk, OnOk, OnErr, Err};
 ghost use Rattle.std.specs.List.{flat_map};
-ghost use Rattle.std.specs.Io.KnownBytes.{Appends};
+ghost use Rattle.std.specs.Io.KnownBytes.{Appends, append_known};
 ghost use Rattle.grid_source.specs.Causes.{Rose};
 ghost use Rattle.grid_source.specs.Whole.{IsBegun};
 ghost use Rattle.grid_report.specs.Blocks.{block_text};
 ghost use Rattle.grid_report.specs.Outcomes.{report_of};
 
+use crate::cursors::Report;
 use crate::outcome::Outcome;
-use crate::pieces::ReportFault;
-use crate::plan::{Block, plan};
-use crate::report::write_blocks;
+use crate::pieces::{Pieces, ReportFault};
+use crate::plan::Block;
 use crate::text::{Shown, Text};
 use grid_ids::Memory;
 use grid_source::Sink;
@@ -18,8 +18,11 @@ use rayon::prelude::*;
 use std::alloc::Global;
 use std::thread::Threads;
 
-/// How many blocks a thread makes into one text.
-const AT_ONCE: usize = 64;
+/// How many parts of a portion are made into a text each.
+const PARTS: usize = 8;
+
+/// How much a portion of blocks weighs at most, before its last one.
+const PORTION: usize = 131072;
 
 // The text of some blocks.
 fn text_of(alloc: Global, blocks: &[Block<'_>]) -> Result<Text, Memory>
@@ -41,8 +44,9 @@ fn texts_of<R: Threads + Sync>(
     ensures { IfOk result (λ texts. flat_map (λ t. t) texts.items
         ≡ flat_map block_text blocks.now) }
 {
+    let at_once = blocks.len() / PARTS + 1;
     let texts: Result<Vec<Text>, Memory> = blocks
-        .par_chunks(AT_ONCE)
+        .par_chunks(at_once)
         .with_min_len(1)
         .map(
             |chunk: &[Block<'_>]| -> Result<Text, Memory>
@@ -53,10 +57,49 @@ fn texts_of<R: Threads + Sync>(
     texts
 }
 
-/// Writes the report of an outcome as `write_report` does, where several threads make its text, which is in memory as a
-/// whole before any of it is written. No lock is taken, and the call always returns where the sink does. It stops only where
-/// the sink's count of faults rose, which is as before after every other answer; after that, or want of memory, a front of
-/// the text was written.
+// A block, and those that come next, until they weigh as much as a portion.
+fn portion_of<'a>(
+    alloc: Global,
+    first: Block<'a>,
+    report: &mut Report<'a>,
+) -> Result<Vec<Block<'a>>, Memory>
+    ensures text { IfOk result (λ blocks. block_text first.entry ++ report.old
+        ≡ flat_map block_text blocks.items ++ report.new) }
+    ensures left { length report.new ≤ length report.old }
+{
+    let mut weight = first.weight();
+    let mut blocks = Vec::new(alloc);
+    blocks.push(first)?;
+    while weight < PORTION {
+        let Some(block) = report.next_block() else {
+            break;
+        };
+        weight = weight.saturating_add(block.weight());
+        blocks.push(block)?;
+    }
+    Ok(blocks)
+}
+
+// Hands texts to the sink, behind the bytes that wait.
+fn put_texts<K: Sink>(pieces: &mut Pieces, sink: &mut K, texts: &[Text]) -> Result<(), ReportFault>
+    ensures ok { OnOk result (Appends (append_known (K.written sink.old) pieces.old)
+        (append_known (K.written sink.new) pieces.new) (flat_map (λ t. t) texts.now)) }
+    ensures err { OnErr result (IsBegun (append_known (K.written sink.old) pieces.old)
+        (flat_map (λ t. t) texts.now) (K.written sink.new)) }
+    ensures later { K.faults sink.old ≤ K.faults sink.new }
+    ensures cause { result ≡ Err ReportFault.Stopped
+        → Rose (K.faults sink.old) (K.faults sink.new) }
+    ensures stays { result ≢ Err ReportFault.Stopped → K.faults sink.new ≡ K.faults sink.old }
+{
+    for text in texts {
+        pieces.put(sink, text.as_bytes())?;
+    }
+    Ok(())
+}
+
+/// Writes the report of an outcome as `write_report` does, where several threads make its text, a portion of which is in memory
+/// at a time. No lock is taken, and the call always returns where the sink does. It stops only where the sink's count of faults
+/// rose, which is as before after every other answer; after that, or want of memory, a front of the text was written.
 pub fn write_report_on_threads<R: Threads + Sync, K: Sink>(
     rt: &R,
     alloc: Global,
@@ -72,21 +115,12 @@ pub fn write_report_on_threads<R: Threads + Sync, K: Sink>(
         → Rose (K.faults sink.old) (K.faults sink.new) }
     ensures stays { result ≢ Err ReportFault.Stopped → K.faults sink.new ≡ K.faults sink.old }
 {
-    let texts = match report_texts(rt, alloc, outcome) {
-        Ok(texts) => texts,
-        Err(Memory) => return Err(ReportFault::Memory),
-    };
-    write_blocks(alloc, texts.as_slice(), sink)
-}
-
-// The text of a report, in several texts.
-fn report_texts<R: Threads + Sync>(
-    rt: &R,
-    alloc: Global,
-    outcome: &Outcome,
-) -> Result<Vec<Text>, Memory>
-    ensures { IfOk result (λ texts. flat_map (λ t. t) texts.items ≡ report_of outcome.now) }
-{
-    let blocks = plan(alloc, outcome)?;
-    texts_of(rt, alloc, blocks.as_slice())
+    let mut report = Report::of(outcome);
+    let mut pieces = Pieces::empty(alloc);
+    while let Some(first) = report.next_block() {
+        let portion = portion_of(alloc, first, &mut report)?;
+        let texts = texts_of(rt, alloc, portion.as_slice())?;
+        put_texts(&mut pieces, sink, texts.as_slice())?;
+    }
+    pieces.finish(sink)
 }

@@ -1,23 +1,17 @@
 // The parts of a report, in order.
-ghost use Rattle.std.specs.Prelude.{◌≡◌, ◌++◌, OnOk, IfOk, filter, codes, decimal, OnErr, []};
-ghost use Rattle.std.specs.List.{flat_map, range_with_len};
-ghost use Rattle.grid_events.specs.Filters.{matches};
-ghost use Rattle.grid_report.specs.Lines.{level_text};
-ghost use Rattle.grid_report.specs.Events.{event_line};
-ghost use Rattle.grid_report.specs.Outcomes.{numbered, order_line, step_text, steps_by, worker_line, worker_text, variant_line, variant_text, heard_in, listener_line, listener_text, report_of};
-ghost use Rattle.grid_report.specs.Blocks.{block_text};
+ghost use Rattle.std.specs.Prelude.{◌≡◌, ◌++◌, OnOk, codes, decimal, OnErr, []};
+ghost use Rattle.std.specs.List.{flat_map};
+ghost use Rattle.grid_report.specs.Outcomes.{order_line, step_text, worker_line, variant_line, listener_line};
 
 use crate::bus::put_level;
 use crate::command::put_command;
 use crate::event::put_event_line;
-use crate::outcome::{Outcome, SharedView, VariantView};
 use crate::reply::{put_answer, put_details};
 use crate::text::{Shown, Text, put_named};
 use grid_busview::BusView;
-use grid_core::Entry;
-use grid_events::{Event, Filter};
+use grid_core::{Entry, Reply};
+use grid_events::Event;
 use grid_ids::{Id, Memory};
-use std::alloc::Global;
 
 /// A part of a report.
 #[derive(Clone, Copy)]
@@ -38,6 +32,30 @@ pub(crate) enum Block<'a> {
     Heard(&'a Event),
     /// The last line.
     End,
+}
+
+/// What the view of a level weighs.
+const VIEW: usize = 256;
+
+impl Block<'_> {
+    /// About how many short lines the block's text is as long as. No contract speaks of it: it decides which blocks are made at
+    /// once.
+    pub(crate) fn weight(&self) -> usize {
+        match self {
+            Block::Step(_, entry) => weight_of(&entry.reply),
+            Block::Level(_) => VIEW,
+            _ => 1,
+        }
+    }
+}
+
+// About how many short lines a step's text is as long as.
+fn weight_of(reply: &Reply) -> usize {
+    match reply {
+        Reply::BusBreaker(_) | Reply::Bus(_) => VIEW,
+        Reply::Components(buses) => buses.len(),
+        _ => 1,
+    }
 }
 
 impl Shown for Block<'_> {
@@ -127,158 +145,4 @@ fn put_listener(out: &mut Text, number: u64) -> Result<(), Memory>
     out.put("listener ")?;
     out.put_unsigned(number)?;
     out.put("\n")
-}
-
-// ---- the plan
-
-fn push_steps<'a>(
-    blocks: &mut Vec<Block<'a>>,
-    journal: &'a [Entry],
-    worker: u32,
-) -> Result<(), Memory>
-    ensures { OnOk result (flat_map block_text blocks.new.items
-        ≡ flat_map block_text blocks.old.items
-        ++ numbered step_text 1 (steps_by worker journal.now)) }
-{
-    let mut number = 0;
-    for entry in journal {
-        if entry.worker == worker {
-            number += 1;
-            blocks.push(Block::Step(number, entry))?;
-        }
-    }
-    Ok(())
-}
-
-#[tactic(auto, unfolding(crate::specs::Outcomes::worker_text))]
-fn push_worker<'a>(
-    blocks: &mut Vec<Block<'a>>,
-    journal: &'a [Entry],
-    worker: u32,
-) -> Result<(), Memory>
-    ensures { OnOk result (flat_map block_text blocks.new.items
-        ≡ flat_map block_text blocks.old.items ++ worker_text journal.now worker) }
-{
-    blocks.push(Block::Worker(worker))?;
-    push_steps(blocks, journal, worker)
-}
-
-fn push_workers<'a>(
-    blocks: &mut Vec<Block<'a>>,
-    journal: &'a [Entry],
-    workers: u32,
-) -> Result<(), Memory>
-    ensures { OnOk result (flat_map block_text blocks.new.items
-        ≡ flat_map block_text blocks.old.items
-        ++ flat_map (worker_text journal.now) (range_with_len 0 workers)) }
-{
-    for worker in 0..workers {
-        push_worker(blocks, journal, worker)?;
-    }
-    Ok(())
-}
-
-fn push_levels<'a>(blocks: &mut Vec<Block<'a>>, views: &'a [SharedView]) -> Result<(), Memory>
-    ensures { OnOk result (flat_map block_text blocks.new.items
-        ≡ flat_map block_text blocks.old.items ++ flat_map level_text views.now) }
-{
-    for view in views {
-        blocks.push(Block::Level(view.view()))?;
-    }
-    Ok(())
-}
-
-#[tactic(auto, unfolding(crate::specs::Outcomes::variant_text))]
-fn push_variant<'a>(blocks: &mut Vec<Block<'a>>, variant: &'a VariantView) -> Result<(), Memory>
-    ensures { OnOk result (flat_map block_text blocks.new.items
-        ≡ flat_map block_text blocks.old.items ++ variant_text variant.now) }
-{
-    blocks.push(Block::Variant(&variant.name))?;
-    push_levels(blocks, variant.views.slice())
-}
-
-fn push_variants<'a>(blocks: &mut Vec<Block<'a>>, variants: &'a [VariantView]) -> Result<(), Memory>
-    ensures { OnOk result (flat_map block_text blocks.new.items
-        ≡ flat_map block_text blocks.old.items ++ flat_map variant_text variants.now) }
-{
-    for variant in variants {
-        push_variant(blocks, variant)?;
-    }
-    Ok(())
-}
-
-fn push_events<'a>(
-    blocks: &mut Vec<Block<'a>>,
-    wanted: &Filter,
-    events: &'a [Event],
-) -> Result<(), Memory>
-    ensures { OnOk result (flat_map block_text blocks.new.items
-        ≡ flat_map block_text blocks.old.items
-        ++ flat_map event_line (filter (matches wanted.now) events.now)) }
-{
-    for event in events {
-        if wanted.matches(event) {
-            blocks.push(Block::Heard(event))?;
-        }
-    }
-    Ok(())
-}
-
-fn push_heard<'a>(
-    blocks: &mut Vec<Block<'a>>,
-    wanted: &Filter,
-    journal: &'a [Entry],
-) -> Result<(), Memory>
-    ensures { OnOk result (flat_map block_text blocks.new.items
-        ≡ flat_map block_text blocks.old.items
-        ++ flat_map event_line (heard_in wanted.now journal.now)) }
-{
-    for entry in journal {
-        push_events(blocks, wanted, entry.events.slice())?;
-    }
-    Ok(())
-}
-
-#[tactic(auto, unfolding(crate::specs::Outcomes::listener_text))]
-fn push_listener<'a>(
-    blocks: &mut Vec<Block<'a>>,
-    journal: &'a [Entry],
-    number: u64,
-    wanted: &Filter,
-) -> Result<(), Memory>
-    ensures { OnOk result (flat_map block_text blocks.new.items
-        ≡ flat_map block_text blocks.old.items ++ listener_text journal.now number wanted.now) }
-{
-    blocks.push(Block::Listener(number))?;
-    push_heard(blocks, wanted, journal)
-}
-
-fn push_listeners<'a>(
-    blocks: &mut Vec<Block<'a>>,
-    journal: &'a [Entry],
-    filters: &[Filter],
-) -> Result<(), Memory>
-    ensures { OnOk result (flat_map block_text blocks.new.items
-        ≡ flat_map block_text blocks.old.items
-        ++ numbered (listener_text journal.now) 0 filters.now) }
-{
-    for (number, wanted) in filters.iter().enumerate() {
-        push_listener(blocks, journal, number as u64, wanted)?;
-    }
-    Ok(())
-}
-
-/// The parts of the report of an outcome, in order.
-#[tactic(auto, unfolding(crate::specs::Outcomes::report_of))]
-pub(crate) fn plan<'a>(alloc: Global, outcome: &'a Outcome) -> Result<Vec<Block<'a>>, Memory>
-    ensures { IfOk result (λ blocks. flat_map block_text blocks.items ≡ report_of outcome.now) }
-{
-    let mut blocks = Vec::new(alloc);
-    let journal = outcome.journal.slice();
-    blocks.push(Block::Order(journal))?;
-    push_workers(&mut blocks, journal, outcome.workers)?;
-    push_variants(&mut blocks, outcome.views.slice())?;
-    push_listeners(&mut blocks, journal, outcome.filters.slice())?;
-    blocks.push(Block::End)?;
-    Ok(blocks)
 }

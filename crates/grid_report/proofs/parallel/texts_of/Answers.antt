@@ -1,5 +1,5 @@
-use Rattle.std.proofs.Common.{◌≡◌, refl, ap, ◌∙◌, subst, arith, ℕ, List, map, Result, Bor}
-use Rattle.std.specs.Prelude.{IfOk}
+use Rattle.std.proofs.Common.{◌≡◌, ◌+◌, ◌/◌, refl, ap, ◌∙◌, subst, arith, ℕ, List, map, length, Result, Bor}
+use Rattle.std.specs.Prelude.{IfOk, max}
 use Rattle.std.specs.List.{AllZip, flat_map}
 use Rattle.rayon.specs.Lists.{chunks_of}
 use Rattle.rayon.proofs.ToStd.{slice-AllZip, chunks_of-concat}
@@ -13,9 +13,10 @@ pub returns : goal.returns
 returns g c =
     let h = c.in_ok-texts.ensures in
     let blocks = c.args.blocks.now in
+    let size_of : ℕ = max (length blocks / 8 + 1) 1 in
     let slice = ap (λ it. it.base.slice.now) c.map.ensures.base ∙ ap (λ it. it.slice.now) c.with_min_len.ensures.base ∙ c.par_chunks.ensures.slice in
     let size = ap (λ it. it.base.size) c.map.ensures.base ∙ ap (λ it. it.size) c.with_min_len.ensures.base ∙ c.par_chunks.ensures.size in
-    let cut : map (λ (z : Bor (List Block)). z.now) h.1.0 ≡ chunks_of 64 blocks = h.1.1 ∙ rw (size, slice) refl in
+    let cut : map (λ (z : Bor (List Block)). z.now) h.1.0 ≡ chunks_of size_of blocks = h.1.1 ∙ rw (size, slice) refl in
     let R : List Block → Result (List ℕ) Memory → Type 0 = λ part r. IfOk r (λ text. text ≡ flat_map block_text part) in
-    let right : AllZip R (chunks_of 64 blocks) h.0 = slice-AllZip h.1.0 (chunks_of 64 blocks) cut R h.0 h.1.2 in
-    where_ok _ _ _ c.in_ok-texts.texts (λ texts made. texts_joined block_text (chunks_of 64 blocks) blocks texts.items (chunks_of-concat 64 blocks (omega arith)) (made.2 ∙ all_right Memory (flat_map block_text) (chunks_of 64 blocks) made.0 (subst (AllZip R (chunks_of 64 blocks)) made.1 right))) h.2
+    let right : AllZip R (chunks_of size_of blocks) h.0 = slice-AllZip h.1.0 (chunks_of size_of blocks) cut R h.0 h.1.2 in
+    where_ok _ _ _ c.in_ok-texts.texts (λ texts made. texts_joined block_text (chunks_of size_of blocks) blocks texts.items (chunks_of-concat size_of blocks (omega arith)) (made.2 ∙ all_right Memory (flat_map block_text) (chunks_of size_of blocks) made.0 (subst (AllZip R (chunks_of size_of blocks)) made.1 right))) h.2

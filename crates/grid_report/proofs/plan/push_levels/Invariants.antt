@@ -1,9 +1,0 @@
-use Rattle.std.proofs.Common.{◌≡◌, ◌++◌, take}
-use Rattle.std.specs.List.{flat_map}
-use Rattle.grid_report.specs.Lines.{level_text}
-use Rattle.grid_report.specs.Blocks.{block_text}
-use Rattle.grid_report.proofs.plan.push_levels.Given as goal
-
--- the views so far
-abbrev pub invariant-loop-view : goal.invariant-loop-view
-invariant-loop-view l = flat_map block_text l.blocks.items ≡ flat_map block_text l.fn.blocks.items ++ flat_map level_text (take l.view-index l.views)

@@ -1,9 +1,0 @@
-use Rattle.std.proofs.Common.{◌≡◌, ◌++◌, take}
-use Rattle.std.specs.List.{flat_map}
-use Rattle.grid_report.specs.Outcomes.{variant_text}
-use Rattle.grid_report.specs.Blocks.{block_text}
-use Rattle.grid_report.proofs.plan.push_variants.Given as goal
-
--- the variants so far
-abbrev pub invariant-loop-variant : goal.invariant-loop-variant
-invariant-loop-variant l = flat_map block_text l.blocks.items ≡ flat_map block_text l.fn.blocks.items ++ flat_map variant_text (take l.variant-index l.variants)

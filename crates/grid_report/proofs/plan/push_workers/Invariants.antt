@@ -1,9 +1,0 @@
-use Rattle.std.proofs.Common.{◌≡◌, ◌++◌}
-use Rattle.std.specs.List.{flat_map, range_with_len}
-use Rattle.grid_report.specs.Outcomes.{worker_text}
-use Rattle.grid_report.specs.Blocks.{block_text}
-use Rattle.grid_report.proofs.plan.push_workers.Given as goal
-
--- the workers so far
-abbrev pub invariant-loop-worker : goal.invariant-loop-worker
-invariant-loop-worker l = flat_map block_text l.blocks.items ≡ flat_map block_text l.fn.blocks.items ++ flat_map (worker_text l.journal) (range_with_len 0 l.worker)
