@@ -1,5 +1,5 @@
-// Where the writing of a report stands. Each cursor is seen as the text that is still to come, and gives it block by block,
-// without memory.
+// Where the writing of a report stands. Each cursor is seen as the text that is still to come, and gives it block by
+// block, without memory.
 ghost use Rattle.std.specs.Prelude.{◌≡◌, [], ◌∷◌, filter, MatchOption};
 ghost use Rattle.std.specs.List.{flat_map, range_with_len};
 ghost use Rattle.grid_events.specs.Filters.{matches};

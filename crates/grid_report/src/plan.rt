@@ -38,8 +38,8 @@ pub(crate) enum Block<'a> {
 const VIEW: usize = 256;
 
 impl Block<'_> {
-    /// About how many short lines the block's text is as long as. No contract speaks of it: it decides which blocks are made at
-    /// once.
+    /// About how many short lines the block's text is as long as. No contract speaks of it: it decides which blocks are
+    /// made at once.
     pub(crate) fn weight(&self) -> usize {
         match self {
             Block::Step(_, entry) => weight_of(&entry.reply),
