@@ -12,8 +12,8 @@ overflow_add-home c = omega (arith, c.head_of_level-home.ensures, head_below c.a
 pub transformers_before-end-requires-clause-within : goal.transformers_before-end-requires-clause-within
 transformers_before-end-requires-clause-within c = omega (arith, c.head_of_level-home.ensures, head_below c.args.heads.now c.args.level c.requires.within)
 
-pub part-requires-clause-order : goal.part-requires-clause-order
-part-requires-clause-order c = omega (arith, c.transformers_before-start.ensures, c.transformers_before-end.ensures, many_rises c.args.heads.now c.head_of_level-home.result)
+pub place_of_number-requires-clause-order : goal.place_of_number-requires-clause-order
+place_of_number-requires-clause-order c = omega (arith, c.transformers_before-start.ensures, c.transformers_before-end.ensures, many_rises c.args.heads.now c.head_of_level-home.result)
 
-pub part-requires-clause-end : goal.part-requires-clause-end
-part-requires-clause-end c = omega (arith, c.transformers_before-end.ensures, c.requires.count, many_part c.args.heads.now (c.head_of_level-home.result + 1))
+pub place_of_number-requires-clause-end : goal.place_of_number-requires-clause-end
+place_of_number-requires-clause-end c = omega (arith, c.transformers_before-end.ensures, c.requires.count, many_part c.args.heads.now (c.head_of_level-home.result + 1))
