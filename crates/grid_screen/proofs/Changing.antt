@@ -9,18 +9,18 @@ use Rattle.grid_ids.specs.Name.{same_id}
 use Rattle.grid_level.specs.declared.Switch.{Switch}
 use Rattle.grid_level.specs.VoltageLevel.{VoltageLevel}
 use Rattle.grid_level.specs.LevelEdits.{level_without_equipment}
-use Rattle.grid_powers.specs.Listed.{Listed}
 use Rattle.grid_states.specs.Rows.{row_at, with_row, with_flag}
+use Rattle.grid_structure.specs.declared.Site.{Site}
 use Rattle.grid_structure.specs.Network.{Network}
-use Rattle.grid_structure.specs.Sites.{levels, site, find_switch}
+use Rattle.grid_structure.specs.Sites.{levels, site, find_switch, terminal_spot}
 use Rattle.grid_structure.specs.Clearing.{cleared, cleared_at}
 use Rattle.grid_structure.specs.Indexed.{level_of_switch, level_of_terminal}
 use Rattle.grid_structure.proofs.Cleared.{cleared_is}
 use Rattle.grid_structure.proofs.Found.{switch_nowhere, switch_somewhere, switch_below, switch_test, terminal_nowhere, terminal_somewhere, terminal_below, terminal_test}
 use Rattle.grid_structure.proofs.Places.{length-slice_set, position_found, set_itself}
 use Rattle.grid_screen.specs.Screened.{Changes, change_at, shown_levels}
-use Rattle.grid_screen.specs.Steps.{IsPut, Stands, StandsSo, cleared_side, levels_with_out, rows_with_out, taken_out}
-use Rattle.grid_screen.proofs.Shown.{put_stands, levels_unchanged, rows_unchanged}
+use Rattle.grid_screen.specs.Steps.{IsPut, Shows, ShowsSo, cleared_side, levels_with_out, rows_with_out, taken_out}
+use Rattle.grid_screen.proofs.Shown.{put_shows, levels_unchanged, rows_unchanged}
 
 -- ---- sites
 
@@ -34,6 +34,14 @@ first_is k j n None e = cc
 second_is : (k j : ℕ) (n : ℕ) (o : Option ℕ) → option_map (pair j) o ≡ Some (pair k n) → o ≡ Some n
 second_is k j n (Some y) e = let same : pair j y ≡ pair k n = cc in ap (λ (z : ℕ × ℕ). Some z.1) same
 second_is k j n None e = cc
+
+pub no_site : (o : Option (ℕ × ℕ)) → None ≡ option_map terminal_spot o → o ≡ None
+no_site (Some spot) e = cc
+no_site None e = refl
+
+pub at_site : (o : Option (ℕ × ℕ)) (at : Site) → Some at ≡ option_map terminal_spot o → o ≡ Some (at.level, at.node)
+at_site (Some spot) at e = let is : at ≡ terminal_spot spot = cc in ap (λ (a : Site). Some (a.level, a.node)) (sym is)
+at_site None at e = cc
 
 -- the level of a site is there
 pub site_inside : (net : Network) (id : List ℕ) (side k n : ℕ) → site net id side ≡ Some (k, n) → k < length (levels net)
@@ -66,7 +74,7 @@ switch_in net id k p e = by (level_of_switch net id) refl
 
 -- ---- what changes show
 
-module _ (listed : Listed) (before : List VoltageLevel) (flags : List (List Bool)) (old new : Changes) (ls : List VoltageLevel) (rows : List (List Bool)) (s : Stands listed before flags old ls rows) (k : ℕ) (lt : k < length before) (standing : VoltageLevel) (at : slice_get ls k ≡ Some standing) where
+module _ (before : List VoltageLevel) (flags : List (List Bool)) (old new : Changes) (ls : List VoltageLevel) (rows : List (List Bool)) (s : Shows before flags old ls rows) (k : ℕ) (lt : k < length before) (standing : VoltageLevel) (at : slice_get ls k ≡ Some standing) where
   first : (l : VoltageLevel) × (slice_get before k ≡ Some l)
   first = some_got before k lt
 
@@ -78,19 +86,19 @@ module _ (listed : Listed) (before : List VoltageLevel) (flags : List (List Bool
   unfolding first
   flags_as_many = s.flags_fit k first.0 first.1 ∙ ap length (sym stay)
 
-  pub opened_stands : (row : List Bool) (p : ℕ) → row ≡ row_at rows k → IsPut listed k standing (slice_set row p true) old new → Stands listed before flags new ls (with_flag rows k p true)
+  pub opened_shows : (row : List Bool) (p : ℕ) → row ≡ row_at rows k → IsPut k standing (slice_set row p true) old new → Shows before flags new ls (with_flag rows k p true)
   unfolding first with_flag with_row
-  opened_stands row p e put =
+  opened_shows row p e put =
       let same : slice_set ls k standing ≡ ls = set_itself ls k standing standing at refl in
-      let one = put_stands listed before flags old new ls rows k first.0 standing (slice_set row p true) s put first.1 stay (length-slice_set row p true ∙ ap length e ∙ s.flags_fit k first.0 first.1) in
-      subst (λ z. Stands listed before flags new ls (slice_set rows k (slice_set z p true))) e (subst (λ z. Stands listed before flags new z (slice_set rows k (slice_set row p true))) same one)
+      let one = put_shows before flags old new ls rows k first.0 standing (slice_set row p true) s put first.1 stay (length-slice_set row p true ∙ ap length e ∙ s.flags_fit k first.0 first.1) in
+      subst (λ z. Shows before flags new ls (slice_set rows k (slice_set z p true))) e (subst (λ z. Shows before flags new z (slice_set rows k (slice_set row p true))) same one)
 
-  pub cleared_stands : (id : List ℕ) (row : List Bool) → row ≡ row_at rows k → IsPut listed k (level_without_equipment id standing) row old new → Stands listed before flags new (cleared_at id k ls) rows
+  pub cleared_shows : (id : List ℕ) (row : List Bool) → row ≡ row_at rows k → IsPut k (level_without_equipment id standing) row old new → Shows before flags new (cleared_at id k ls) rows
   unfolding first row_at level_without_equipment
-  cleared_stands id row e put =
-      let one = put_stands listed before flags old new ls rows k first.0 (level_without_equipment id standing) row s put first.1 stay (ap length e ∙ s.flags_fit k first.0 first.1) in
+  cleared_shows id row e put =
+      let one = put_shows before flags old new ls rows k first.0 (level_without_equipment id standing) row s put first.1 stay (ap length e ∙ s.flags_fit k first.0 first.1) in
       let now : slice_set ls k (level_without_equipment id standing) ≡ cleared_at id k ls = cleared_is id k ls standing at in
-      subst (λ z. Stands listed before flags new (cleared_at id k ls) z) (set_same rows k row e) (subst (λ z. Stands listed before flags new z (slice_set rows k row)) now one)
+      subst (λ z. Shows before flags new (cleared_at id k ls) z) (set_same rows k row e) (subst (λ z. Shows before flags new z (slice_set rows k row)) now one)
 
 -- where no side stands
 pub none_cleared : (net : Network) (id : List ℕ) (side : ℕ) (ls : List VoltageLevel) → site net id side ≡ None → cleared_side net id side ls ≡ ls
@@ -111,22 +119,21 @@ pub equipment_out : (net : Network) (id : List ℕ) (ls : List VoltageLevel) (ro
 unfolding levels_with_out rows_with_out
 equipment_out net id ls rows e = (rw e refl, rw e refl)
 
--- stands, as it is shown
-pub shown_so : (listed : Listed) (before : List VoltageLevel) (flags : List (List Bool)) (changes : Changes) (ls : List VoltageLevel) (rows : List (List Bool)) → Stands listed before flags changes ls rows → StandsSo listed before flags changes
-shown_so listed before flags changes ls rows s =
-    subst (λ z. Stands listed before flags changes (shown_levels changes before) z) (sym s.rows_are) (subst (λ z. Stands listed before flags changes z rows) (sym s.levels_are) s)
+-- it is shown so
+pub shown_so : (before : List VoltageLevel) (flags : List (List Bool)) (changes : Changes) (ls : List VoltageLevel) (rows : List (List Bool)) → Shows before flags changes ls rows → ShowsSo before flags changes
+shown_so before flags changes ls rows s =
+    subst (λ z. Shows before flags changes (shown_levels changes before) z) (sym s.rows_are) (subst (λ z. Shows before flags changes z rows) (sym s.levels_are) s)
 
--- what stands then, told of the same levels and rows by other words
-pub stands_as : (listed : Listed) (before : List VoltageLevel) (flags : List (List Bool)) (changes : Changes) (ls ms : List VoltageLevel) (rows others : List (List Bool)) → Stands listed before flags changes ls rows → ls ≡ ms → rows ≡ others → Stands listed before flags changes ms others
-stands_as listed before flags changes ls ms rows others s e f = subst (λ z. Stands listed before flags changes ms z) f (subst (λ z. Stands listed before flags changes z rows) e s)
+-- what is shown then, told of the same levels and rows by other words
+pub shows_as : (before : List VoltageLevel) (flags : List (List Bool)) (changes : Changes) (ls ms : List VoltageLevel) (rows others : List (List Bool)) → Shows before flags changes ls rows → ls ≡ ms → rows ≡ others → Shows before flags changes ms others
+shows_as before flags changes ls ms rows others s e f = subst (λ z. Shows before flags changes ms z) f (subst (λ z. Shows before flags changes z rows) e s)
 
 -- nothing is changed at first
-pub none_stands : (listed : Listed) (before : List VoltageLevel) (flags : List (List Bool)) (changes : Changes) → length changes ≡ length before → length flags ≡ length before → ((k : ℕ) → change_at changes k ≡ None)
-    → ((k : ℕ) (l : VoltageLevel) → slice_get before k ≡ Some l → length (row_at flags k) ≡ length l.switches) → Stands listed before flags changes before flags
-none_stands listed before flags changes long rows none fit = record {
+pub none_shows : (before : List VoltageLevel) (flags : List (List Bool)) (changes : Changes) → length changes ≡ length before → length flags ≡ length before → ((k : ℕ) → change_at changes k ≡ None)
+    → ((k : ℕ) (l : VoltageLevel) → slice_get before k ≡ Some l → length (row_at flags k) ≡ length l.switches) → Shows before flags changes before flags
+none_shows before flags changes long rows none fit = record {
   long = long;
   rows_long = rows;
-  looked = λ k. rw (none k) tt;
   levels_are = levels_unchanged changes before long none;
   rows_are = rows_unchanged changes flags (long ∙ sym rows) none;
   switches_stay = λ k l m e f. (let same : l ≡ m = cc in ap (λ z. z.switches) (sym same));

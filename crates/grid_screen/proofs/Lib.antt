@@ -1,9 +1,11 @@
+pub mod Again
 pub mod Buses
 pub mod Cases
 pub mod Changing
 pub mod Counted
 pub mod Figured
 pub mod Grouped
+pub mod Likeness
 pub mod Linked
 pub mod Outcomes
 pub mod Outed

@@ -20,9 +20,9 @@ use Rattle.grid_screen.specs.Outages.{state_without}
 use Rattle.grid_screen.specs.Screened.{Changes, bus_sums, sums_of, buses_over, level_sums, level_places, sums_before, network_links, link_pairs, figures_by}
 use Rattle.grid_screen.specs.Steps.{Stands, levels_after, rows_after}
 use Rattle.grid_screen.proofs.Buses.{all_sums}
-use Rattle.grid_screen.proofs.Changing.{stands_as}
 use Rattle.grid_screen.proofs.Figured.{figured, pairs_below}
 use Rattle.grid_screen.proofs.Outed.{pairs_left}
+use Rattle.grid_screen.proofs.Shown.{stands_as}
 use Rattle.grid_screen.proofs.Stepped.{Outcome, none_out, all_more, buses_of_state}
 
 pub kept_long : (listed : Listed) (ls : List VoltageLevel) (rows : List (List Bool)) → length (level_sums listed ls rows) ≡ length ls

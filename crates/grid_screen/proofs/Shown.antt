@@ -1,30 +1,22 @@
 -- Levels and rows as the changes show them.
-use Rattle.std.proofs.Common.{◌≡◌, refl, sym, ap, ◌∙◌, subst, ℕ, zero, suc, ◌<◌, Bool, List, [], ◌∷◌, length, get_or, arith, inl, inr, Option, Some, None}
+use Rattle.std.proofs.Common.{◌≡◌, refl, sym, ap, ◌∙◌, subst, ℕ, zero, suc, ◌+◌, ◌<◌, ◌≤◌, Bool, List, [], ◌∷◌, length, get_or, arith, inl, inr, ◌⊎◌, Option, Some, None}
 use Rattle.std.specs.Prelude.{slice_get, slice_set, Box}
 use Rattle.std.specs.declared.alloc.Global.{Global}
-use Rattle.std.proofs.lemmas.Bool.{cases_eq}
+use Rattle.std.proofs.lemmas.Bool.{cases_eq, cases_lt}
 use Rattle.grid_lemmas.proofs.Lists.{get_other, get_set, some_got}
 use Rattle.grid_level.specs.VoltageLevel.{VoltageLevel}
 use Rattle.grid_powers.specs.Listed.{Listed}
 use Rattle.grid_states.specs.Rows.{row_at}
 use Rattle.grid_structure.proofs.Places.{length-slice_set}
 use Rattle.grid_screen.specs.declared.outage.Changed.{Changed}
-use Rattle.grid_screen.specs.Screened.{Changes, change_at, shown_levels, shown_rows, IsLookedAt}
-use Rattle.grid_screen.specs.Steps.{IsPut, Stands}
+use Rattle.grid_screen.specs.Screened.{Changes, change_at, level_by, row_by, shown_levels, shown_rows, FitsAt, IsLooked, IsLookedAt, AreLooked}
+use Rattle.grid_screen.specs.Steps.{IsPut, Shows, Stands}
 use Rattle.std.proofs.lemmas.Option.{slice_get_within}
 
 abbrev pub Change : Type 0
 Change = Option (Box Changed Global)
 
 -- ---- one change
-
-abbrev pub level_by : Change → VoltageLevel → VoltageLevel
-level_by None l = l
-level_by (Some c) l = c.value.level
-
-abbrev pub row_by : Change → List Bool → List Bool
-row_by None row = row
-row_by (Some c) row = c.value.opened
 
 levels-cons : (o : Change) (changes : Changes) (l : VoltageLevel) (ls : List VoltageLevel) → shown_levels (o ∷ changes) (l ∷ ls) ≡ level_by o l ∷ shown_levels changes ls
 unfolding shown_levels
@@ -100,22 +92,38 @@ rows_put (o ∷ changes) (r ∷ rows) (suc k) c long =
     rows-cons o (slice_set changes k (Some c)) r rows ∙ ap (λ z. row_by o r ∷ z) (rows_put changes rows k c (omega (arith, long)))
     ∙ ap (λ z. slice_set z (suc k) c.value.opened) (sym (rows-cons o changes r rows))
 
+some_same : {X : Type 0} {x y : X} → ◌≡◌ {A = Option X} (Some x) (Some y) → x ≡ y
+some_same e = cc
+
+at_same : {X : Type 0} (d : X) (xs : List X) (k : ℕ) (y : X) → k < length xs → get_or (slice_set xs k y) k d ≡ y
+at_same d [] k y lt = absurd (omega arith)
+at_same d (x ∷ xs) zero y lt = refl
+at_same d (x ∷ xs) (suc k) y lt = at_same d xs k y (omega arith)
+
+at_other : {X : Type 0} (d : X) (xs : List X) (k j : ℕ) (y : X) → (k ≡ j → ⊥) → get_or (slice_set xs k y) j d ≡ get_or xs j d
+at_other d [] k j y ne = refl
+at_other d (x ∷ xs) zero zero y ne = absurd (ne refl)
+at_other d (x ∷ xs) zero (suc j) y ne = refl
+at_other d (x ∷ xs) (suc k) zero y ne = refl
+at_other d (x ∷ xs) (suc k) (suc j) y ne = at_other d xs k j y (λ e. ne (omega (arith, e)))
+
+pub set_over : {X : Type 0} (xs : List X) (k : ℕ) (x y : X) → slice_set (slice_set xs k x) k y ≡ slice_set xs k y
+set_over [] k x y = refl
+set_over (z ∷ xs) zero x y = refl
+set_over (z ∷ xs) (suc k) x y = ap (λ w. z ∷ w) (set_over xs k x y)
+
 -- another level at a place, where its switches stay and its flags are as many
-pub put_stands : (listed : Listed) (before : List VoltageLevel) (flags : List (List Bool)) (old new : Changes) (ls : List VoltageLevel) (rows : List (List Bool)) (k : ℕ) (l level : VoltageLevel) (opened : List Bool)
-    → Stands listed before flags old ls rows → IsPut listed k level opened old new → slice_get before k ≡ Some l → level.switches ≡ l.switches → length opened ≡ length l.switches
-    → Stands listed before flags new (slice_set ls k level) (slice_set rows k opened)
+pub put_shows : (before : List VoltageLevel) (flags : List (List Bool)) (old new : Changes) (ls : List VoltageLevel) (rows : List (List Bool)) (k : ℕ) (l level : VoltageLevel) (opened : List Bool)
+    → Shows before flags old ls rows → IsPut k level opened old new → slice_get before k ≡ Some l → level.switches ≡ l.switches → length opened ≡ length l.switches
+    → Shows before flags new (slice_set ls k level) (slice_set rows k opened)
 unfolding row_at
-put_stands listed before flags old new ls rows k l level opened s p at stay fit =
+put_shows before flags old new ls rows k l level opened s p at stay fit =
     let inside : k < length before = slice_get_within before k l at in
     let rows_long : length rows ≡ length before = ap length (sym s.rows_are) ∙ length-shown_rows old flags (s.long ∙ sym s.rows_long) ∙ s.rows_long in
     let levels_long : length ls ≡ length before = ap length (sym s.levels_are) ∙ length-shown_levels old before s.long in
     record {
       long = ap length p.is ∙ length-slice_set old k (Some p.box) ∙ s.long;
       rows_long = s.rows_long;
-      looked = λ j. subst (λ z. IsLookedAt listed (change_at z j)) (sym p.is) (elim (cases_eq k j) [
-        | inl e ↦ (let lt : k < length old = omega (arith, inside, s.long) in subst (IsLookedAt listed) (sym (ap (λ z. get_or (slice_set old k (Some p.box)) z None) (sym e) ∙ at_same None old k (Some p.box) lt)) p.looked)
-        | inr ne ↦ subst (IsLookedAt listed) (sym (at_other None old k j (Some p.box) ne)) (s.looked j)
-      ]);
       levels_are = ap (λ z. shown_levels z before) p.is ∙ levels_put old before k p.box s.long ∙ ap (λ z. slice_set z k p.box.value.level) s.levels_are ∙ ap (slice_set ls k) p.level_is;
       rows_are = ap (λ z. shown_rows z flags) p.is ∙ rows_put old flags k p.box (s.long ∙ sym s.rows_long) ∙ ap (λ z. slice_set z k p.box.value.opened) s.rows_are ∙ ap (slice_set rows k) p.opened_is;
       switches_stay = λ j a b e f. elim (cases_eq k j) [
@@ -129,21 +137,6 @@ put_stands listed before flags old new ls rows k l level opened s p at stay fit 
         | inr ne ↦ ap length (at_other [] rows k j opened ne) ∙ s.flags_fit j a e
       ];
     }
-  where
-    some_same : {X : Type 0} {x y : X} → ◌≡◌ {A = Option X} (Some x) (Some y) → x ≡ y
-    some_same e = cc
-
-    at_same : {X : Type 0} (d : X) (xs : List X) (k : ℕ) (y : X) → k < length xs → get_or (slice_set xs k y) k d ≡ y
-    at_same d [] k y lt = absurd (omega arith)
-    at_same d (x ∷ xs) zero y lt = refl
-    at_same d (x ∷ xs) (suc k) y lt = at_same d xs k y (omega arith)
-
-    at_other : {X : Type 0} (d : X) (xs : List X) (k j : ℕ) (y : X) → (k ≡ j → ⊥) → get_or (slice_set xs k y) j d ≡ get_or xs j d
-    at_other d [] k j y ne = refl
-    at_other d (x ∷ xs) zero zero y ne = absurd (ne refl)
-    at_other d (x ∷ xs) zero (suc j) y ne = refl
-    at_other d (x ∷ xs) (suc k) zero y ne = refl
-    at_other d (x ∷ xs) (suc k) (suc j) y ne = at_other d xs k j y (λ e. ne (omega (arith, e)))
 
 -- ---- a place that is looked at
 
@@ -163,3 +156,113 @@ row_changed changes rows k c long e = row_shown changes rows k long ∙ ap (λ z
 
 pub row_kept : (changes : Changes) (rows : List (List Bool)) (k : ℕ) → length changes ≡ length rows → change_at changes k ≡ None → row_at (shown_rows changes rows) k ≡ row_at rows k
 row_kept changes rows k long e = row_shown changes rows k long ∙ ap (λ z. row_by z (row_at rows k)) e
+
+-- ---- changes that are looked at
+
+nothing_past : (changes : Changes) (k : ℕ) → length changes ≤ k → change_at changes k ≡ None
+nothing_past [] k le = refl
+nothing_past (o ∷ changes) zero le = absurd (omega arith)
+nothing_past (o ∷ changes) (suc k) le = nothing_past changes k (omega arith)
+
+same_levels : (old new : Changes) (ls : List VoltageLevel) → length new ≡ length old → ((k : ℕ) (l : VoltageLevel) → level_by (change_at new k) l ≡ level_by (change_at old k) l) → shown_levels new ls ≡ shown_levels old ls
+unfolding shown_levels
+same_levels [] [] ls long h = refl
+same_levels [] (n ∷ new) ls long h = absurd (omega (arith, long))
+same_levels (o ∷ old) [] ls long h = absurd (omega (arith, long))
+same_levels (o ∷ old) (n ∷ new) [] long h = refl
+same_levels (o ∷ old) (n ∷ new) (l ∷ ls) long h =
+    levels-cons n new l ls ∙ ap (λ z. z ∷ shown_levels new ls) (h 0 l) ∙ ap (λ z. level_by o l ∷ z) (same_levels old new ls (omega (arith, long)) (λ k. h (suc k))) ∙ sym (levels-cons o old l ls)
+
+same_rows : (old new : Changes) (rows : List (List Bool)) → length new ≡ length old → ((k : ℕ) (row : List Bool) → row_by (change_at new k) row ≡ row_by (change_at old k) row) → shown_rows new rows ≡ shown_rows old rows
+unfolding shown_rows
+same_rows [] [] rows long h = refl
+same_rows [] (n ∷ new) rows long h = absurd (omega (arith, long))
+same_rows (o ∷ old) [] rows long h = absurd (omega (arith, long))
+same_rows (o ∷ old) (n ∷ new) [] long h = refl
+same_rows (o ∷ old) (n ∷ new) (r ∷ rows) long h =
+    rows-cons n new r rows ∙ ap (λ z. z ∷ shown_rows new rows) (h 0 r) ∙ ap (λ z. row_by o r ∷ z) (same_rows old new rows (omega (arith, long)) (λ k. h (suc k))) ∙ sym (rows-cons o old r rows)
+
+pub all_looked : (listed : Listed) (before : List VoltageLevel) (flags : List (List Bool)) (old new : Changes) (ls : List VoltageLevel) (rows : List (List Bool)) → Shows before flags old ls rows → AreLooked listed old new → Stands listed before flags new ls rows
+all_looked listed before flags old new ls rows s a = record {
+  long = a.long ∙ s.long;
+  rows_long = s.rows_long;
+  looked = a.looked;
+  levels_are = same_levels old new before a.long a.levels ∙ s.levels_are;
+  rows_are = same_rows old new flags a.long a.rows ∙ s.rows_are;
+}
+
+-- each change has a flag for each switch
+pub all_fit : (before : List VoltageLevel) (flags : List (List Bool)) (changes : Changes) (ls : List VoltageLevel) (rows : List (List Bool)) → Shows before flags changes ls rows → (k : ℕ) → FitsAt (change_at changes k)
+all_fit before flags changes ls rows s k = by (change_at changes k) refl
+  where
+    by : (o : Change) → change_at changes k ≡ o → FitsAt o
+    by None e = tt
+    by (Some c) e =
+        let inside : k < length before = within (cases_lt k (length changes)) in
+        let l = some_got before k inside in
+        let shown = level_changed changes before k c s.long inside e in
+        let stay = s.switches_stay k l.0 c.value.level l.1 (ap (λ z. slice_get z k) (sym s.levels_are) ∙ shown) in
+        ap length (sym (row_changed changes flags k c (s.long ∙ sym s.rows_long) e)) ∙ ap (λ z. length (row_at z k)) s.rows_are ∙ s.flags_fit k l.0 l.1 ∙ ap length (sym stay)
+      where
+        within : (k < length changes) ⊎ (length changes ≤ k) → k < length before
+        within (inl lt) = omega (arith, lt, s.long)
+        within (inr le) = (let none : ◌≡◌ {A = Change} (Some c) None = sym e ∙ nothing_past changes k le in absurd (cc))
+
+-- ---- changes that are looked at one after the other
+
+-- those before a place are looked at
+pub record Halfway (listed : Listed) (old new : Changes) (place : ℕ) : Type 0 where
+  pub long : length new ≡ length old
+  pub levels : (k : ℕ) (l : VoltageLevel) → level_by (change_at new k) l ≡ level_by (change_at old k) l
+  pub rows : (k : ℕ) (row : List Bool) → row_by (change_at new k) row ≡ row_by (change_at old k) row
+  pub fit : (k : ℕ) → FitsAt (change_at new k)
+  pub looked : (k : ℕ) → k < place → IsLookedAt listed (change_at new k)
+
+pub at_first : (listed : Listed) (old : Changes) → ((k : ℕ) → FitsAt (change_at old k)) → Halfway listed old old 0
+at_first listed old fit = record { long = refl; levels = λ k l. refl; rows = λ k row. refl; fit = fit; looked = λ k lt. absurd (omega (arith, lt)) }
+
+pub at_last : (listed : Listed) (old new : Changes) (place : ℕ) → length new ≤ place → Halfway listed old new place → AreLooked listed old new
+at_last listed old new place le h = record {
+  long = h.long;
+  levels = h.levels;
+  rows = h.rows;
+  looked = λ k. elim (cases_lt k (length new)) [
+    | inl lt ↦ h.looked k (omega (arith, lt, le))
+    | inr past ↦ subst (IsLookedAt listed) (sym (nothing_past new k past)) tt
+  ];
+}
+
+module _ (listed : Listed) (old new next : Changes) (place : ℕ) (h : Halfway listed old new place) (lt : place < length new) where
+  put : (o : Change) → next ≡ slice_set new place o → ((l : VoltageLevel) → level_by o l ≡ level_by (change_at new place) l) → ((row : List Bool) → row_by o row ≡ row_by (change_at new place) row) → FitsAt o → IsLookedAt listed o
+      → Halfway listed old next (place + 1)
+  put o is level row fit looked = record {
+    long = ap length is ∙ length-slice_set new place o ∙ h.long;
+    levels = λ k l. elim (cases_eq place k) [ inl e ↦ ap (λ z. level_by z l) (here k e) ∙ level l ∙ ap (λ j. level_by (change_at new j) l) e ∙ h.levels k l | inr ne ↦ ap (λ z. level_by z l) (there k ne) ∙ h.levels k l ];
+    rows = λ k r. elim (cases_eq place k) [ inl e ↦ ap (λ z. row_by z r) (here k e) ∙ row r ∙ ap (λ j. row_by (change_at new j) r) e ∙ h.rows k r | inr ne ↦ ap (λ z. row_by z r) (there k ne) ∙ h.rows k r ];
+    fit = λ k. elim (cases_eq place k) [ inl e ↦ subst FitsAt (sym (here k e)) fit | inr ne ↦ subst FitsAt (sym (there k ne)) (h.fit k) ];
+    looked = λ k below. elim (cases_eq place k) [ inl e ↦ subst (IsLookedAt listed) (sym (here k e)) looked | inr ne ↦ subst (IsLookedAt listed) (sym (there k ne)) (h.looked k (before k below ne)) ];
+  }
+    where
+      here : (k : ℕ) → place ≡ k → change_at next k ≡ o
+      here k e = ap (λ z. change_at z k) is ∙ ap (λ j. get_or (slice_set new place o) j None) (sym e) ∙ at_same None new place o lt
+
+      there : (k : ℕ) → (place ≡ k → ⊥) → change_at next k ≡ change_at new k
+      there k ne = ap (λ z. change_at z k) is ∙ at_other None new place k o ne
+
+      before : (k : ℕ) → k < place + 1 → (place ≡ k → ⊥) → k < place
+      before k below ne = elim (cases_lt k place) [ inl less ↦ less | inr le ↦ absurd (ne (omega (arith, le, below))) ]
+
+  pub over_none : change_at new place ≡ None → next ≡ slice_set new place None → Halfway listed old next (place + 1)
+  over_none none is = put None is (λ l. ap (λ z. level_by z l) (sym none)) (λ row. ap (λ z. row_by z row) (sym none)) tt tt
+
+  pub fits_here : (c : Box Changed Global) → change_at new place ≡ Some c → length c.value.opened ≡ length c.value.level.switches
+  fits_here c some = subst FitsAt some (h.fit place)
+
+  pub over_some : (c d : Box Changed Global) → change_at new place ≡ Some c → d.value.level ≡ c.value.level → d.value.opened ≡ c.value.opened → IsLooked listed d.value → next ≡ slice_set (slice_set new place None) place (Some d) → Halfway listed old next (place + 1)
+  over_some c d some level opened looked is =
+      put (Some d) (is ∙ set_over new place None (Some d)) (λ l. level ∙ ap (λ z. level_by z l) (sym some)) (λ row. opened ∙ ap (λ z. row_by z row) (sym some))
+      (ap length opened ∙ fits_here c some ∙ ap (λ z. length z.switches) (sym level)) looked
+
+-- what stands then, told of the same levels and rows by other words
+pub stands_as : (listed : Listed) (before : List VoltageLevel) (flags : List (List Bool)) (changes : Changes) (ls ms : List VoltageLevel) (rows others : List (List Bool)) → Stands listed before flags changes ls rows → ls ≡ ms → rows ≡ others → Stands listed before flags changes ms others
+stands_as listed before flags changes ls ms rows others s e f = subst (λ z. Stands listed before flags changes ms z) f (subst (λ z. Stands listed before flags changes z rows) e s)

@@ -1,7 +1,9 @@
 pub mod Figures
 pub mod Outages
 pub mod Findings
+pub mod Alike
 pub mod Counting
+pub mod Copied
 pub mod Screened
 pub mod Steps
 pub mod Kept

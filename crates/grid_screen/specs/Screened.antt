@@ -113,8 +113,29 @@ abbrev pub IsLookedAt : Listed → Option (Box Changed Global) → Type 0
 IsLookedAt listed None = Unit {0}
 IsLookedAt listed (Some c) = IsLooked listed c.value
 
+-- it has a flag for each switch
+abbrev pub FitsAt : Option (Box Changed Global) → Type 0
+FitsAt None = Unit {0}
+FitsAt (Some c) = length c.value.opened ≡ length c.value.level.switches
+
+-- the level and the flags at a place, where they were these before
+abbrev pub level_by : Option (Box Changed Global) → VoltageLevel → VoltageLevel
+level_by None l = l
+level_by (Some c) l = c.value.level
+
+abbrev pub row_by : Option (Box Changed Global) → List Bool → List Bool
+row_by None row = row
+row_by (Some c) row = c.value.opened
+
 abbrev pub change_at : Changes → ℕ → Option (Box Changed Global)
 change_at changes place = slice_index_or changes place None
+
+-- the changes show what others show, and each is looked at
+pub record AreLooked (listed : Listed) (old new : Changes) : Type 0 where
+  pub long : length new ≡ length old
+  pub levels : (k : ℕ) (l : VoltageLevel) → level_by (change_at new k) l ≡ level_by (change_at old k) l
+  pub rows : (k : ℕ) (row : List Bool) → row_by (change_at new k) row ≡ row_by (change_at old k) row
+  pub looked : (k : ℕ) → IsLookedAt listed (change_at new k)
 
 -- the level without the terminals of some equipment
 unfoldable pub level_without : List (List ℕ) → VoltageLevel → VoltageLevel

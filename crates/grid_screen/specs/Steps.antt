@@ -9,7 +9,7 @@ use Rattle.grid_structure.specs.Network.{Network}
 use Rattle.grid_structure.specs.Sites.{find_switch, site}
 use Rattle.grid_structure.specs.Clearing.{cleared}
 use Rattle.grid_screen.specs.declared.outage.Changed.{Changed}
-use Rattle.grid_screen.specs.Screened.{Changes, change_at, shown_levels, shown_rows, IsLooked, IsLookedAt}
+use Rattle.grid_screen.specs.Screened.{Changes, change_at, shown_levels, shown_rows, IsLookedAt}
 
 -- the place of the level of a site
 abbrev pub level_of_site : Option (ℕ × ℕ) → Option ℕ
@@ -46,23 +46,29 @@ rows_after net ids rows = fold (rows_with_out net) rows ids
 
 -- ---- changes that show such levels and rows
 
--- the level at a place is now this one, with these flags, and is looked at
-pub record IsPut (listed : Listed) (place : ℕ) (level : VoltageLevel) (opened : List Bool) (old new : Changes) : Type 0 where
+-- the level at a place is now this one, with these flags
+pub record IsPut (place : ℕ) (level : VoltageLevel) (opened : List Bool) (old new : Changes) : Type 0 where
   pub box : Box Changed Global
   pub level_is : box.value.level ≡ level
   pub opened_is : box.value.opened ≡ opened
-  pub looked : IsLooked listed box.value
   pub is : new ≡ slice_set old place (Some box)
 
 -- over the levels and rows of before, the changes show these
+pub record Shows (before : List VoltageLevel) (flags : List (List Bool)) (changes : Changes) (ls : List VoltageLevel) (rows : List (List Bool)) : Type 0 where
+  pub long : length changes ≡ length before
+  pub rows_long : length flags ≡ length before
+  pub levels_are : shown_levels changes before ≡ ls
+  pub rows_are : shown_rows changes flags ≡ rows
+  pub switches_stay : (k : ℕ) (l m : VoltageLevel) → slice_get before k ≡ Some l → slice_get ls k ≡ Some m → m.switches ≡ l.switches
+  pub flags_fit : (k : ℕ) (l : VoltageLevel) → slice_get before k ≡ Some l → length (row_at rows k) ≡ length l.switches
+
+abbrev pub ShowsSo : List VoltageLevel → List (List Bool) → Changes → Type 0
+ShowsSo before flags changes = Shows before flags changes (shown_levels changes before) (shown_rows changes flags)
+
+-- they show these, and are looked at
 pub record Stands (listed : Listed) (before : List VoltageLevel) (flags : List (List Bool)) (changes : Changes) (ls : List VoltageLevel) (rows : List (List Bool)) : Type 0 where
   pub long : length changes ≡ length before
   pub rows_long : length flags ≡ length before
   pub looked : (k : ℕ) → IsLookedAt listed (change_at changes k)
   pub levels_are : shown_levels changes before ≡ ls
   pub rows_are : shown_rows changes flags ≡ rows
-  pub switches_stay : (k : ℕ) (l m : VoltageLevel) → slice_get before k ≡ Some l → slice_get ls k ≡ Some m → m.switches ≡ l.switches
-  pub flags_fit : (k : ℕ) (l : VoltageLevel) → slice_get before k ≡ Some l → length (row_at rows k) ≡ length l.switches
-
-abbrev pub StandsSo : Listed → List VoltageLevel → List (List Bool) → Changes → Type 0
-StandsSo listed before flags changes = Stands listed before flags changes (shown_levels changes before) (shown_rows changes flags)

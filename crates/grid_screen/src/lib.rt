@@ -2,6 +2,9 @@
 //! in several threads, and the reading of contingencies from JSON.
 #![tactic(auto)]
 
+ghost use Rattle.std.proofs.Common.{rules};
+
+mod alike;
 mod counting;
 pub mod find;
 pub mod laws;
@@ -13,7 +16,7 @@ mod screening;
 mod write;
 
 pub use find::find_one;
-use grid_ids::{Id, Ids, Seq};
+use grid_ids::{Duplicate, Id, Ids, Seq};
 use grid_json::Job;
 pub use parallel::screen;
 pub use read::read_screen;
@@ -54,7 +57,7 @@ pub struct ScreenJob {
 }
 
 /// What is found of a contingency.
-#[derive(Debug, Drop)]
+#[derive(Clone, Debug, Drop)]
 pub enum Finding {
     /// The first id that is of no switch and of no equipment before the outage.
     UnknownId(Id),
@@ -69,3 +72,7 @@ pub enum Finding {
 
 /// Findings in the order of their contingencies.
 pub type Findings = Seq<Finding>;
+
+impl Duplicate for Finding {
+    ghost clone_equals = { Prim.search rules };
+}

@@ -1,54 +1,88 @@
-// What an outage changes: the levels in which a switch is opened or from which terminals are taken, in copies of their own.
+// What an outage changes: the levels in which a switch is opened or from which terminals are taken.
 ghost use Rattle.std.specs.Prelude.{◌≡◌, ℕ, ◌<◌, ◌+◌, None, Some, IfOk, OnOk, length, map, slice_get, slice_set, slice_index_or, true, find};
 ghost use Rattle.std.specs.Option.{option_map};
 ghost use Rattle.grid_ids.specs.Name.{same_id};
 ghost use Rattle.grid_level.specs.LevelEdits.{level_without_equipment};
-ghost use Rattle.grid_level.specs.Passing.{positioned};
-ghost use Rattle.grid_busview.specs.Views.{node_buses_of};
 ghost use Rattle.grid_states.specs.Rows.{row_at, with_flag};
 ghost use Rattle.grid_structure.specs.Sites.{levels};
 ghost use Rattle.grid_islands.specs.Numbering.{FlagsFit};
-ghost use Rattle.grid_screen.specs.Screened.{shown_levels, shown_rows, sums_of, IsLooked};
-ghost use Rattle.grid_screen.specs.Steps.{cleared_side, taken_out, levels_with_out, rows_with_out, levels_after, rows_after, IsPut, Stands, StandsSo};
+ghost use Rattle.grid_screen.specs.Screened.{change_at, shown_levels, shown_rows, FitsAt, IsLooked, AreLooked};
+ghost use Rattle.grid_screen.specs.Steps.{cleared_side, taken_out, levels_with_out, rows_with_out, levels_after, rows_after, Shows, ShowsSo, Stands};
 
-use crate::screening::{LevelSums, sum_level};
-use grid_busview::{BusPlaces, node_buses};
+use crate::screening::{LevelSums, look_at};
+use grid_busview::BusPlaces;
 use grid_ids::{Duplicate, Id, Memory, Seq};
+use grid_json::SeenIds;
 use grid_level::{Flags, Level, Placed};
 use grid_powers::Powers;
 use grid_states::States;
 use grid_structure::{Structure, SwitchAt};
 use std::alloc::Global;
+use std::marker::Model;
+
+/// A level as an outage leaves it: a copy where terminals are taken out, else the structure's own. It is seen as the level.
+#[derive(Drop)]
+pub(crate) struct Shown<'a> {
+    before: &'a Level,
+    copy: Option<Level>,
+}
+
+impl<'a> Model for Shown<'a> {
+    ghost use Rattle.grid_level.specs.VoltageLevel.{VoltageLevel};
+    ghost use Rattle.grid_screen.specs.Copied.{copy_or};
+
+    ghost Value = { VoltageLevel };
+
+    ghost view = { λ s. copy_or s.copy s.before.now };
+}
+
+impl<'a> Shown<'a> {
+    /// A level as it is.
+    fn of(level: &'a Level) -> Shown<'a>
+        ensures { result ≡ level.now }
+    {
+        Shown {
+            before: level,
+            copy: None,
+        }
+    }
+
+    /// The level.
+    pub(crate) fn level(&self) -> &Level
+        ensures { result.now ≡ self.now }
+    {
+        match &self.copy {
+            Some(copy) => copy,
+            None => self.before,
+        }
+    }
+
+    // Takes all terminals of an equipment out.
+    fn clear(&mut self, id: &Id) -> Result<(), Memory>
+        ensures { OnOk result (self.new ≡ level_without_equipment id.now self.old) }
+    {
+        let mut copy = match self.copy.take() {
+            Some(copy) => copy,
+            None => self.before.copy()?,
+        };
+        clear_level(&mut copy, id);
+        self.copy = Some(copy);
+        Ok(())
+    }
+}
 
 /// A level that an outage changes: with its terminals and the flags of its switches after it, for each node the place of
-/// the bus that holds it, and the sums of its buses.
+/// the bus that holds it, and the sums of its buses. Places and sums stand once the level was looked at.
 #[derive(Drop)]
-pub(crate) struct Changed {
-    pub level: Level,
+pub(crate) struct Changed<'a> {
+    pub level: Shown<'a>,
     pub opened: Flags,
     pub places: BusPlaces,
     pub sums: LevelSums,
 }
 
 /// For each level by place what it is after an outage; none where it is as before.
-pub(crate) type Changes = Vec<Option<Box<Changed>>>;
-
-// The buses of a level whose switches have these flags.
-fn look(alloc: Global, level: Level, opened: Flags, powers: &Powers) -> Result<Changed, Memory>
-    requires { length opened ≡ length level.switches }
-    ensures level { IfOk result (λ c. c.level ≡ level) }
-    ensures opened { IfOk result (λ c. c.opened ≡ opened) }
-    ensures looked { IfOk result (IsLooked powers.now.listed) }
-{
-    let buses = node_buses(alloc, &level, opened.slice())?;
-    let sums = sum_level(alloc, &level, opened.slice(), powers)?;
-    Ok(Changed {
-        level,
-        opened,
-        places: buses.places,
-        sums,
-    })
-}
+pub(crate) type Changes<'a> = Vec<Option<Box<Changed<'a>>>>;
 
 // A copy of these flags.
 fn copy_flags(alloc: Global, flags: &[bool]) -> Result<Flags, Memory>
@@ -60,38 +94,80 @@ fn copy_flags(alloc: Global, flags: &[bool]) -> Result<Flags, Memory>
     }
 }
 
-// A level with the flags of its switches.
-#[derive(Drop)]
-struct Standing {
-    level: Level,
-    opened: Flags,
+// A level with these flags, not looked at yet.
+fn standing<'a>(alloc: Global, level: &'a Level, flags: &[bool]) -> Result<Box<Changed<'a>>, Memory>
+    ensures level { IfOk result (λ standing. standing.value.level ≡ level.now) }
+    ensures opened { IfOk result (λ standing. standing.value.opened ≡ flags.now) }
+{
+    let opened = copy_flags(alloc, flags)?;
+    let changed = Changed {
+        level: Shown::of(level),
+        opened,
+        places: BusPlaces::empty(alloc),
+        sums: LevelSums::empty(alloc),
+    };
+    Ok(Box::new(alloc, changed)?)
 }
 
-// A copy of the level at a place as it stands.
-fn copy_standing(
-    alloc: Global,
-    structure: &Structure,
-    states: &States,
-    changes: &[Option<Box<Changed>>],
-    place: u32,
-) -> Result<Standing, Memory>
-    requires place { place < length (levels structure.now) }
-    requires changes { length changes.now ≡ length (levels structure.now) }
-    requires rows { length states.now ≡ length (levels structure.now) }
-    ensures level { IfOk result (λ s. slice_get (shown_levels changes.now (levels structure.now))
-        place ≡ Some s.level) }
-    ensures opened { IfOk result (λ s. s.opened
-        ≡ row_at (shown_rows changes.now states.now) place) }
+// Takes out the change at a place, if there is one.
+fn take_at<'a>(changes: &mut Changes<'a>, place: usize) -> Option<Box<Changed<'a>>>
+    requires { place < length changes.old.items }
+    ensures taken { result ≡ change_at changes.old.items place }
+    ensures left { changes.new.items ≡ slice_set changes.old.items place None }
 {
-    match &changes[place as usize] {
-        Some(changed) => Ok(Standing {
-            level: changed.level.copy()?,
-            opened: changed.opened.copy()?,
-        }),
-        None => Ok(Standing {
-            level: structure.level(place).copy()?,
-            opened: copy_flags(alloc, states.row(place))?,
-        }),
+    changes[place].take()
+}
+
+// Puts a change at a place.
+fn put_at<'a>(changes: &mut Changes<'a>, place: usize, changed: Box<Changed<'a>>)
+    requires { place < length changes.old.items }
+    ensures { changes.new.items ≡ slice_set changes.old.items place (Some changed.entry) }
+{
+    changes[place] = Some(changed);
+}
+
+// Opens the switch at a place.
+fn with_open<'a>(changed: Box<Changed<'a>>, place: u32) -> Box<Changed<'a>>
+    requires { place < length changed.value.opened }
+    ensures level { result.value.level ≡ changed.entry.value.level }
+    ensures opened { result.value.opened ≡ slice_set changed.entry.value.opened place true }
+{
+    let mut changed = changed;
+    changed.opened.set(place as usize, true);
+    changed
+}
+
+// Takes all terminals of an equipment out.
+fn without<'a>(changed: Box<Changed<'a>>, id: &Id) -> Result<Box<Changed<'a>>, Memory>
+    ensures level { IfOk result (λ c. c.value.level
+        ≡ level_without_equipment id.now changed.entry.value.level) }
+    ensures opened { IfOk result (λ c. c.value.opened ≡ changed.entry.value.opened) }
+{
+    let mut changed = changed;
+    changed.level.clear(id)?;
+    Ok(changed)
+}
+
+// Takes out what stands of the level at a place.
+fn take_standing<'a>(
+    alloc: Global,
+    structure: &'a Structure,
+    states: &States,
+    changes: &mut Changes<'a>,
+    place: u32,
+) -> Result<Box<Changed<'a>>, Memory>
+    requires place { place < length (levels structure.now) }
+    requires changes { length changes.old.items ≡ length (levels structure.now) }
+    requires rows { length states.now ≡ length (levels structure.now) }
+    ensures level { IfOk result (λ s. slice_get (shown_levels changes.old.items (levels
+        structure.now)) place ≡ Some s.value.level) }
+    ensures opened { IfOk result (λ s. s.value.opened
+        ≡ row_at (shown_rows changes.old.items states.now) place) }
+    ensures left { OnOk result (changes.new.items ≡ slice_set changes.old.items place None) }
+{
+    match take_at(changes, place as usize) {
+        Some(changed) => Ok(changed),
+        None => standing(alloc, structure.level(place), states.row(place)),
     }
 }
 
@@ -116,136 +192,170 @@ fn clear_level(level: &mut Level, id: &Id)
     }
 }
 
-// Puts a level as it stands in the place of the one that is there.
-fn change(
+// Opens a switch.
+fn open_switch<'a>(
     alloc: Global,
-    powers: &Powers,
-    changes: &mut Changes,
-    place: u32,
-    standing: Standing,
+    structure: &'a Structure,
+    states: &States,
+    changes: &mut Changes<'a>,
+    at: SwitchAt,
 ) -> Result<(), Memory>
-    requires place { place < length changes.old.items }
-    requires flags { length standing.opened ≡ length standing.level.switches }
-    ensures { OnOk result (IsPut powers.now.listed place standing.level standing.opened
-        changes.old.items changes.new.items) }
+    requires shows { ShowsSo (levels structure.now) states.now changes.old.items }
+    requires level { at.level < length (levels structure.now) }
+    requires place { at.place < length (row_at (shown_rows changes.old.items states.now) at.level) }
+    ensures { OnOk result (Shows (levels structure.now) states.now changes.new.items
+        (shown_levels changes.old.items (levels structure.now))
+        (with_flag (shown_rows changes.old.items states.now) at.level at.place true)) }
 {
-    let Standing { level, opened } = standing;
-    let changed = look(alloc, level, opened, powers)?;
-    changes[place as usize] = Some(Box::new(alloc, changed)?);
+    let taken = take_standing(alloc, structure, states, changes, at.level)?;
+    put_at(changes, at.level as usize, with_open(taken, at.place));
     Ok(())
 }
 
-// Opens a switch.
-fn open_switch(
-    alloc: Global,
-    structure: &Structure,
-    states: &States,
-    powers: &Powers,
-    changes: &mut Changes,
-    at: SwitchAt,
-) -> Result<(), Memory>
-    requires stands { StandsSo powers.now.listed (levels structure.now) states.now
-        changes.old.items }
-    requires level { at.level < length (levels structure.now) }
-    requires place { at.place < length (row_at (shown_rows changes.old.items states.now) at.level) }
-    ensures { OnOk result (Stands powers.now.listed (levels structure.now) states.now
-        changes.new.items (shown_levels changes.old.items (levels structure.now))
-        (with_flag (shown_rows changes.old.items states.now) at.level at.place true)) }
-{
-    let mut standing = copy_standing(alloc, structure, states, changes, at.level)?;
-    standing.opened.set(at.place as usize, true);
-    change(alloc, powers, changes, at.level, standing)
-}
-
 // Takes the terminals of an equipment out of the level in which that of a side stands.
-fn clear_side(
+fn clear_side<'a>(
     alloc: Global,
-    structure: &Structure,
+    structure: &'a Structure,
     states: &States,
-    powers: &Powers,
-    changes: &mut Changes,
-    id: &Id,
-    side: u8,
+    changes: &mut Changes<'a>,
+    at: (&Id, u8),
 ) -> Result<(), Memory>
-    requires { StandsSo powers.now.listed (levels structure.now) states.now changes.old.items }
-    ensures { OnOk result (Stands powers.now.listed (levels structure.now) states.now
-        changes.new.items
-        (cleared_side structure.now id.now side (shown_levels changes.old.items (levels
+    requires { ShowsSo (levels structure.now) states.now changes.old.items }
+    ensures { OnOk result (Shows (levels structure.now) states.now changes.new.items
+        (cleared_side structure.now at.entry.0.now at.entry.1 (shown_levels changes.old.items (levels
         structure.now))) (shown_rows changes.old.items states.now)) }
 {
+    let (id, side) = at;
     let site = match structure.site(id, side) {
         Some(site) => site,
         None => return Ok(()),
     };
-    let mut standing = copy_standing(alloc, structure, states, changes, site.level)?;
-    clear_level(&mut standing.level, id);
-    change(alloc, powers, changes, site.level, standing)
+    let taken = take_standing(alloc, structure, states, changes, site.level)?;
+    let cleared = without(taken, id)?;
+    put_at(changes, site.level as usize, cleared);
+    Ok(())
 }
 
 // Takes all terminals of an equipment out.
 #[tactic(auto, unfolding(crate::specs::Steps::taken_out))]
-fn take_out(
+fn take_out<'a>(
     alloc: Global,
-    structure: &Structure,
+    structure: &'a Structure,
     states: &States,
-    powers: &Powers,
-    changes: &mut Changes,
+    changes: &mut Changes<'a>,
     id: &Id,
 ) -> Result<(), Memory>
-    requires { StandsSo powers.now.listed (levels structure.now) states.now changes.old.items }
-    ensures { OnOk result (Stands powers.now.listed (levels structure.now) states.now
-        changes.new.items
+    requires { ShowsSo (levels structure.now) states.now changes.old.items }
+    ensures { OnOk result (Shows (levels structure.now) states.now changes.new.items
         (taken_out structure.now id.now (shown_levels changes.old.items (levels structure.now)))
         (shown_rows changes.old.items states.now)) }
 {
-    clear_side(alloc, structure, states, powers, changes, id, 1)?;
-    clear_side(alloc, structure, states, powers, changes, id, 2)?;
-    clear_side(alloc, structure, states, powers, changes, id, 3)
+    clear_side(alloc, structure, states, changes, (id, 1))?;
+    clear_side(alloc, structure, states, changes, (id, 2))?;
+    clear_side(alloc, structure, states, changes, (id, 3))
 }
 
 // Opens the switch of an id, or takes the equipment out.
-fn put_out(
+fn put_out<'a>(
     alloc: Global,
-    structure: &Structure,
+    structure: &'a Structure,
     states: &States,
-    powers: &Powers,
-    changes: &mut Changes,
+    changes: &mut Changes<'a>,
     id: &Id,
 ) -> Result<(), Memory>
-    requires { StandsSo powers.now.listed (levels structure.now) states.now changes.old.items }
-    ensures { OnOk result (Stands powers.now.listed (levels structure.now) states.now
-        changes.new.items
+    requires { ShowsSo (levels structure.now) states.now changes.old.items }
+    ensures { OnOk result (Shows (levels structure.now) states.now changes.new.items
         (levels_with_out structure.now (shown_levels changes.old.items (levels structure.now))
         id.now) (rows_with_out structure.now (shown_rows changes.old.items states.now)
         id.now)) }
 {
     match structure.find_switch(id) {
-        Some(at) => open_switch(alloc, structure, states, powers, changes, at),
-        None => take_out(alloc, structure, states, powers, changes, id),
+        Some(at) => open_switch(alloc, structure, states, changes, at),
+        None => take_out(alloc, structure, states, changes, id),
     }
 }
 
+// Puts these ids out, one after the other. One that was named before is left out, since it changes nothing.
+fn put_all_out<'a>(
+    alloc: Global,
+    structure: &'a Structure,
+    states: &States,
+    changes: &mut Changes<'a>,
+    ids: &[Id],
+) -> Result<(), Memory>
+    requires { Shows (levels structure.now) states.now changes.old.items (levels structure.now)
+        states.now }
+    ensures { OnOk result (Shows (levels structure.now) states.now changes.new.items
+        (levels_after structure.now ids.now (levels structure.now))
+        (rows_after structure.now ids.now states.now)) }
+{
+    let mut seen = SeenIds::empty(alloc);
+    for id in ids {
+        if !seen.add(id)? {
+            continue;
+        }
+        put_out(alloc, structure, states, changes, id)?;
+    }
+    Ok(())
+}
+
 // No level is changed.
-fn unchanged(alloc: Global, count: u32) -> Result<Changes, Memory>
+fn unchanged<'a>(alloc: Global, count: u32) -> Result<Changes<'a>, Memory>
     ensures long { IfOk result (λ changes. length changes.items ≡ count) }
     ensures none { IfOk result (λ changes. (k : ℕ) → slice_index_or changes.items k None ≡ None) }
 {
-    let mut changes = Changes::new(alloc);
+    let mut changes = match Changes::with_capacity(alloc, count as usize) {
+        Ok(changes) => changes,
+        Err(_) => return Err(Memory),
+    };
     for _place in 0..count {
         changes.push(None)?;
     }
     Ok(changes)
 }
 
-/// The levels that change where these ids are out, one after the other: a switch is opened, an equipment removed. The time
-/// is that of a copy and a view of each level that an id touches.
-pub(crate) fn find_changes(
+// Looks at a level that has changed.
+fn look<'a>(
     alloc: Global,
-    structure: &Structure,
+    changed: Box<Changed<'a>>,
+    powers: &Powers,
+) -> Result<Box<Changed<'a>>, Memory>
+    requires { length changed.value.opened ≡ length changed.value.level.switches }
+    ensures level { IfOk result (λ c. c.value.level ≡ changed.entry.value.level) }
+    ensures opened { IfOk result (λ c. c.value.opened ≡ changed.entry.value.opened) }
+    ensures looked { IfOk result (λ c. IsLooked powers.now.listed c.value) }
+{
+    let mut changed = changed;
+    let seen = look_at(alloc, changed.level.level(), changed.opened.slice(), powers)?;
+    changed.places = seen.places;
+    changed.sums = seen.sums;
+    Ok(changed)
+}
+
+// Looks at each level that has changed, once.
+fn look_at_all<'a>(alloc: Global, powers: &Powers, changes: &mut Changes<'a>) -> Result<(), Memory>
+    requires { (k : ℕ) → FitsAt (change_at changes.old.items k) }
+    ensures { OnOk result (AreLooked powers.now.listed changes.old.items changes.new.items) }
+{
+    for place in 0..changes.len() {
+        let Some(changed) = take_at(changes, place) else {
+            continue;
+        };
+        let looked = look(alloc, changed, powers)?;
+        put_at(changes, place, looked);
+    }
+    Ok(())
+}
+
+/// The levels that change where these ids are out, one after the other: a switch is opened, an equipment removed. The time
+/// is that of a look-up of each id and of a view of each level that they touch, with a copy where equipment is removed.
+pub(crate) fn find_changes<'a>(
+    alloc: Global,
+    structure: &'a Structure,
     states: &States,
     powers: &Powers,
     ids: &[Id],
-) -> Result<Changes, Memory>
+) -> Result<Changes<'a>, Memory>
     requires rows { length states.now ≡ length (levels structure.now) }
     requires flags { FlagsFit structure.now states.now }
     ensures { IfOk result (λ changes. Stands powers.now.listed (levels structure.now) states.now
@@ -253,8 +363,7 @@ pub(crate) fn find_changes(
         (rows_after structure.now ids.now states.now)) }
 {
     let mut changes = unchanged(alloc, structure.level_count())?;
-    for id in ids {
-        put_out(alloc, structure, states, powers, &mut changes, id)?;
-    }
+    put_all_out(alloc, structure, states, &mut changes, ids)?;
+    look_at_all(alloc, powers, &mut changes)?;
     Ok(changes)
 }

@@ -1,11 +1,11 @@
 // The buses after an outage: their sums in the order of their numbers, and the pairs that the branches make of them.
-ghost use Rattle.std.specs.Prelude.{◌≡◌, ◌++◌, ℕ, ◌<◌, ◌^◌, IfOk, OnOk, length, map, flat_map};
+ghost use Rattle.std.specs.Prelude.{◌≡◌, [], ◌++◌, ℕ, ◌<◌, ◌^◌, IfOk, OnOk, length, map, flat_map};
 ghost use Rattle.grid_graph.specs.Components.{places};
 ghost use Rattle.grid_islands.specs.Numbering.{node_within};
 ghost use Rattle.grid_screen.specs.Screened as screened;
 ghost use Rattle.grid_screen.specs.Screened.{change_at, place_in, number_at, present_sums, sums_before, link_pairs, LinksFit};
 
-use crate::outage::{Changed, Changes};
+use crate::outage::Changed;
 use crate::screening::{BusSums, LevelSums, Link, Spot};
 use grid_ids::{Memory, Seq};
 use grid_islands::number_of_node;
@@ -22,7 +22,7 @@ pub(crate) struct Present {
 #[tactic(auto, unfolding(crate::specs::Screened::present_sums))]
 fn sums_at<'a>(
     kept: &'a [LevelSums],
-    changes: &'a [Option<Box<Changed>>],
+    changes: &'a [Option<Box<Changed<'_>>>],
     place: usize,
 ) -> &'a [BusSums]
     requires kept { place < length kept.now }
@@ -32,6 +32,16 @@ fn sums_at<'a>(
     match &changes[place] {
         Some(changed) => changed.sums.slice(),
         None => kept[place].slice(),
+    }
+}
+
+// No items, with room for so many.
+fn with_room<T>(alloc: Global, count: usize) -> Result<Vec<T>, Memory>
+    ensures { IfOk result (λ items. items.items ≡ []) }
+{
+    match Vec::with_capacity(alloc, count) {
+        Ok(items) => Ok(items),
+        Err(_) => Err(Memory),
     }
 }
 
@@ -50,7 +60,7 @@ pub(crate) fn narrow(count: usize) -> Result<u32, Memory>
 pub(crate) fn list_present(
     alloc: Global,
     kept: &[LevelSums],
-    changes: &[Option<Box<Changed>>],
+    changes: &[Option<Box<Changed<'_>>>],
 ) -> Result<Present, Memory>
     requires { length changes.now ≡ length kept.now }
     ensures firsts { IfOk result (λ present. present.firsts.items
@@ -59,8 +69,8 @@ pub(crate) fn list_present(
     ensures sums { IfOk result (λ present. present.sums.items
         ≡ sums_before kept.now changes.now (length kept.now)) }
 {
-    let mut firsts = Vec::new(alloc);
-    let mut sums = Vec::new(alloc);
+    let mut firsts = with_room(alloc, kept.len())?;
+    let mut sums = with_room(alloc, 2 * kept.len())?;
     for place in 0..kept.len() {
         firsts.push(narrow(sums.len())?)?;
         sums.extend_from_slice(sums_at(kept, changes, place))?;
@@ -70,19 +80,20 @@ pub(crate) fn list_present(
 
 // The place of the bus at a node of a changed level, where a terminal still stands there.
 #[tactic(auto, unfolding(crate::specs::Screened::place_among, grid_islands::specs::Numbering::node_within))]
-fn place_among(changed: &Changed, node: i64) -> Option<u32>
+fn place_among(changed: &Changed<'_>, node: i64) -> Option<u32>
     ensures { result ≡ screened.place_among changed.now (node_within node) node }
 {
     let number = match u16::try_from(node) {
         Ok(number) => number,
         Err(_) => return None,
     };
-    changed.level.placed_at(number)?;
-    number_of_node(&changed.level, changed.places.slice(), node)
+    let level = changed.level.level();
+    level.placed_at(number)?;
+    number_of_node(level, changed.places.slice(), node)
 }
 
 // The place of the bus at an end of a branch, among the buses of its level.
-fn place_at(changes: &[Option<Box<Changed>>], spot: &Spot) -> Option<u32>
+fn place_at(changes: &[Option<Box<Changed<'_>>>], spot: &Spot) -> Option<u32>
     requires { spot.now.level < length changes.now }
     ensures { result ≡ place_in (change_at changes.now spot.now.level) spot.now }
 {
@@ -96,7 +107,7 @@ fn place_at(changes: &[Option<Box<Changed>>], spot: &Spot) -> Option<u32>
 #[tactic(auto, unfolding(crate::specs::Screened::number_at))]
 fn number_of(
     firsts: &[u32],
-    changes: &[Option<Box<Changed>>],
+    changes: &[Option<Box<Changed<'_>>>],
     spot: &Spot,
 ) -> Result<Option<u32>, Memory>
     requires firsts { spot.now.level < length firsts.now }
@@ -117,7 +128,7 @@ fn number_of(
 fn push_pair(
     pairs: &mut Vec<(u32, u32)>,
     firsts: &[u32],
-    changes: &[Option<Box<Changed>>],
+    changes: &[Option<Box<Changed<'_>>>],
     link: &Link,
 ) -> Result<(), Memory>
     requires first { (link.now.first.level < length firsts.now)
@@ -140,7 +151,7 @@ fn push_pair(
 pub(crate) fn list_pairs(
     alloc: Global,
     firsts: &[u32],
-    changes: &[Option<Box<Changed>>],
+    changes: &[Option<Box<Changed<'_>>>],
     links: &[Link],
 ) -> Result<Vec<(u32, u32)>, Memory>
     requires long { length firsts.now ≡ length changes.now }
@@ -148,7 +159,7 @@ pub(crate) fn list_pairs(
     ensures { IfOk result (λ pairs. pairs.items
         ≡ flat_map (link_pairs firsts.now changes.now) links.now) }
 {
-    let mut pairs = Vec::new(alloc);
+    let mut pairs = with_room(alloc, links.len())?;
     for link in links {
         push_pair(&mut pairs, firsts, changes, link)?;
     }

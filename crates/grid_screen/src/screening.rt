@@ -2,6 +2,8 @@
 ghost use Rattle.std.specs.Prelude.{◌≡◌, ◌++◌, ◌<◌, IfOk, OnOk, length, map};
 ghost use Rattle.grid_powers.specs.Listed.{Listed};
 ghost use Rattle.grid_structure.specs.Sites.{levels};
+ghost use Rattle.grid_level.specs.Passing.{positioned};
+ghost use Rattle.grid_busview.specs.Views.{node_buses_of};
 ghost use Rattle.grid_islands.specs.Numbering.{FlagsFit};
 ghost use Rattle.grid_screen.specs.Screened as screened;
 ghost use Rattle.grid_screen.specs.Screened.{bus_sums, sums_of, level_sums, level_places, branch_links, link_between, network_links, LinksFit};
@@ -62,9 +64,9 @@ fn list_sums(alloc: Global, buses: &[ViewBus]) -> Result<LevelSums, Memory>
     Ok(sums)
 }
 
-/// The sums of the buses of a level whose switches have these flags `opened`, under these watts.
+// The sums of the buses of a level whose switches have these flags `opened`, under these watts.
 #[tactic(auto, unfolding(crate::specs::Screened::sums_of, crate::specs::Screened::buses_under))]
-pub(crate) fn sum_level(
+fn sum_level(
     alloc: Global,
     level: &Level,
     opened: &[bool],
@@ -78,41 +80,63 @@ pub(crate) fn sum_level(
     list_sums(alloc, view.buses.slice())
 }
 
-// The sums of the buses of each level.
-fn sum_levels(
+/// What the buses of a level are: for each node the place of the bus that holds it, and the sums of each.
+#[derive(Drop)]
+pub(crate) struct LevelBuses {
+    pub places: BusPlaces,
+    pub sums: LevelSums,
+}
+
+/// The buses of a level whose switches have these flags `opened`, under these watts.
+pub(crate) fn look_at(
+    alloc: Global,
+    level: &Level,
+    opened: &[bool],
+    powers: &Powers,
+) -> Result<LevelBuses, Memory>
+    requires { length opened.now ≡ length level.now.switches }
+    ensures places { IfOk result (λ seen. seen.places
+        ≡ (node_buses_of (positioned level.now opened.now)).places) }
+    ensures sums { IfOk result (λ seen. seen.sums
+        ≡ sums_of powers.now.listed level.now opened.now) }
+{
+    let buses = node_buses(alloc, level, opened)?;
+    let sums = sum_level(alloc, level, opened, powers)?;
+    Ok(LevelBuses {
+        places: buses.places,
+        sums,
+    })
+}
+
+/// The buses of all levels, by place: for each node the place of the bus that holds it, and the sums of each.
+#[derive(Drop)]
+struct AllBuses {
+    places: Seq<BusPlaces>,
+    sums: Seq<LevelSums>,
+}
+
+// Looks at each level.
+fn look_at_levels(
     alloc: Global,
     structure: &Structure,
     states: &States,
     powers: &Powers,
-) -> Result<Seq<LevelSums>, Memory>
+) -> Result<AllBuses, Memory>
     requires rows { length states.now ≡ length (levels structure.now) }
     requires flags { FlagsFit structure.now states.now }
-    ensures { IfOk result (λ sums. sums
+    ensures places { IfOk result (λ all. all.places
+        ≡ level_places (levels structure.now) states.now) }
+    ensures sums { IfOk result (λ all. all.sums
         ≡ level_sums powers.now.listed (levels structure.now) states.now) }
 {
+    let mut places = Seq::empty(alloc);
     let mut sums = Seq::empty(alloc);
     for place in 0..structure.level_count() {
-        sums.push(sum_level(alloc, structure.level(place), states.row(place), powers)?)?;
+        let seen = look_at(alloc, structure.level(place), states.row(place), powers)?;
+        places.push(seen.places)?;
+        sums.push(seen.sums)?;
     }
-    Ok(sums)
-}
-
-// For each node of each level the place of the bus that holds it.
-fn place_nodes(
-    alloc: Global,
-    structure: &Structure,
-    states: &States,
-) -> Result<Seq<BusPlaces>, Memory>
-    requires rows { length states.now ≡ length (levels structure.now) }
-    requires flags { FlagsFit structure.now states.now }
-    ensures { IfOk result (λ rows. rows ≡ level_places (levels structure.now) states.now) }
-{
-    let mut rows = Seq::empty(alloc);
-    for place in 0..structure.level_count() {
-        let buses = node_buses(alloc, structure.level(place), states.row(place))?;
-        rows.push(buses.places)?;
-    }
-    Ok(rows)
+    Ok(AllBuses { places, sums })
 }
 
 // An end of a branch, where its level is there.
@@ -214,8 +238,10 @@ pub(crate) fn make_screening(
     ensures links { IfOk result (λ kept. kept.links
         ≡ network_links structure.now (level_places (levels structure.now) states.now)) }
 {
-    let sums = sum_levels(alloc, structure, states, powers)?;
-    let rows = place_nodes(alloc, structure, states)?;
-    let links = list_links(alloc, structure, rows.slice())?;
-    Ok(Screening { sums, links })
+    let all = look_at_levels(alloc, structure, states, powers)?;
+    let links = list_links(alloc, structure, all.places.slice())?;
+    Ok(Screening {
+        sums: all.sums,
+        links,
+    })
 }

@@ -4,7 +4,7 @@ use Rattle.grid_structure.specs.Sites.{levels, find_switch}
 use Rattle.grid_structure.proofs.Losing.{from_nowhere, from_spot}
 use Rattle.grid_screen.specs.Screened.{shown_levels, shown_rows}
 use Rattle.grid_screen.specs.Steps.{levels_with_out, rows_with_out}
-use Rattle.grid_screen.proofs.Changing.{switch_in, switch_out, equipment_out, stands_as}
+use Rattle.grid_screen.proofs.Changing.{switch_in, switch_out, equipment_out, shows_as}
 use Rattle.grid_screen.proofs.outage.put_out.Goals as goal
 use Rattle.std.proofs.lemmas.Option.{slice_get_within}
 
@@ -23,7 +23,6 @@ open_switch-requires-clause-place c =
 pub returns-in-Some : goal.returns-in-Some
 returns-in-Some c =
     let net = c.args.structure.now in
-    let listed = c.args.powers.now.listed in
     let id = c.args.id.now in
     let new = c.open_switch.new.changes.items in
     let ls = shown_levels c.args.changes.now.items (levels net) in
@@ -31,16 +30,15 @@ returns-in-Some c =
     let at = c.in-Some.at in
     let out = switch_out net id at.level at.place ls rows (from_spot (find_switch net id) at (sym c.in-Some.is ∙ c.find_switch.ensures)) in
     on_ok_weaker c.open_switch.result
-    (λ s. stands_as listed (levels net) c.args.states.now new ls (levels_with_out net ls id) _ (rows_with_out net rows id) s (sym out.0) (sym out.1)) c.open_switch.ensures
+    (λ s. shows_as (levels net) c.args.states.now new ls (levels_with_out net ls id) _ (rows_with_out net rows id) s (sym out.0) (sym out.1)) c.open_switch.ensures
 
 pub returns-in-None : goal.returns-in-None
 returns-in-None c =
     let net = c.args.structure.now in
-    let listed = c.args.powers.now.listed in
     let id = c.args.id.now in
     let new = c.take_out.new.changes.items in
     let ls = shown_levels c.args.changes.now.items (levels net) in
     let rows = shown_rows c.args.changes.now.items c.args.states.now in
     let out = equipment_out net id ls rows (from_nowhere (find_switch net id) (sym c.in-None.is ∙ c.find_switch.ensures)) in
     on_ok_weaker c.take_out.result
-    (λ s. stands_as listed (levels net) c.args.states.now new _ (levels_with_out net ls id) rows (rows_with_out net rows id) s (sym out.0) (sym out.1)) c.take_out.ensures
+    (λ s. shows_as (levels net) c.args.states.now new _ (levels_with_out net ls id) rows (rows_with_out net rows id) s (sym out.0) (sym out.1)) c.take_out.ensures

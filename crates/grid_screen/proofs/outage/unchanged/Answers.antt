@@ -8,7 +8,7 @@ one_none (x ∷ xs) zero h = h 0
 one_none (x ∷ xs) (suc k) h = one_none xs k (λ j. h (suc j))
 
 pub loop-place-init : goal.loop-place-init
-loop-place-init c = (ap length c.new-changes.ensures.items, λ k. ap (λ z. get_or z k None) c.new-changes.ensures.items)
+loop-place-init c = (ap length c.in-Ok.ensures.items, λ k. ap (λ z. get_or z k None) c.in-Ok.ensures.items)
 
 pub loop-place-preserved : goal.loop-place-preserved
 loop-place-preserved c =

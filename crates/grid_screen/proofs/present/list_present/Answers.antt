@@ -8,7 +8,7 @@ use Rattle.grid_screen.proofs.present.list_present.Goals as goal
 
 pub loop-place-init : goal.loop-place-init
 unfolding sums_before places
-loop-place-init c = record { firsts = c.new-firsts.ensures.items; sums = c.new-sums.ensures.items }
+loop-place-init c = record { firsts = c.in_ok-firsts.ensures; sums = c.in_ok-sums.ensures }
 
 pub loop-place-preserved : goal.loop-place-preserved
 unfolding sums_before

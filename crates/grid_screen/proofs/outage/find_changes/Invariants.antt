@@ -1,7 +1,0 @@
-use Rattle.std.proofs.Common.{take}
-use Rattle.grid_structure.specs.Sites.{levels}
-use Rattle.grid_screen.specs.Steps.{Stands, levels_after, rows_after}
-use Rattle.grid_screen.proofs.outage.find_changes.Given as goal
-
-abbrev pub invariant-loop-id : goal.invariant-loop-id
-invariant-loop-id l = Stands l.powers.listed (levels l.structure) l.states l.changes.items (levels_after l.structure (take l.id-index l.ids) (levels l.structure)) (rows_after l.structure (take l.id-index l.ids) l.states)

@@ -1,9 +1,0 @@
-use Rattle.std.proofs.Common.{◌≡◌, map, take}
-use Rattle.std.specs.List.{enumerate_from}
-use Rattle.grid_structure.specs.Sites.{levels}
-use Rattle.grid_states.specs.Rows.{row_at}
-use Rattle.grid_screen.specs.Screened.{sums_of}
-use Rattle.grid_screen.proofs.screening.sum_levels.Given as goal
-
-abbrev pub invariant-loop-place : goal.invariant-loop-place
-invariant-loop-place l = l.sums ≡ map (λ at. sums_of l.powers.listed at.1 (row_at l.states at.0)) (take l.place (enumerate_from 0 (levels l.structure)))
