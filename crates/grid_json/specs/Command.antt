@@ -1,5 +1,5 @@
 -- Commands: the verb is read first, and it says which members there are.
-use Rattle.std.specs.Prelude.{ℕ, ℤ, pos, List, [], ◌∷◌, false, Result, Ok, Err, codes, ⊤}
+use Rattle.std.specs.Prelude.{ℕ, ℤ, pos, List, [], ◌∷◌, ◌++◌, map, false, Result, Ok, Err, codes, ⊤}
 use Rattle.serde_json.specs.Data.{Data}
 use Rattle.grid_structure.specs.declared.End.{End}
 use Rattle.grid_structure.specs.declared.Branch.{Branch}
@@ -26,15 +26,23 @@ use Rattle.grid_json.specs.Network.{two_at, three_at, end_at, item_names, item_a
 
 -- ---- verbs
 
-abbrev pub verb_words : List (List ℕ × Verb)
-verb_words =
+-- the words that ask for no edit
+abbrev pub plain_words : List (List ℕ × Verb)
+plain_words =
     (codes "use", verbs.Use) ∷ (codes "remove", verbs.Remove) ∷ (codes "open", verbs.Open) ∷ (codes "close", verbs.Close)
     ∷ (codes "retain", verbs.Retain) ∷ (codes "set_power", verbs.SetPower) ∷ (codes "totals", verbs.Totals) ∷ (codes "connect", verbs.Connect) ∷ (codes "disconnect", verbs.Disconnect)
     ∷ (codes "bus_breaker_view", verbs.BusBreakerView) ∷ (codes "bus_view", verbs.BusView) ∷ (codes "components", verbs.Components)
-    ∷ (codes "clone", verbs.Clone) ∷ (codes "add_substation", verbs.Change edit_verbs.AddSubstation) ∷ (codes "add_level", verbs.Change edit_verbs.AddLevel)
-    ∷ (codes "add_busbar", verbs.Change edit_verbs.AddBusbar) ∷ (codes "add_switch", verbs.Change edit_verbs.AddSwitch) ∷ (codes "remove_switch", verbs.Change edit_verbs.RemoveSwitch)
-    ∷ (codes "remove_equipment", verbs.Change edit_verbs.RemoveEquipment) ∷ (codes "add_internal", verbs.Change edit_verbs.AddInternal)
-    ∷ (codes "remove_internal", verbs.Change edit_verbs.RemoveInternal) ∷ (codes "add_injection", verbs.Change edit_verbs.AddInjection) ∷ (codes "add_branch", verbs.Change edit_verbs.AddBranch) ∷ []
+    ∷ (codes "clone", verbs.Clone) ∷ []
+
+abbrev pub edit_words : List (List ℕ × EditVerb)
+edit_words =
+    (codes "add_substation", edit_verbs.AddSubstation) ∷ (codes "add_level", edit_verbs.AddLevel) ∷ (codes "add_busbar", edit_verbs.AddBusbar)
+    ∷ (codes "add_switch", edit_verbs.AddSwitch) ∷ (codes "remove_switch", edit_verbs.RemoveSwitch) ∷ (codes "remove_equipment", edit_verbs.RemoveEquipment)
+    ∷ (codes "add_internal", edit_verbs.AddInternal) ∷ (codes "remove_internal", edit_verbs.RemoveInternal) ∷ (codes "add_injection", edit_verbs.AddInjection)
+    ∷ (codes "add_branch", edit_verbs.AddBranch) ∷ []
+
+abbrev pub verb_words : List (List ℕ × Verb)
+verb_words = plain_words ++ map (λ w. (w.0, verbs.Change w.1)) edit_words
 
 -- the word `retain` came with the second format, `set_power` and `totals` with the third
 abbrev pub known_verb : Format → Verb → Result Verb Fault

@@ -1,8 +1,8 @@
 // The commands of a script.
 ghost use Rattle.std.specs.Prelude.{◌≡◌, ◌∷◌, codes};
 ghost use Rattle.grid_value.specs.View.{view};
-ghost use Rattle.grid_json.specs.Reading.{Gives, texts, word_at};
-ghost use Rattle.grid_json.specs.Command.{known_verb, command_names, plain_names, branch_names, add_level_at, add_busbar_at, add_switch_at, add_internal_at, remove_internal_at, add_injection_at, shape_at, add_branch_at, clone_at, retain_at, set_power_at, edit_at, request_at, verb_words, line_of, two_windings_of, three_windings_of, named_at, sided_at};
+ghost use Rattle.grid_json.specs.Reading.{Gives, texts, or_fault, word_among, word_at};
+ghost use Rattle.grid_json.specs.Command.{known_verb, command_names, plain_names, branch_names, add_level_at, add_busbar_at, add_switch_at, add_internal_at, remove_internal_at, add_injection_at, shape_at, add_branch_at, clone_at, retain_at, set_power_at, edit_at, request_at, plain_words, edit_words, verb_words, line_of, two_windings_of, three_windings_of, named_at, sided_at};
 ghost use Rattle.grid_json.specs.Network.{item_names};
 
 use crate::ends::{Three, Two};
@@ -51,6 +51,47 @@ pub enum Verb {
     Change(EditVerb),
 }
 
+/// The verb of a word that asks for no edit.
+fn plain_verb(word: &str) -> Option<Verb>
+    ensures { or_fault Reason.Unknown result ≡ word_among plain_words word.now }
+{
+    match word {
+        "use" => Some(Verb::Use),
+        "remove" => Some(Verb::Remove),
+        "open" => Some(Verb::Open),
+        "close" => Some(Verb::Close),
+        "retain" => Some(Verb::Retain),
+        "set_power" => Some(Verb::SetPower),
+        "totals" => Some(Verb::Totals),
+        "connect" => Some(Verb::Connect),
+        "disconnect" => Some(Verb::Disconnect),
+        "bus_breaker_view" => Some(Verb::BusBreakerView),
+        "bus_view" => Some(Verb::BusView),
+        "components" => Some(Verb::Components),
+        "clone" => Some(Verb::Clone),
+        _ => None,
+    }
+}
+
+/// The edit that a word asks for.
+fn edit_verb(word: &str) -> Option<EditVerb>
+    ensures { or_fault Reason.Unknown result ≡ word_among edit_words word.now }
+{
+    match word {
+        "add_substation" => Some(EditVerb::AddSubstation),
+        "add_level" => Some(EditVerb::AddLevel),
+        "add_busbar" => Some(EditVerb::AddBusbar),
+        "add_switch" => Some(EditVerb::AddSwitch),
+        "remove_switch" => Some(EditVerb::RemoveSwitch),
+        "remove_equipment" => Some(EditVerb::RemoveEquipment),
+        "add_internal" => Some(EditVerb::AddInternal),
+        "remove_internal" => Some(EditVerb::RemoveInternal),
+        "add_injection" => Some(EditVerb::AddInjection),
+        "add_branch" => Some(EditVerb::AddBranch),
+        _ => None,
+    }
+}
+
 /// The verb of a word.
 fn verb_of(alloc: Global, value: &Value) -> Result<Verb, ReadError>
     ensures { Gives result (word_at verb_words (view value.now)) }
@@ -58,31 +99,12 @@ fn verb_of(alloc: Global, value: &Value) -> Result<Verb, ReadError>
     let Some(word) = value.as_str() else {
         return Err(ReadError::here(alloc, Reason::WrongKind));
     };
-    match word {
-        "use" => Ok(Verb::Use),
-        "remove" => Ok(Verb::Remove),
-        "open" => Ok(Verb::Open),
-        "close" => Ok(Verb::Close),
-        "retain" => Ok(Verb::Retain),
-        "set_power" => Ok(Verb::SetPower),
-        "totals" => Ok(Verb::Totals),
-        "connect" => Ok(Verb::Connect),
-        "disconnect" => Ok(Verb::Disconnect),
-        "bus_breaker_view" => Ok(Verb::BusBreakerView),
-        "bus_view" => Ok(Verb::BusView),
-        "components" => Ok(Verb::Components),
-        "clone" => Ok(Verb::Clone),
-        "add_substation" => Ok(Verb::Change(EditVerb::AddSubstation)),
-        "add_level" => Ok(Verb::Change(EditVerb::AddLevel)),
-        "add_busbar" => Ok(Verb::Change(EditVerb::AddBusbar)),
-        "add_switch" => Ok(Verb::Change(EditVerb::AddSwitch)),
-        "remove_switch" => Ok(Verb::Change(EditVerb::RemoveSwitch)),
-        "remove_equipment" => Ok(Verb::Change(EditVerb::RemoveEquipment)),
-        "add_internal" => Ok(Verb::Change(EditVerb::AddInternal)),
-        "remove_internal" => Ok(Verb::Change(EditVerb::RemoveInternal)),
-        "add_injection" => Ok(Verb::Change(EditVerb::AddInjection)),
-        "add_branch" => Ok(Verb::Change(EditVerb::AddBranch)),
-        _ => Err(ReadError::here(alloc, Reason::Unknown)),
+    if let Some(verb) = plain_verb(word) {
+        return Ok(verb);
+    }
+    match edit_verb(word) {
+        Some(edit) => Ok(Verb::Change(edit)),
+        None => Err(ReadError::here(alloc, Reason::Unknown)),
     }
 }
 
