@@ -5,18 +5,19 @@ ghost use Rattle.grid_bench.specs.Shown.{LookSame};
 use grid_busview::BusView;
 use grid_ids::{Same, same_items};
 use grid_level::{Level, Values};
+use grid_shared::Shared;
 
 /// A bus view with the watts that it was made of.
 #[derive(Drop)]
 pub(crate) struct Shown {
     /// The watts of each placed terminal, by rising node.
     pub(crate) powers: Values,
-    pub(crate) view: BusView,
+    pub(crate) view: Shared<BusView>,
 }
 
 impl Shown {
     /// The view, where it was made of these watts.
-    pub(crate) fn under(&self, powers: &[i64]) -> Option<&BusView>
+    pub(crate) fn under(&self, powers: &[i64]) -> Option<&Shared<BusView>>
         ensures view { IfSome result (λ view. view.now ≡ self.now.view) }
         ensures powers { IfSome result (λ _. self.now.powers ≡ powers.now) }
     {

@@ -72,7 +72,7 @@ fn is_part(
 {
     same_flags(opened, part.states.slice())
         && same_flags(retained, part.retained.slice())
-        && is_level(level, part.level.level(), known)
+        && is_level(level, part.level.get(), known)
         && same_watts(level.placed(), powers, part.powers.slice())
 }
 

@@ -6,9 +6,10 @@ ghost use Rattle.grid_structure.specs.Sites.{levels};
 ghost use Rattle.grid_requests.specs.Changes.{structure_after};
 ghost use Rattle.grid_board.specs.Copied.{AreCopies, copy_at, with_copy};
 
-use grid_bench::SharedLevel;
 use grid_core::Request;
 use grid_ids::{Duplicate, Memory};
+use grid_level::Level;
+use grid_shared::Shared;
 use grid_structure::Structure;
 use std::alloc::Global;
 use std::collections::BTreeMap;
@@ -18,7 +19,7 @@ use std::marker::Model;
 /// structure is not. It is seen as the list of the pairs of a place and the level there, by rising place.
 #[derive(Drop)]
 pub(crate) struct Copies {
-    levels: BTreeMap<u32, SharedLevel>,
+    levels: BTreeMap<u32, Shared<Level>>,
 }
 
 impl Model for Copies {
@@ -40,14 +41,14 @@ impl Copies {
     }
 
     // The copy that is kept of a place; None exactly where none is.
-    fn find(&self, place: u32) -> Option<&SharedLevel>
+    fn find(&self, place: u32) -> Option<&Shared<Level>>
         ensures { option_copied result ≡ copy_at self.now place }
     {
         self.levels.get(&place)
     }
 
     // Keeps a level under its place.
-    fn keep(&mut self, place: u32, level: SharedLevel) -> Result<(), Memory>
+    fn keep(&mut self, place: u32, level: Shared<Level>) -> Result<(), Memory>
         ensures ok { OnOk result (self.new ≡ with_copy place level self.old) }
         ensures err { OnErr result (self.new ≡ self.old) }
     {
@@ -64,7 +65,7 @@ impl Copies {
         alloc: Global,
         structure: &Structure,
         place: u32,
-    ) -> Result<SharedLevel, Memory>
+    ) -> Result<Shared<Level>, Memory>
         requires place { place < length (levels structure.now) }
         requires copies { AreCopies structure.now self.old }
         ensures level { IfOk result (λ level. slice_get (levels structure.now) place ≡ Some level) }
@@ -73,7 +74,7 @@ impl Copies {
         if let Some(level) = self.find(place) {
             return level.copy();
         }
-        let level = SharedLevel::new(alloc, structure.level(place).copy()?)?;
+        let level = Shared::new(alloc, structure.level(place).copy()?)?;
         self.keep(place, level.copy()?)?;
         Ok(level)
     }

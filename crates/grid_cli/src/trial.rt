@@ -9,11 +9,13 @@ ghost use Rattle.grid_cli.specs.Trials.{is_updated, trial_head, trial_of, trial_
 
 use crate::counts::{count_commands, put_counted};
 use crate::running::run_job;
+use grid_busview::BusView;
 use grid_core::Entry;
 use grid_events::Event;
 use grid_ids::Memory;
 use grid_make::make_job;
-use grid_report::{ReportFault, SharedView, Shown, Text, VariantView, write_blocks};
+use grid_report::{ReportFault, Shown, Text, VariantView, write_blocks};
+use grid_shared::Shared;
 use grid_source::Sink;
 use std::alloc::Global;
 
@@ -85,14 +87,14 @@ fn count_operated(journal: &[Entry]) -> u128
 }
 
 /// How many buses the views of a variant have.
-fn count_view_buses(views: &[SharedView]) -> u128
+fn count_view_buses(views: &[Shared<BusView>]) -> u128
     requires { length views.now < 2 ^ 32 }
     ensures total { result ≡ sum_by (λ view. length view.buses) views.now }
     ensures few { result ≤ 2 ^ 32 * 2 ^ 64 }
 {
     let mut total = 0;
     for view in views {
-        total += view.view().buses.len() as u128;
+        total += view.get().buses.len() as u128;
     }
     total
 }

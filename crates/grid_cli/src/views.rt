@@ -7,11 +7,13 @@ ghost use Rattle.grid_core.specs.Replies as replies;
 ghost use Rattle.grid_report.specs.Histories.{variant_view, variant_views};
 ghost use Rattle.grid_cli.specs.Views.{IsShown, IsStanding, IsAlike};
 
+use grid_busview::BusView;
 use grid_core::World;
 use grid_ids::{Duplicate, Id, Memory, Seq, same_items};
 use grid_level::{Level, Placed};
 use grid_powers::Powers;
-use grid_report::{BusViews, SharedView, VariantView, VariantViews};
+use grid_report::{BusViews, VariantView, VariantViews};
+use grid_shared::Shared;
 use grid_states::States;
 use grid_watts::watts_at;
 use std::alloc::Global;
@@ -73,7 +75,7 @@ fn level_view(
     earlier: &VariantView,
     other: Standing<'_>,
     place: u32,
-) -> Result<SharedView, Memory>
+) -> Result<Shared<BusView>, Memory>
     requires own { IsStanding world.now name.now own.opened.now own.powers.now.listed }
     requires other { IsStanding world.now earlier.now.name other.opened.now
         other.powers.now.listed }
@@ -86,7 +88,7 @@ fn level_view(
         return earlier.views.slice()[place as usize].copy();
     }
     let view = world.view(name, place)?;
-    SharedView::new(alloc, view)
+    Shared::new(alloc, view)
 }
 
 /// The view of each level in a live variant, by place, beside those of an earlier one.
@@ -122,7 +124,7 @@ fn level_views(alloc: Global, world: &World, name: &Id) -> Result<BusViews, Memo
     let mut views = Seq::empty(alloc);
     for level in 0..world.level_count() {
         let made = world.view(name, level)?;
-        let view = SharedView::new(alloc, made)?;
+        let view = Shared::new(alloc, made)?;
         views.push(view)?;
     }
     Ok(views)

@@ -7,10 +7,12 @@ ghost use Rattle.grid_report.specs.Events.{event_line};
 ghost use Rattle.grid_report.specs.Outcomes.{numbered, step_text, steps_by, worker_text, variant_text, heard_in, listener_text, report_of};
 ghost use Rattle.grid_report.specs.Cursors.{Gives};
 
-use crate::outcome::{Outcome, SharedView, VariantView};
+use crate::outcome::{Outcome, VariantView};
 use crate::plan::Block;
+use grid_busview::BusView;
 use grid_core::Entry;
 use grid_events::{Event, Filter};
+use grid_shared::Shared;
 use std::marker::Model;
 
 // ---- workers
@@ -131,7 +133,7 @@ impl<'a> Workers<'a> {
 // The rest of a variant's levels, and of the variants.
 #[derive(Drop)]
 struct Variants<'a> {
-    levels: &'a [SharedView],
+    levels: &'a [Shared<BusView>],
     variants: &'a [VariantView],
 }
 
@@ -163,7 +165,7 @@ impl<'a> Variants<'a> {
         ensures { Gives self.old result self.new }
     {
         if let Some(view) = self.levels.split_off_first() {
-            return Some(Block::Level(view.view()));
+            return Some(Block::Level(view.get()));
         }
         let variant = self.variants.split_off_first()?;
         self.levels = variant.views.slice();

@@ -17,7 +17,7 @@ mod text;
 
 pub use bus::{put_bus_name, put_flows, put_terminals};
 pub use command::put_command;
-pub use outcome::{BusViews, Outcome, SharedView, VariantView, VariantViews};
+pub use outcome::{BusViews, Outcome, VariantView, VariantViews};
 pub use parallel::write_report_on_threads;
 pub use pieces::{Pieces, ReportFault};
 pub use plan::{put_order, put_variant, put_worker};

@@ -37,6 +37,9 @@ pub(crate) enum Block<'a> {
 /// What the view of a level weighs.
 const VIEW: usize = 256;
 
+/// About how many ids are as long as a short line.
+const PER_LINE: usize = 4;
+
 impl Block<'_> {
     /// About how many short lines the block's text is as long as. No contract speaks of it: it decides which blocks are
     /// made at once.
@@ -52,8 +55,9 @@ impl Block<'_> {
 // About how many short lines a step's text is as long as.
 fn weight_of(reply: &Reply) -> usize {
     match reply {
+        Reply::Closed(ids) | Reply::Opened(ids) => 1 + ids.get().len() / PER_LINE,
         Reply::BusBreaker(_) | Reply::Bus(_) => VIEW,
-        Reply::Components(buses) => buses.len(),
+        Reply::Components(buses) => buses.get().len(),
         _ => 1,
     }
 }

@@ -98,15 +98,15 @@ pub(crate) fn put_answer(out: &mut Text, reply: &Reply) -> Result<(), Memory>
     match reply {
         Reply::Done => out.put("done"),
         Reply::Unchanged => out.put("unchanged"),
-        Reply::Closed(ids) => put_operated(out, "closed ", ids.slice()),
+        Reply::Closed(ids) => put_operated(out, "closed ", ids.get().slice()),
         Reply::AlreadyConnected => out.put("already connected"),
         Reply::NoPath => out.put("no path"),
-        Reply::Opened(ids) => put_operated(out, "opened ", ids.slice()),
+        Reply::Opened(ids) => put_operated(out, "opened ", ids.get().slice()),
         Reply::AlreadyDisconnected => out.put("already disconnected"),
         Reply::NoBreaker(terminal) => put_named(out, "no breaker before ", &terminal.equipment),
-        Reply::BusBreaker(view) => put_counts(out, view),
-        Reply::Bus(view) => put_count(out, view),
-        Reply::Components(buses) => put_bus_count(out, buses.slice()),
+        Reply::BusBreaker(view) => put_counts(out, view.get()),
+        Reply::Bus(view) => put_count(out, view.get()),
+        Reply::Components(buses) => put_bus_count(out, buses.get().slice()),
         Reply::Totals { load, generation } => put_totals(out, load, generation),
         Reply::Created => out.put("created"),
         Reply::Overwritten => out.put("overwritten"),
@@ -241,9 +241,9 @@ pub(crate) fn put_details(out: &mut Text, request: &Request, reply: &Reply) -> R
     ensures err { OnErr result (out.new ≡ []) }
 {
     match reply {
-        Reply::BusBreaker(view) => put_breaker_lines(out, view),
-        Reply::Bus(view) => put_buses(out, view),
-        Reply::Components(buses) => put_asked(out, request, buses.slice()),
+        Reply::BusBreaker(view) => put_breaker_lines(out, view.get()),
+        Reply::Bus(view) => put_buses(out, view.get()),
+        Reply::Components(buses) => put_asked(out, request, buses.get().slice()),
         _ => Ok(()),
     }
 }

@@ -5,9 +5,11 @@ ghost use Rattle.grid_bench.specs.Contents.{content};
 ghost use Rattle.grid_bench.specs.Stores.{kept_for};
 
 use crate::networks::{DUO, read};
-use grid_bench::{Bench, SharedLevel};
+use grid_bench::Bench;
 use grid_ids::{Duplicate, Id, Memory};
+use grid_level::Level;
 use grid_queue::Counts;
+use grid_shared::Shared;
 use grid_structure::Structure;
 use std::alloc::Global;
 use std::marker::Brand;
@@ -22,18 +24,18 @@ const PARTED: [bool; 5] = [false, true, false, true, false];
 const RETAINED: [bool; 5] = [false, false, false, true, false];
 
 /// The first level of a network.
-fn first_level(alloc: Global, network: &Structure) -> Result<Option<SharedLevel>, Fail> {
+fn first_level(alloc: Global, network: &Structure) -> Result<Option<Shared<Level>>, Fail> {
     if network.level_count() == 0 {
         return Ok(None);
     }
     let level = network.level(0).copy()?;
-    Ok(Some(SharedLevel::new(alloc, level)?))
+    Ok(Some(Shared::new(alloc, level)?))
 }
 
 /// A bench that keeps the level with its coupler closed.
 fn closed_bench<L: Ledger, W: Ledger>(
     alloc: Global,
-    level: &SharedLevel,
+    level: &Shared<Level>,
     counts: &mut Counts<L, W>,
 ) -> Result<Bench, Memory>
     requires { length level.now.switches ≡ 5 }
@@ -48,7 +50,7 @@ fn closed_bench<L: Ledger, W: Ledger>(
 /// The same level with the same flags again costs no visit and no write.
 fn refresh_again<L: Ledger, W: Ledger>(
     bench: &mut Bench,
-    level: &SharedLevel,
+    level: &Shared<Level>,
     counts: &mut Counts<L, W>,
 ) -> Result<(), Memory>
     requires switches { length level.now.switches ≡ 5 }
@@ -64,7 +66,7 @@ fn refresh_again<L: Ledger, W: Ledger>(
 /// The coupler opens: under either rule all nodes are touched at most.
 fn open_coupler<L: Ledger, W: Ledger>(
     bench: &mut Bench,
-    level: &SharedLevel,
+    level: &Shared<Level>,
     counts: &mut Counts<L, W>,
 ) -> Result<(), Memory>
     requires switches { length level.now.switches ≡ 5 }
@@ -80,7 +82,7 @@ fn open_coupler<L: Ledger, W: Ledger>(
 fn follow_coupler<L: Ledger, W: Ledger>(
     rt: &impl Abort,
     alloc: Global,
-    level: SharedLevel,
+    level: Shared<Level>,
     visits: Blank,
     writes: Blank,
 ) -> Result<Bench, Fail>
@@ -92,8 +94,8 @@ fn follow_coupler<L: Ledger, W: Ledger>(
     requires writes_some { 0 < writes.parts }
 {
     let mut counts: Counts<L, W> = Counts::begin(visits, writes);
-    assert_eq!(rt; level.level().switch_count(), 5);
-    assert_eq!(rt; level.level().node_count(), 6);
+    assert_eq!(rt; level.get().switch_count(), 5);
+    assert_eq!(rt; level.get().node_count(), 6);
     let mut bench = closed_bench(alloc, &level, &mut counts)?;
     refresh_again(&mut bench, &level, &mut counts)?;
     open_coupler(&mut bench, &level, &mut counts)?;

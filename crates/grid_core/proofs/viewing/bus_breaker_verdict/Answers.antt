@@ -33,5 +33,5 @@ returns c powers v =
     let state = state_seen c.args.structure.now c.args.opened.now c.args.retained.now powers in
     let level = c.level.result.now in
     subst (λ (z : BusBreakerView). IsVerdict state v (requests.BusBreakerView c.args.id.now) (verdicts.Stays (replies.BusBreaker z)))
-    (sym (c.in_ok-view.ensures ∙ ap (λ (row : List Bool). bus_breaker_view_of (stood level row c.row-2.result.now)) c.row.ensures ∙ ap (λ (row : List Bool). bus_breaker_view_of (stood level (row_at state.opened c.in-Some.place) row)) c.row-2.ensures))
+    (sym (c.in_ok-shared.ensures ∙ c.in_ok-view.ensures ∙ ap (λ (row : List Bool). bus_breaker_view_of (stood level row c.row-2.result.now)) c.row.ensures ∙ ap (λ (row : List Bool). bus_breaker_view_of (stood level (row_at state.opened c.in-Some.place) row)) c.row-2.ensures))
     (bus_breaker_is state c.args.id.now c.in-Some.place level (sym c.in-Some.ensures.place) c.level.ensures v)

@@ -32,5 +32,5 @@ returns c retained v =
     let state = state_seen c.args.structure.now c.args.opened.now retained c.args.powers.now.listed in
     let level = c.level-level.result.now in
     subst (λ (z : BusView). IsVerdict state v (requests.BusView c.args.id.now) (verdicts.Stays (replies.Bus z)))
-    (sym (c.in_ok-view.ensures ∙ ap (bus_view_of (positioned level c.row.result.now)) (c.slice.ensures ∙ c.in_ok-watts.ensures) ∙ ap (λ (row : List Bool). bus_view_of (positioned level row) (level_watts c.args.powers.now.listed level)) c.row.ensures))
+    (sym (c.in_ok-shared.ensures ∙ c.in_ok-view.ensures ∙ ap (bus_view_of (positioned level c.row.result.now)) (c.slice.ensures ∙ c.in_ok-watts.ensures) ∙ ap (λ (row : List Bool). bus_view_of (positioned level row) (level_watts c.args.powers.now.listed level)) c.row.ensures))
     (bus_is state c.args.id.now c.in-Some.place level (sym c.in-Some.ensures.place) c.level-level.ensures v)

@@ -1,4 +1,4 @@
-use Rattle.std.proofs.Common.{sym, subst, List}
+use Rattle.std.proofs.Common.{sym, ◌∙◌, subst, List}
 use Rattle.grid_islands.specs.declared.BusComponent.{BusComponent}
 use Rattle.grid_requests.specs.declared.request.Request.TheVariants as requests
 use Rattle.grid_islands.proofs.Assembling.{level_exists}
@@ -25,5 +25,5 @@ unfolding level_at
 returns-clause-found c retained powers v =
     let state = state_seen c.args.structure.now c.args.opened.now retained powers in
     let level = level_exists c.args.structure.now c.in-Some.place c.in-Some.ensures.below in
-    subst (λ (z : List BusComponent). IsVerdict state v (requests.Components c.args.id.now) (verdicts.Stays (replies.Components z))) (sym (c.in_ok-list.ensures.list retained))
+    subst (λ (z : List BusComponent). IsVerdict state v (requests.Components c.args.id.now) (verdicts.Stays (replies.Components z))) (sym (c.in_ok-shared.ensures ∙ c.in_ok-list.ensures.list retained))
     (components_is state c.args.id.now c.in-Some.place level.0 (sym c.in-Some.ensures.place) level.1 v)

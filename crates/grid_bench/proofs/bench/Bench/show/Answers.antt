@@ -1,6 +1,6 @@
-use Rattle.std.proofs.Common.{◌≡◌, sym, ap, ◌∙◌, subst, Some, None}
+use Rattle.std.proofs.Common.{◌≡◌, refl, sym, ap, ◌∙◌, subst, Some, None}
 use Rattle.std.proofs.lemmas.List.{set-get_or}
-use Rattle.std.specs.Prelude.{slice_set}
+use Rattle.std.specs.Prelude.{slice_set, IsSome}
 use Rattle.grid_bench.specs.Stores.{Store, store, kept_for, IsStore}
 use Rattle.grid_bench.proofs.Storing.{found}
 use Rattle.grid_bench.proofs.bench.Bench.show.Goals as goal
@@ -12,6 +12,11 @@ kept_is c =
     sym (ap (λ z. kept_for z c.args.level.now) c.self.view_is)
     ∙ found (store c.self.inside.keys.entries c.self.inside.kept.slots) c.args.level.now c.in-Some.key.now (sym c.in-Some.ensures.value)
     ∙ c.index_mut.ensures.value
+
+pub index_mut-requires : goal.index_mut-requires
+index_mut-requires c =
+    let at = c.self.invariant c.args.level.now c.in-Some.key.now (sym c.in-Some.ensures.value) in
+    subst IsSome (sym at.1) refl
 
 pub show-requires : goal.show-requires
 show-requires c = c.requires c.index_mut.result.now (kept_is (goal.at.show-requires c).After-index_mut)

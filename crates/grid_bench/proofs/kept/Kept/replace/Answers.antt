@@ -20,5 +20,5 @@ invariant_of-self c =
     let same = subst P (sym c.self.view_is) c.requires in
     kept_as k.level c.args.level k.opened.items k.retained.items k.nets.bus k.nets.breaker k.shown c.keep_where.new.shown same
     (shown_as k.level c.args.level k.opened.items k.retained.items k.shown c.keep_where.new.shown c.shows_same-stays.result c.self.invariant.fits.opened same
-    (look_as k.level c.args.level c.level.result.now c.level-2.result.now c.shows_same-stays.result c.level.ensures c.level-2.ensures c.shows_same-stays.ensures) c.keep_where.ensures c.self.invariant.view)
+    (look_as k.level c.args.level c.get.result.now c.get-2.result.now c.shows_same-stays.result c.get.ensures c.get-2.ensures c.shows_same-stays.ensures) c.keep_where.ensures c.self.invariant.view)
     c.self.invariant

@@ -1,0 +1,9 @@
+//! Values that several owners read.
+#![tactic(auto)]
+
+mod shared;
+
+pub use shared::Shared;
+
+#[cfg(test)]
+mod tests;
