@@ -6,15 +6,15 @@ use Rattle.grid_requests.specs.Changes.{structure_after}
 use Rattle.grid_requests.specs.declared.request.Request.{Request}
 use Rattle.grid_requests.specs.declared.request.Request.TheVariants as requests
 use Rattle.grid_core.specs.declared.machine.Machine.{Machine}
-use Rattle.grid_core.specs.declared.machine.Entered.{Entered}
+use Rattle.grid_core.specs.declared.machine.Made.{Made}
 use Rattle.grid_core.specs.History.{Command, structure}
-use Rattle.grid_core.specs.Machines.{Held, Enters}
+use Rattle.grid_core.specs.Machines.{Held, Steps}
 use Rattle.grid_core.specs.Verdicts.{asks}
 
-pub structure_next : (origin : Network) (before : List Command) (old new : Machine) (worker : ℕ) (request : Request) (entered : Entered) → Held origin before old → Enters old new worker request entered → new.structure ≡ structure_after old.structure request
+pub structure_next : (origin : Network) (before : List Command) (old new : Machine) (worker : ℕ) (request : Request) (made : Made) → Held origin before old → Steps old new worker request made → new.structure ≡ structure_after old.structure request
 unfolding structure
-structure_next origin before old new worker request entered held enters =
-    (enters origin before held).held.parts.structure_is ∙ ap (λ (n : Network). structure_after n request) (sym held.parts.structure_is)
+structure_next origin before old new worker request made held steps =
+    (steps origin before held).held.parts.structure_is ∙ ap (λ (n : Network). structure_after n request) (sym held.parts.structure_is)
 
 -- who asks changes no structure
 pub asks_leaves : (net : Network) (request : Request) → asks request ≡ true → structure_after net request ≡ net

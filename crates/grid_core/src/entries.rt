@@ -4,8 +4,8 @@ ghost use Rattle.std.specs.Vec.{vec_len, vec_capacity};
 ghost use Rattle.grid_core.specs.Journals.{entry_made};
 ghost use Rattle.grid_core.specs.Machines.{WorksOn};
 
-use crate::machine::{Entered, Machine};
-use crate::{Entry, EventList, Reply, Request};
+use crate::machine::{Machine, Made};
+use crate::{Entry, Reply, Request};
 use grid_ids::{Duplicate, Id, Memory, Same};
 
 /// What an entry of the journal has before its step.
@@ -43,72 +43,59 @@ fn near(journal: &[Entry]) -> &[Entry] {
     &journal[journal.len().saturating_sub(NEAR)..]
 }
 
-// The equal reply of one of the last entries.
-fn near_reply(journal: &[Entry], reply: &Reply) -> Option<Reply>
-    ensures { IfSome result (λ equal. equal ≡ reply.now) }
+/// A part of an entry whose copies share what is long in it.
+pub(crate) trait Part: Duplicate + Same + Drop {
+    /// The part of an entry.
+    fn of(entry: &Entry) -> &Self;
+
+    /// Whether its copies share anything.
+    fn is_shared(&self) -> bool;
+}
+
+// The part, shared with one of the last entries where that has an equal one.
+fn share<P: Part>(journal: &[Entry], part: P) -> P
+    ensures { result ≡ part }
 {
-    for entry in near(journal) {
-        if entry.reply.same(reply) {
-            return entry.reply.copy().ok();
+    if !part.is_shared() {
+        return part;
+    }
+    match near_equal(journal, &part) {
+        Some(equal) => equal,
+        None => part,
+    }
+}
+
+// The equal part of one of the last entries.
+fn near_equal<P: Part>(journal: &[Entry], part: &P) -> Option<P>
+    ensures { IfSome result (λ equal. equal ≡ part.now) }
+{
+    for entry in near(journal).iter().rev() {
+        let near = P::of(entry);
+        if near.same(part) {
+            return near.copy().ok();
         }
     }
     None
 }
 
-// The equal events of one of the last entries.
-fn near_events(journal: &[Entry], events: &EventList) -> Option<EventList>
-    ensures { IfSome result (λ equal. equal ≡ events.now) }
-{
-    for entry in near(journal) {
-        if entry.events.same(events) {
-            return entry.events.copy().ok();
-        }
-    }
-    None
-}
-
-// The reply, shared with one of the last entries where that has an equal one.
-fn share_reply(journal: &[Entry], reply: Reply) -> Reply
-    ensures { result ≡ reply }
-{
-    if !reply.is_shared() {
-        return reply;
-    }
-    match near_reply(journal, &reply) {
-        Some(equal) => equal,
-        None => reply,
-    }
-}
-
-// The events, shared likewise.
-fn share_events(journal: &[Entry], events: EventList) -> EventList
-    ensures { result ≡ events }
-{
-    if !events.is_shared() {
-        return events;
-    }
-    match near_events(journal, &events) {
-        Some(equal) => equal,
-        None => events,
-    }
-}
-
-/// Puts the entry of a step that was made last, without memory. What is long in it is shared with one of the last entries
-/// where that has the same.
-pub(crate) fn enter(journal: &mut Vec<Entry>, worker: u32, begun: Begun, entered: Entered)
+/// Puts the entry of a step that was made last, without memory, and hands its reply out. What is long in the entry is shared
+/// with one of the last entries where that has the same.
+pub(crate) fn enter(journal: &mut Vec<Entry>, worker: u32, begun: Begun, made: Made) -> Reply
     requires { vec_len journal.old < vec_capacity journal.old }
-    ensures { journal.new.items
-        ≡ journal.old.items ++ entry_made worker begun.variant begun.asked entered ∷ [] }
+    ensures reply { result ≡ made.reply }
+    ensures entered { journal.new.items
+        ≡ journal.old.items ++ entry_made worker begun.variant begun.asked made ∷ [] }
 {
     let Begun { variant, asked } = begun;
-    let (reply, events) = entered.into_parts();
-    let reply = share_reply(journal.as_slice(), reply);
-    let events = share_events(journal.as_slice(), events);
+    let (reply, kept, events) = made.into_parts();
+    let kept = share(journal.as_slice(), kept);
+    let events = share(journal.as_slice(), events);
     journal.push_reserved(Entry {
         worker,
         variant,
         request: asked,
-        reply,
+        reply: kept,
         events,
     });
+    reply
 }

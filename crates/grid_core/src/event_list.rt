@@ -2,6 +2,8 @@
 ghost use Rattle.std.specs.Prelude.{◌≡◌, IfOk};
 ghost use Rattle.std.proofs.Common.{rules};
 
+use crate::Entry;
+use crate::entries::Part;
 use grid_events::{Event, Events};
 use grid_ids::{Duplicate, Memory, Same, same_items};
 use grid_shared::Shared;
@@ -64,11 +66,6 @@ impl EventList {
         })
     }
 
-    /// Whether its copies share it.
-    pub(crate) fn is_shared(&self) -> bool {
-        matches!(&self.held, Held::Shared(_))
-    }
-
     /// The same events as a slice, without memory.
     pub fn slice(&self) -> &[Event]
         ensures { result.now ≡ self.now }
@@ -92,8 +89,8 @@ impl Clone for EventList {
     }
 }
 
-// An equal value.
-fn clone_item<T: Duplicate>(item: &T) -> Result<T, AllocError>
+/// An equal value.
+pub(crate) fn clone_item<T: Duplicate>(item: &T) -> Result<T, AllocError>
     ensures { IfOk result (λ copy. copy ≡ item.now) }
 {
     item.clone()
@@ -106,5 +103,15 @@ impl Duplicate for EventList {
 impl Same for EventList {
     fn same(&self, other: &EventList) -> bool {
         same_items(self.slice(), other.slice())
+    }
+}
+
+impl Part for EventList {
+    fn of(entry: &Entry) -> &EventList {
+        &entry.events
+    }
+
+    fn is_shared(&self) -> bool {
+        matches!(&self.held, Held::Shared(_))
     }
 }
