@@ -20,8 +20,9 @@ use Rattle.grid_json.specs.declared.job.JobDraft.{JobDraft}
 use Rattle.grid_json.specs.declared.network.NetworkDraft.{NetworkDraft}
 use Rattle.grid_json.specs.declared.whole.Job.{Job}
 use Rattle.grid_json.specs.declared.whole.JobFault.{JobFault}
-use Rattle.grid_json.specs.Reading.{◌>>=◌, or_fault, here, under, items_at, items_len, array_at, present, member_at, member_or, present_or, optional_at, only_at, some_of, whole_at}
+use Rattle.grid_json.specs.Reading.{◌>>=◌, or_fault, here, under, items_at, array_at, present, member_at, member_or, present_or, optional_at, only_at, some_of, whole_at}
 use Rattle.grid_value.specs.Bytes.{reading}
+use Rattle.grid_value.specs.View.{items_len}
 use Rattle.grid_json.specs.Network.{network_at}
 use Rattle.grid_json.specs.Command.{command_at}
 use Rattle.grid_json.specs.Loading.{network_load}

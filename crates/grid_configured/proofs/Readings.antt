@@ -15,7 +15,8 @@ use Rattle.grid_json.specs.declared.format.Format.TheVariants.{Four}
 use Rattle.grid_json.specs.Job.{command_total, counted_scripts, few_at, is_order, max_commands, max_workers, natural_of, order_at, ordered}
 use Rattle.grid_json.specs.Kinds.{injection_kind_at}
 use Rattle.grid_json.specs.Network.{both, item_at, two_at, two_of}
-use Rattle.grid_json.specs.Reading.{◌>>=◌, array_at, flag_at, here, id_at, items_at, items_len, member_at, member_or, object_at, only_at, optional_at, or_fault, present, some_of, under, whole_at, word_at}
+use Rattle.grid_value.specs.View.{items_len}
+use Rattle.grid_json.specs.Reading.{◌>>=◌, array_at, flag_at, here, id_at, items_at, member_at, member_or, object_at, only_at, optional_at, or_fault, present, some_of, under, whole_at, word_at}
 use Rattle.grid_json.proofs.Results.{all_counted, bound, either_read, inside, member_read, some_read}
 use Rattle.grid_configured.specs.declared.commands.Verb.{Verb}
 use Rattle.grid_configured.specs.declared.commands.Verb.TheVariants as verbs

@@ -1,7 +1,7 @@
 // Members and lists by ways of reading them.
 ghost use Rattle.std.specs.Prelude.{◌≡◌, Result, IfOk, length};
 ghost use Rattle.serde_json.specs.Data.{Data};
-ghost use Rattle.grid_value.specs.View.{view, items_view};
+ghost use Rattle.grid_value.specs.View.{view, items_view, items_len};
 ghost use Rattle.grid_json.specs.declared.fault.Fault.{Fault as FaultAt};
 ghost use Rattle.grid_json.specs.Reading.{Gives, member_at, array_at, items_at};
 ghost use Rattle.grid_configured.specs.Jobs.{plain_at};
@@ -9,7 +9,7 @@ ghost use Rattle.grid_configured.specs.Jobs.{plain_at};
 use crate::plain::read_plain;
 use grid_ids::{Id, Ids, Seq};
 use grid_json::{ReadError, Reason};
-use grid_value::Value;
+use grid_value::{Items, Value};
 use std::alloc::Global;
 
 /// A way of reading a JSON value.
@@ -34,7 +34,7 @@ pub(crate) fn read_member<R: Reader>(
 {
     match value.get(name) {
         None => Err(ReadError::here(alloc, Reason::Missing).under(alloc, name)),
-        Some(found) => match R::read(alloc, found) {
+        Some(found) => match R::read(alloc, &found) {
             Ok(read) => Ok(read),
             Err(e) => Err(e.under(alloc, name)),
         },
@@ -44,16 +44,17 @@ pub(crate) fn read_member<R: Reader>(
 /// Each item, under its position.
 pub(crate) fn read_each<R: Reader>(
     alloc: Global,
-    items: &[Value],
+    items: &Items,
 ) -> Result<Seq<R::Item>, ReadError>
     ensures items { Gives result (items_at R.reads 0 (items_view items.now)) }
-    ensures count { IfOk result (λ list. length list ≡ length items.now) }
+    ensures count { IfOk result (λ list. length list ≡ items_len (items_view items.now)) }
 {
     let mut list = Seq::empty(alloc);
-    for (i, item) in items.iter().enumerate() {
-        match R::read(alloc, item) {
+    let mut left = *items;
+    while let Some(item) = left.next() {
+        match R::read(alloc, &item) {
             Ok(read) => list.push(read)?,
-            Err(e) => return Err(e.under_position(alloc, i)),
+            Err(e) => return Err(e.under_position(alloc, list.len())),
         }
     }
     Ok(list)
@@ -65,7 +66,7 @@ pub(crate) fn read_array<R: Reader>(alloc: Global, value: &Value) -> Result<Seq<
 {
     match value.as_array() {
         None => Err(ReadError::here(alloc, Reason::WrongKind)),
-        Some(items) => read_each::<R>(alloc, items.as_slice()),
+        Some(items) => read_each::<R>(alloc, &items),
     }
 }
 

@@ -17,7 +17,7 @@ use grid_json::{
     Format, FromJson, JobFault, MOST_WORKERS, ReadError, Reason, are_too_many, member, only,
     optional_order,
 };
-use grid_value::{ByteFault, Scratch, Value};
+use grid_value::{ByteFault, Scratch, Tree, Value};
 use std::alloc::Global;
 
 /// Reads the format of a job, which must be the first.
@@ -38,7 +38,6 @@ impl Reader for FirstFormat {
 }
 
 // The scripts of all workers; their number is looked at before them.
-#[tactic(auto, using(grid_json::proofs::Items::items_len_is))]
 fn read_few(alloc: Global, value: &Value) -> Result<Scripts, ReadError>
     ensures scripts { Gives result (few_at max_workers Reason.TooManyWorkers (array_at command_at)
         (view value.now)) }
@@ -47,10 +46,10 @@ fn read_few(alloc: Global, value: &Value) -> Result<Scripts, ReadError>
     let Some(items) = value.as_array() else {
         return Err(ReadError::here(alloc, Reason::WrongKind));
     };
-    if items.len() > MOST_WORKERS {
+    if items.are_above(MOST_WORKERS) {
         return Err(ReadError::here(alloc, Reason::TooManyWorkers));
     }
-    read_each::<Commands>(alloc, items.as_slice())
+    read_each::<Commands>(alloc, &items)
 }
 
 // The scripts of all workers, which together have few commands.
@@ -76,7 +75,7 @@ fn scripts_of(alloc: Global, value: &Value) -> Result<Scripts, ReadError>
 {
     match value.get("workers") {
         None => Ok(Scripts::empty(alloc)),
-        Some(found) => match read_workers(alloc, found) {
+        Some(found) => match read_workers(alloc, &found) {
             Ok(scripts) => Ok(scripts),
             Err(e) => Err(e.under(alloc, "workers")),
         },
@@ -137,12 +136,12 @@ pub fn read_configured(alloc: Global, bytes: &[u8]) -> Result<ConfiguredJob, Job
     ensures total { IfOk result (λ job. command_total job.scripts ≤ max_commands) }
 {
     let mut scratch = Scratch::new(alloc);
-    let value = match Value::from_slice(alloc, bytes, &mut scratch) {
-        Ok(value) => value,
+    let tree = match Tree::from_slice(alloc, bytes, &mut scratch) {
+        Ok(tree) => tree,
         Err(ByteFault::NotJson) => return Err(JobFault::BadJson),
         Err(ByteFault::Memory) => return Err(JobFault::Memory),
     };
-    match read_root(alloc, &value) {
+    match read_root(alloc, &tree.root()) {
         Ok(job) => Ok(job),
         Err(ReadError::Memory) => Err(JobFault::Memory),
         Err(ReadError::Fault(fault)) => Err(JobFault::BadJob {

@@ -11,7 +11,7 @@ use crate::checks::check_lines;
 use crate::{HvdcJob, HvdcLine, HvdcLines};
 use grid_json::{Format, FromJson, JobFault, ReadError, job_member, member, only};
 use grid_structure::Structure;
-use grid_value::{ByteFault, Scratch, Value};
+use grid_value::{ByteFault, Scratch, Tree, Value};
 use std::alloc::Global;
 
 impl FromJson for HvdcLine {
@@ -67,12 +67,12 @@ pub fn read_hvdc(alloc: Global, bytes: &[u8]) -> Result<HvdcJob, JobFault>
     ensures total { IfOk result (λ hvdc. command_total hvdc.job.scripts ≤ max_commands) }
 {
     let mut scratch = Scratch::new(alloc);
-    let value = match Value::from_slice(alloc, bytes, &mut scratch) {
-        Ok(value) => value,
+    let tree = match Tree::from_slice(alloc, bytes, &mut scratch) {
+        Ok(tree) => tree,
         Err(ByteFault::NotJson) => return Err(JobFault::BadJson),
         Err(ByteFault::Memory) => return Err(JobFault::Memory),
     };
-    match read_root(alloc, &value) {
+    match read_root(alloc, &tree.root()) {
         Ok(hvdc) => Ok(hvdc),
         Err(ReadError::Memory) => Err(JobFault::Memory),
         Err(ReadError::Fault(fault)) => Err(JobFault::BadJob {

@@ -1,14 +1,12 @@
 -- Reading items one after the other, as a loop does.
-use Rattle.std.proofs.Common.{◌≡◌, ℕ, suc, ◌+◌, ◌≤◌, ◌<◌, List, [], ◌∷◌, ◌++◌, length, drop, get_or, Result, Ok, Err, refl, sym, ap, ◌∙◌, append_assoc, add-one, drop-cons}
+use Rattle.std.proofs.Common.{◌≡◌, ℕ, suc, ◌+◌, List, [], ◌∷◌, ◌++◌, length, Result, Ok, Err, refl, sym, ap, ap₂, ◌∙◌, append_assoc, length-append, arith}
 use Rattle.std.specs.Prelude.{decimal}
-use Rattle.std.proofs.lemmas.List.{append-nil, drop_all}
-use Rattle.serde_json.specs.Data.{Data}
-use Rattle.grid_value.specs.View.{view, items_view}
-use Rattle.grid_value.specs.declared.value.Value.{Value}
+use Rattle.std.proofs.lemmas.List.{append-nil}
+use Rattle.serde_json.specs.Data.{Data, Items, no_items, item}
 use Rattle.grid_json.specs.declared.fault.Fault.{Fault}
 use Rattle.grid_json.specs.declared.fault.ReadError.{ReadError}
 use Rattle.grid_json.specs.declared.fault.ReadError.TheVariants as errors
-use Rattle.grid_json.specs.Reading.{◌>>=◌, Fails, IsUnder, placed, items_at, items_len}
+use Rattle.grid_json.specs.Reading.{◌>>=◌, Fails, IsUnder, placed, items_at}
 
 -- what was read before, and what is still read
 abbrev pub with_front : {A : Type 0} → List A → Result (List A) Fault → Result (List A) Fault
@@ -18,31 +16,27 @@ pub regroup : {A : Type 0} (front : List A) (x : A) (read : Result (List A) Faul
 regroup front x (Ok xs) = ap Ok (simp append_assoc)
 regroup front x (Err f) = refl
 
-pub goes_on : {A : Type 0} (read : Data → Result A Fault) (front : List A) (i : ℕ) (vs : List Value) (v : Value) (x : A) (total : Result (List A) Fault) → i < length vs → v ≡ get_or vs i v → read (view v) ≡ Ok x
-    → with_front front (items_at read i (items_view (drop i vs))) ≡ total → with_front (front ++ x ∷ []) (items_at read (i + 1) (items_view (drop (i + 1) vs))) ≡ total
-unfolding items_at
-goes_on read front i vs v x total lt is h so_far =
-    let cut : drop i vs ≡ v ∷ drop (suc i) vs = drop-cons vs i v lt ∙ ap (λ w. w ∷ drop (suc i) vs) (sym is) in
-    let one : with_front front (items_at read i (items_view (drop i vs))) ≡ with_front (front ++ x ∷ []) (items_at read (suc i) (items_view (drop (suc i) vs))) = rw (cut, h) (regroup front x (items_at read (suc i) (items_view (drop (suc i) vs)))) in
-    rw add-one (sym one ∙ so_far)
+longer : {A : Type 0} (front : List A) (x : A) → suc (length front) ≡ length (front ++ x ∷ [])
+longer front x = omega (arith, length-append front (x ∷ []))
 
-pub ends : {A : Type 0} (read : Data → Result A Fault) (front : List A) (i : ℕ) (vs : List Value) (v : Value) (e r : ReadError) (total : Result (List A) Fault) → i < length vs → v ≡ get_or vs i v → Fails e (read (view v)) → IsUnder (decimal i) e r
-    → with_front front (items_at read i (items_view (drop i vs))) ≡ total → Fails r total
+pub goes_on : {A : Type 0} (read : Data → Result A Fault) (front : List A) (ds rest : Items) (d : Data) (x : A) (total : Result (List A) Fault) → ds ≡ item d rest → read d ≡ Ok x
+    → with_front front (items_at read (length front) ds) ≡ total → with_front (front ++ x ∷ []) (items_at read (length (front ++ x ∷ [])) rest) ≡ total
 unfolding items_at
-ends read front i vs v e errors.Memory total lt is h u so_far = tt
-ends read front i vs v errors.Memory (errors.Fault g) total lt is h u so_far = absurd u
-ends read front i vs v (errors.Fault f) (errors.Fault g) total lt is h u so_far =
-    let cut : drop i vs ≡ v ∷ drop (suc i) vs = drop-cons vs i v lt ∙ ap (λ w. w ∷ drop (suc i) vs) (sym is) in
-    let one : with_front front (items_at read i (items_view (drop i vs))) ≡ Err (placed (decimal i) f) = rw (cut, h) refl in
+goes_on read front ds rest d x total cut h so_far =
+    let one : with_front front (items_at read (length front) ds) ≡ with_front (front ++ x ∷ []) (items_at read (suc (length front)) rest) = rw (cut, h) (regroup front x (items_at read (suc (length front)) rest)) in
+    ap (λ i. with_front (front ++ x ∷ []) (items_at read i rest)) (sym (longer front x)) ∙ sym one ∙ so_far
+
+pub ends : {A : Type 0} (read : Data → Result A Fault) (front : List A) (ds rest : Items) (d : Data) (e r : ReadError) (total : Result (List A) Fault) → ds ≡ item d rest → Fails e (read d) → IsUnder (decimal (length front)) e r
+    → with_front front (items_at read (length front) ds) ≡ total → Fails r total
+unfolding items_at
+ends read front ds rest d e errors.Memory total cut h u so_far = tt
+ends read front ds rest d errors.Memory (errors.Fault g) total cut h u so_far = absurd u
+ends read front ds rest d (errors.Fault f) (errors.Fault g) total cut h u so_far =
+    let one : with_front front (items_at read (length front) ds) ≡ Err (placed (decimal (length front)) f) = rw (cut, h) refl in
     sym so_far ∙ one ∙ ap Err (sym u)
 
-pub is_done : {A : Type 0} (read : Data → Result A Fault) (front : List A) (i : ℕ) (vs : List Value) (total : Result (List A) Fault) → length vs ≤ i → with_front front (items_at read i (items_view (drop i vs))) ≡ total → total ≡ Ok front
+pub is_done : {A : Type 0} (read : Data → Result A Fault) (front : List A) (ds : Items) (total : Result (List A) Fault) → ds ≡ no_items → with_front front (items_at read (length front) ds) ≡ total → total ≡ Ok front
 unfolding items_at
-is_done read front i vs total le so_far =
-    let none : drop i vs ≡ [] = drop_all i vs le in
-    let one : with_front front (items_at read i (items_view (drop i vs))) ≡ Ok front = rw none (ap Ok (append-nil front)) in
+is_done read front ds total none so_far =
+    let one : with_front front (items_at read (length front) ds) ≡ Ok front = rw none (ap Ok (append-nil front)) in
     sym so_far ∙ one
-
-pub items_len_is : (vs : List Value) → items_len (items_view vs) ≡ length vs
-items_len_is [] = refl
-items_len_is (v ∷ vs) = ap suc (items_len_is vs)

@@ -1,40 +1,51 @@
--- Arrays of two and of three items, by their length and their items.
-use Rattle.std.proofs.Common.{◌≡◌, ◌≢◌, List, [], ◌∷◌, length, get_or, Result, Err, refl, arith}
-use Rattle.serde_json.specs.Data.{Data}
-use Rattle.grid_value.specs.View.{view, items_view}
-use Rattle.grid_value.specs.declared.value.Value.{Value}
+-- Arrays of two and of three items, an item after the other.
+use Rattle.std.proofs.Common.{◌≡◌, Option, Some, None, Result, Err, refl, sym, ap, ◌∙◌}
+use Rattle.serde_json.specs.Data.{Data, Items, no_items, item}
+use Rattle.serde_json.specs.Find.{as_array}
 use Rattle.grid_json.specs.declared.fault.Fault.{Fault}
 use Rattle.grid_json.specs.declared.fault.Reason.TheVariants.{WrongKind}
-use Rattle.grid_json.specs.Reading.{here}
-use Rattle.grid_json.specs.Network.{both, two_of, all_three, three_of}
+use Rattle.grid_json.specs.Reading.{◌>>=◌, or_fault, here}
+use Rattle.grid_json.specs.Network.{both, two_of, two_at, all_three, three_of, three_at}
 
 module _ {A : Type 0} (read : Data → Result A Fault) where
-  pub not_two : (vs : List Value) → length vs ≢ 2 → two_of read (items_view vs) ≡ Err (here WrongKind)
+  two_in : (d : Data) (ds es : Items) → Some ds ≡ as_array d → ds ≡ es → two_at read d ≡ two_of read es
+  two_in d ds es is same = ap (λ found. or_fault WrongKind found >>= two_of read) (sym is) ∙ ap (two_of read) same
+
+  three_in : (d : Data) (ds es : Items) → Some ds ≡ as_array d → ds ≡ es → three_at read d ≡ three_of read es
+  three_in d ds es is same = ap (λ found. or_fault WrongKind found >>= three_of read) (sym is) ∙ ap (three_of read) same
+
+  pub two_none : (d : Data) (ds : Items) → Some ds ≡ as_array d → ds ≡ no_items → two_at read d ≡ Err (here WrongKind)
   unfolding two_of
-  not_two [] other = refl
-  not_two (a ∷ []) other = refl
-  not_two (a ∷ b ∷ []) other = absurd (other refl)
-  not_two (a ∷ b ∷ c ∷ rest) other = refl
+  two_none d ds is first = two_in d ds no_items is first
 
-  pub just_two : (vs : List Value) (a b : Value) → length vs ≡ 2 → a ≡ get_or vs 0 a → b ≡ get_or vs 1 b → two_of read (items_view vs) ≡ both read (view a) (view b)
+  pub two_one : (d a : Data) (ds es : Items) → Some ds ≡ as_array d → ds ≡ item a es → es ≡ no_items → two_at read d ≡ Err (here WrongKind)
   unfolding two_of
-  just_two [] a b two first second = absurd (omega (arith, two))
-  just_two (x ∷ []) a b two first second = absurd (omega (arith, two))
-  just_two (x ∷ y ∷ []) a b two first second = rw (first, second) refl
-  just_two (x ∷ y ∷ z ∷ rest) a b two first second = absurd (omega (arith, two))
+  two_one d a ds es is first second = two_in d ds (item a no_items) is (first ∙ ap (item a) second)
 
-  pub not_three : (vs : List Value) → length vs ≢ 3 → three_of read (items_view vs) ≡ Err (here WrongKind)
-  unfolding three_of
-  not_three [] other = refl
-  not_three (a ∷ []) other = refl
-  not_three (a ∷ b ∷ []) other = refl
-  not_three (a ∷ b ∷ c ∷ []) other = absurd (other refl)
-  not_three (a ∷ b ∷ c ∷ d ∷ rest) other = refl
+  pub two_more : (d a b c : Data) (ds es fs gs : Items) → Some ds ≡ as_array d → ds ≡ item a es → es ≡ item b fs → fs ≡ item c gs → two_at read d ≡ Err (here WrongKind)
+  unfolding two_of
+  two_more d a b c ds es fs gs is first second third = two_in d ds (item a (item b (item c gs))) is (first ∙ ap (item a) (second ∙ ap (item b) third))
 
-  pub just_three : (vs : List Value) (a b c : Value) → length vs ≡ 3 → a ≡ get_or vs 0 a → b ≡ get_or vs 1 b → c ≡ get_or vs 2 c → three_of read (items_view vs) ≡ all_three read (view a) (view b) (view c)
+  pub just_two : (d a b : Data) (ds es fs : Items) → Some ds ≡ as_array d → ds ≡ item a es → es ≡ item b fs → fs ≡ no_items → two_at read d ≡ both read a b
+  unfolding two_of
+  just_two d a b ds es fs is first second third = two_in d ds (item a (item b no_items)) is (first ∙ ap (item a) (second ∙ ap (item b) third))
+
+  pub three_none : (d : Data) (ds : Items) → Some ds ≡ as_array d → ds ≡ no_items → three_at read d ≡ Err (here WrongKind)
   unfolding three_of
-  just_three [] a b c three first second third = absurd (omega (arith, three))
-  just_three (x ∷ []) a b c three first second third = absurd (omega (arith, three))
-  just_three (x ∷ y ∷ []) a b c three first second third = absurd (omega (arith, three))
-  just_three (x ∷ y ∷ z ∷ []) a b c three first second third = rw (first, second, third) refl
-  just_three (x ∷ y ∷ z ∷ w ∷ rest) a b c three first second third = absurd (omega (arith, three))
+  three_none d ds is first = three_in d ds no_items is first
+
+  pub three_one : (d a : Data) (ds es : Items) → Some ds ≡ as_array d → ds ≡ item a es → es ≡ no_items → three_at read d ≡ Err (here WrongKind)
+  unfolding three_of
+  three_one d a ds es is first second = three_in d ds (item a no_items) is (first ∙ ap (item a) second)
+
+  pub three_two : (d a b : Data) (ds es fs : Items) → Some ds ≡ as_array d → ds ≡ item a es → es ≡ item b fs → fs ≡ no_items → three_at read d ≡ Err (here WrongKind)
+  unfolding three_of
+  three_two d a b ds es fs is first second third = three_in d ds (item a (item b no_items)) is (first ∙ ap (item a) (second ∙ ap (item b) third))
+
+  pub three_more : (d a b c e : Data) (ds es fs gs hs : Items) → Some ds ≡ as_array d → ds ≡ item a es → es ≡ item b fs → fs ≡ item c gs → gs ≡ item e hs → three_at read d ≡ Err (here WrongKind)
+  unfolding three_of
+  three_more d a b c e ds es fs gs hs is first second third fourth = three_in d ds (item a (item b (item c (item e hs)))) is (first ∙ ap (item a) (second ∙ ap (item b) (third ∙ ap (item c) fourth)))
+
+  pub just_three : (d a b c : Data) (ds es fs gs : Items) → Some ds ≡ as_array d → ds ≡ item a es → es ≡ item b fs → fs ≡ item c gs → gs ≡ no_items → three_at read d ≡ all_three read a b c
+  unfolding three_of
+  just_three d a b c ds es fs gs is first second third fourth = three_in d ds (item a (item b (item c no_items))) is (first ∙ ap (item a) (second ∙ ap (item b) (third ∙ ap (item c) fourth)))

@@ -1,6 +1,5 @@
 pub mod Objects
 pub mod Items
-pub mod Lengths
 pub mod Counts
 pub mod Loading
 pub mod Results
@@ -8,3 +7,4 @@ pub mod IdSets
 pub mod Streams
 pub mod Filling
 pub mod Limits
+pub mod Lengths

@@ -9,7 +9,8 @@ use Rattle.grid_json.specs.declared.fault.Fault.{Fault}
 use Rattle.grid_json.specs.declared.fault.Reason.{Reason}
 use Rattle.grid_json.specs.declared.fault.Reason.TheVariants.{WrongKind}
 use Rattle.grid_json.specs.declared.format.Format.{Format}
-use Rattle.grid_json.specs.Reading.{◌>>=◌, or_fault, under, items_at, items_len, array_at}
+use Rattle.grid_value.specs.View.{items_len}
+use Rattle.grid_json.specs.Reading.{◌>>=◌, or_fault, under, items_at, array_at}
 use Rattle.grid_json.specs.Command.{command_at}
 use Rattle.grid_json.specs.Job.{few_at, workers_at, max_commands, max_workers, command_total}
 use Rattle.grid_json.specs.Streams.{Streams}

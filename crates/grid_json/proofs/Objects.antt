@@ -9,11 +9,10 @@ use Rattle.std.proofs.lemmas.Map.Text.{is_eq-slice_cmp}
 use Rattle.std.proofs.lemmas.Slice.Eq.{bytes_eq-Decides}
 use Rattle.serde_json.specs.Data.{Data, Members, no_members, member, put}
 use Rattle.grid_lemmas.proofs.Bools.{and_true}
-use Rattle.grid_value.specs.declared.value.Value.{Value}
-use Rattle.grid_value.specs.View.{view, members_view, put_each}
+use Rattle.grid_value.specs.View.{Listed, put_each}
 use Rattle.grid_json.specs.Reading.{knows, texts, all_known}
 
-knows_is : (names : List (Bor (List ℕ))) (name : List ℕ) → list_any (λ known. bytes_eq known.now name) names ≡ knows (texts names) name
+pub knows_is : (names : List (Bor (List ℕ))) (name : List ℕ) → list_any (λ known. bytes_eq known.now name) names ≡ knows (texts names) name
 knows_is [] name = refl
 knows_is (n ∷ names) name = ap (λ b. bytes_eq n.now name || b) (knows_is names name)
 
@@ -44,26 +43,19 @@ put_known names k d (member l e ms) = put_at names _ k l d e ms refl (put_known 
 
 -- ---- all members
 
-abbrev are_known : List (List ℕ) → List (Bor (List ℕ) × Data) → Bool
-are_known names ms = list_all (λ m. knows names m.0.now) ms
+abbrev pub are_known : List (List ℕ) → Listed → Bool
+are_known names ms = list_all (λ m. knows names m.0) ms
 
-each_known : (names : List (List ℕ)) (ms : List (Bor (List ℕ) × Data)) (found : Members) → all_known names (put_each ms found) ≡ (are_known names ms && all_known names found)
+each_known : (names : List (List ℕ)) (ms : Listed) (found : Members) → all_known names (put_each ms found) ≡ (are_known names ms && all_known names found)
 each_known names [] found = refl
 each_known names (m ∷ ms) found =
-    each_known names ms (put m.0.now m.1 found) ∙ ap (λ b. are_known names ms && b) (put_known names m.0.now m.1 found)
-    ∙ moved (knows names m.0.now) (are_known names ms) (all_known names found)
+    each_known names ms (put m.0 m.1 found) ∙ ap (λ b. are_known names ms && b) (put_known names m.0 m.1 found)
+    ∙ moved (knows names m.0) (are_known names ms) (all_known names found)
   where
     moved : (a b c : Bool) → (b && (a && c)) ≡ ((a && b) && c)
     moved true b c = refl
     moved false true c = refl
     moved false false c = refl
 
-tested : (names : List (Bor (List ℕ))) (ms : List (Bor (List ℕ) × Value))
-    → list_all (λ m. list_any (λ known. bytes_eq known.now m.0.now) names) ms ≡ are_known (texts names) (map (λ (m : Bor (List ℕ) × Value). (m.0, view m.1)) ms)
-tested names [] = refl
-tested names (m ∷ ms) = rw (knows_is names m.0.now, tested names ms) refl
-
-pub has_only_is : (names : List (Bor (List ℕ))) (ms : List (Bor (List ℕ) × Value)) → list_all (λ m. list_any (λ known. bytes_eq known.now m.0.now) names) ms ≡ all_known (texts names) (members_view ms)
-has_only_is names ms =
-    let seen : List (Bor (List ℕ) × Data) = map (λ (m : Bor (List ℕ) × Value). (m.0, view m.1)) ms in
-    tested names ms ∙ sym (and_true (are_known (texts names) seen)) ∙ sym (each_known (texts names) seen no_members)
+pub has_only_is : (names : List (List ℕ)) (ms : Listed) → all_known names (put_each ms no_members) ≡ are_known names ms
+has_only_is names ms = each_known names ms no_members ∙ and_true (are_known names ms)

@@ -4,6 +4,7 @@ use Rattle.std.specs.List.{list_any, list_all}
 use Rattle.std.specs.Ordering.{int_eq}
 use Rattle.serde_json.specs.Data.{Data}
 use Rattle.serde_json.specs.Find.{as_array}
+use Rattle.grid_value.specs.View.{items_len}
 use Rattle.grid_events.specs.declared.filter.Filter.{Filter}
 use Rattle.grid_requests.specs.declared.request.Request.{Request}
 use Rattle.grid_json.specs.declared.fault.Fault.{Fault}
@@ -14,7 +15,7 @@ use Rattle.grid_json.specs.declared.format.Format.TheVariants.{One, Two, Three, 
 use Rattle.grid_json.specs.declared.kinds.EventKind.{EventKind}
 use Rattle.grid_json.specs.declared.kinds.EventKind.TheVariants as kinds
 use Rattle.grid_json.specs.declared.job.JobDraft.{JobDraft}
-use Rattle.grid_json.specs.Reading.{◌>>=◌, or_fault, here, whole_at, id_at, array_at, items_at, items_len, member_at, member_or, optional_at, only_at}
+use Rattle.grid_json.specs.Reading.{◌>>=◌, or_fault, here, whole_at, id_at, array_at, items_at, member_at, member_or, optional_at, only_at}
 use Rattle.grid_json.specs.Kinds.{event_kind_at}
 use Rattle.grid_json.specs.Network.{network_at}
 use Rattle.grid_json.specs.Command.{command_at}

@@ -123,8 +123,3 @@ word_among (w ∷ words) word = if bytes_eq word w.0 then Ok w.1 else word_among
 -- what a text stands for, by a list of words
 abbrev pub word_at : {A : Type 0} → List (List ℕ × A) → Data → Result A Fault
 word_at words d = or_fault WrongKind (as_str d) >>= word_among words
-
--- how many items there are
-abbrev pub items_len : Items → ℕ
-items_len no_items = 0
-items_len (item d ds) = suc (items_len ds)

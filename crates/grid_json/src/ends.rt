@@ -60,13 +60,19 @@ impl<T: FromJson> FromJson for Two<T> {
     ghost reads = { λ format. two_at (T.reads format) };
 
     fn from_json(alloc: Global, format: Format, value: &Value) -> Result<Two<T>, ReadError> {
-        let Some(items) = value.as_array() else {
+        let Some(mut items) = value.as_array() else {
             return Err(ReadError::here(alloc, Reason::WrongKind));
         };
-        if items.len() != 2 {
+        let Some(first) = items.next() else {
             return Err(ReadError::here(alloc, Reason::WrongKind));
+        };
+        let Some(second) = items.next() else {
+            return Err(ReadError::here(alloc, Reason::WrongKind));
+        };
+        match items.next() {
+            None => two_of(alloc, format, &first, &second),
+            Some(_) => Err(ReadError::here(alloc, Reason::WrongKind)),
         }
-        two_of(alloc, format, &items[0], &items[1])
     }
 }
 
@@ -96,13 +102,22 @@ impl<T: FromJson> FromJson for Three<T> {
     ghost reads = { λ format. three_at (T.reads format) };
 
     fn from_json(alloc: Global, format: Format, value: &Value) -> Result<Three<T>, ReadError> {
-        let Some(items) = value.as_array() else {
+        let Some(mut items) = value.as_array() else {
             return Err(ReadError::here(alloc, Reason::WrongKind));
         };
-        if items.len() != 3 {
+        let Some(first) = items.next() else {
             return Err(ReadError::here(alloc, Reason::WrongKind));
+        };
+        let Some(second) = items.next() else {
+            return Err(ReadError::here(alloc, Reason::WrongKind));
+        };
+        let Some(third) = items.next() else {
+            return Err(ReadError::here(alloc, Reason::WrongKind));
+        };
+        match items.next() {
+            None => three_of(alloc, format, &first, &second, &third),
+            Some(_) => Err(ReadError::here(alloc, Reason::WrongKind)),
         }
-        three_of(alloc, format, &items[0], &items[1], &items[2])
     }
 }
 

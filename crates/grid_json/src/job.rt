@@ -39,7 +39,6 @@ pub const MOST_WORKERS: usize = 32;
 const MOST_COMMANDS: usize = 20_000;
 
 /// An array of at most so many items; the limit is looked at before them.
-#[tactic(auto, using(crate::proofs::Items::items_len_is))]
 pub fn few<T: FromJson>(
     alloc: Global,
     format: Format,
@@ -53,10 +52,10 @@ pub fn few<T: FromJson>(
     let Some(items) = value.as_array() else {
         return Err(ReadError::here(alloc, Reason::WrongKind));
     };
-    if items.len() > most {
+    if items.are_above(most) {
         return Err(ReadError::here(alloc, reason));
     }
-    read_items(alloc, format, items.as_slice())
+    read_items(alloc, format, &items)
 }
 
 // Whether a kind is the other one.
@@ -221,7 +220,7 @@ pub fn optional_order(
 {
     match value.get("order") {
         None => Ok(None),
-        Some(found) => match order_of(alloc, format, found, scripts) {
+        Some(found) => match order_of(alloc, format, &found, scripts) {
             Ok(order) => Ok(Some(order)),
             Err(e) => Err(e.under(alloc, "order")),
         },

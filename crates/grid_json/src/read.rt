@@ -1,17 +1,17 @@
 // Reading values from JSON, each with the first fault and its place.
 ghost use Rattle.std.specs.Prelude.{◌≡◌, ℕ, Result, IfOk, length};
-ghost use Rattle.std.specs.List.{list_any, list_all};
+ghost use Rattle.std.specs.List.{list_any};
 ghost use Rattle.std.specs.Str.{bytes_eq};
 ghost use Rattle.serde_json.specs.Data.{Data};
-ghost use Rattle.grid_value.specs.View.{view, items_view};
+ghost use Rattle.grid_value.specs.View.{view, items_view, members_view, items_len};
 ghost use Rattle.grid_json.specs.declared.fault.Fault.{Fault as FaultAt};
 ghost use Rattle.grid_json.specs.declared.format.Format.{Format as FormatAt};
-ghost use Rattle.grid_json.specs.Reading.{Gives, whole_at, flag_at, id_at, member_at, optional_at, member_or, object_at, only_at, texts, array_at, items_at};
+ghost use Rattle.grid_json.specs.Reading.{Gives, whole_at, flag_at, id_at, member_at, optional_at, member_or, object_at, only_at, texts, all_known, array_at, items_at};
 
 use crate::format::Format;
 use crate::{ReadError, Reason};
 use grid_ids::{Id, IdFault, Seq};
-use grid_value::{Value, same_text};
+use grid_value::{Items, Members, Value, same_text};
 use std::alloc::Global;
 
 /// What is read from a JSON value.
@@ -74,7 +74,7 @@ pub fn member<T: FromJson>(
 {
     match value.get(name) {
         None => Err(ReadError::here(alloc, Reason::Missing).under(alloc, name)),
-        Some(found) => match T::from_json(alloc, format, found) {
+        Some(found) => match T::from_json(alloc, format, &found) {
             Ok(read) => Ok(read),
             Err(e) => Err(e.under(alloc, name)),
         },
@@ -92,7 +92,7 @@ pub fn optional<T: FromJson>(
 {
     match value.get(name) {
         None => Ok(None),
-        Some(found) => match T::from_json(alloc, format, found) {
+        Some(found) => match T::from_json(alloc, format, &found) {
             Ok(read) => Ok(Some(read)),
             Err(e) => Err(e.under(alloc, name)),
         },
@@ -111,7 +111,7 @@ pub fn member_otherwise<T: FromJson>(
 {
     match value.get(name) {
         None => Ok(otherwise),
-        Some(found) => match T::from_json(alloc, format, found) {
+        Some(found) => match T::from_json(alloc, format, &found) {
             Ok(read) => Ok(read),
             Err(e) => Err(e.under(alloc, name)),
         },
@@ -140,14 +140,16 @@ fn is_among(names: &[&str], name: &str, likely: usize) -> bool
 }
 
 /// Whether each member's name is among those given. Most objects have their members in the order in which the names stand.
-fn has_only(names: &[&str], members: &[(&str, Value)]) -> bool
-    ensures { result ≡ list_all
-        (λ member. list_any (λ known. bytes_eq known.now member.0.now) names.now) members.now }
+fn has_only(names: &[&str], members: &Members) -> bool
+    ensures { result ≡ all_known (texts names.now) (members_view members.now) }
 {
-    for (place, member) in members.iter().enumerate() {
-        if !is_among(names, member.0, place) {
+    let mut left = *members;
+    let mut place = 0usize;
+    while let Some((name, _)) = left.next() {
+        if !is_among(names, name, place) {
             return false;
         }
+        place = place.saturating_add(1);
     }
     true
 }
@@ -159,7 +161,7 @@ pub fn only(alloc: Global, value: &Value, names: &[&str]) -> Result<(), ReadErro
     let Some(members) = value.as_object() else {
         return Err(ReadError::here(alloc, Reason::WrongKind));
     };
-    if has_only(names, members.as_slice()) {
+    if has_only(names, &members) {
         Ok(())
     } else {
         Err(ReadError::here(alloc, Reason::Unknown))
@@ -172,7 +174,7 @@ impl<T: FromJson> FromJson for Seq<T> {
     fn from_json(alloc: Global, format: Format, value: &Value) -> Result<Seq<T>, ReadError> {
         match value.as_array() {
             None => Err(ReadError::here(alloc, Reason::WrongKind)),
-            Some(items) => read_items(alloc, format, items.as_slice()),
+            Some(items) => read_items(alloc, format, &items),
         }
     }
 }
@@ -181,16 +183,17 @@ impl<T: FromJson> FromJson for Seq<T> {
 pub fn read_items<T: FromJson>(
     alloc: Global,
     format: Format,
-    items: &[Value],
+    items: &Items,
 ) -> Result<Seq<T>, ReadError>
     ensures items { Gives result (items_at (T.reads format) 0 (items_view items.now)) }
-    ensures count { IfOk result (λ list. length list ≡ length items.now) }
+    ensures count { IfOk result (λ list. length list ≡ items_len (items_view items.now)) }
 {
     let mut list = Seq::empty(alloc);
-    for (i, item) in items.iter().enumerate() {
-        match T::from_json(alloc, format, item) {
+    let mut left = *items;
+    while let Some(item) = left.next() {
+        match T::from_json(alloc, format, &item) {
             Ok(read) => list.push(read)?,
-            Err(e) => return Err(e.under_position(alloc, i)),
+            Err(e) => return Err(e.under_position(alloc, list.len())),
         }
     }
     Ok(list)

@@ -9,7 +9,7 @@ use crate::network::{BusbarDraft, InjectionDraft, LineDraft, TransformerDraft};
 use crate::read::FromJson;
 use grid_ids::{Id, Seq};
 use grid_kinds::SwitchKind;
-use grid_value::Value;
+use grid_value::{Tree, Value};
 use json::{Reader, Token};
 use std::alloc::Global;
 
@@ -36,8 +36,8 @@ pub fn small<T: FromJson>(
     ensures read { IfSome result (Streams (T.reads format) depth reader.old reader.new) }
     ensures shorter { OnSome result (length reader.new < length reader.old) }
 {
-    let value = Value::next_of(alloc, reader, depth).ok()?;
-    T::from_json(alloc, format, &value).ok()
+    let tree = Tree::next_of(alloc, reader, depth).ok()?;
+    T::from_json(alloc, format, &tree.root()).ok()
 }
 
 /// The next value, which is neither an array nor an object, so that it takes no memory of its own.

@@ -12,7 +12,7 @@ use crate::{Place, ReadError, Reason};
 use grid_events::Filters;
 use grid_requests::Scripts;
 use grid_structure::Structure;
-use grid_value::{ByteFault, Scratch, Value};
+use grid_value::{ByteFault, Scratch, Tree, Value};
 use std::alloc::Global;
 
 /// A network with its listeners, the scripts of its workers, and the order of their steps, where one is given.
@@ -61,8 +61,8 @@ fn read_bytes(alloc: Global, bytes: &[u8]) -> Result<JobDraft, JobFault>
         return Ok(draft);
     }
     let mut scratch = Scratch::new(alloc);
-    match Value::from_slice(alloc, bytes, &mut scratch) {
-        Ok(value) => read_first(alloc, &value),
+    match Tree::from_slice(alloc, bytes, &mut scratch) {
+        Ok(tree) => read_first(alloc, &tree.root()),
         Err(ByteFault::NotJson) => Err(JobFault::BadJson),
         Err(ByteFault::Memory) => Err(JobFault::Memory),
     }
@@ -116,7 +116,7 @@ pub fn job_member(alloc: Global, value: &Value) -> Result<Job, ReadError>
 {
     match value.get("job") {
         None => Err(ReadError::here(alloc, Reason::Missing).under(alloc, "job")),
-        Some(found) => match read_whole(alloc, found) {
+        Some(found) => match read_whole(alloc, &found) {
             Ok(job) => Ok(job),
             Err(e) => Err(e.under(alloc, "job")),
         },

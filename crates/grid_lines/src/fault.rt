@@ -2,14 +2,13 @@
 ghost use Rattle.std.specs.Prelude.{◌≡◌, ◌↔◌, IsNone};
 ghost use Rattle.grid_forms.specs.Exits.{exit_number};
 
-use crate::look::{Seen, owner, shown};
+use crate::look::{Job, Seen};
 use crate::not_json::{NotJson, not_json};
 use crate::told::why_seen;
 use crate::why::{Why, why_of};
 use crate::wrong_words::{WrongWords, wrong_words};
 use grid_forms::{Form, Status, read_words};
 use grid_json::{Place, Reason};
-use serde_json::Value;
 use std::alloc::{AllocError, Global};
 use thiserror::Error;
 
@@ -65,18 +64,18 @@ fn seen_in(
     reason: &Reason,
     input: &[u8],
 ) -> Result<(Option<Why>, String), AllocError> {
-    let mut owned = String::new(alloc);
-    let Ok(root) = Value::from_slice(alloc, input) else {
-        return Ok((None, owned));
+    let mut owner = String::new(alloc);
+    let Ok(text) = std::str::from_utf8(input) else {
+        return Ok((None, owner));
     };
-    if let Some(id) = owner(&root, place.text()) {
-        let id = shown(alloc, id)?;
-        owned = format!(in alloc; " of `{id}`")?;
+    let mut job = Job::new(alloc, text);
+    let Some(seen) = Seen::at(&mut job, form, place.text()) else {
+        return Ok((None, owner));
+    };
+    if let Some(id) = job.shown(alloc, seen.owner)? {
+        owner = format!(in alloc; " of `{id}`")?;
     }
-    match Seen::at(form, &root, place.text()) {
-        Some(seen) => Ok((why_seen(alloc, &seen, reason)?, owned)),
-        None => Ok((None, owned)),
-    }
+    Ok((why_seen(alloc, &mut job, &seen, reason)?, owner))
 }
 
 /// What is told of a job's first fault.

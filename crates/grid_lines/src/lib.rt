@@ -4,9 +4,11 @@
 mod fault;
 mod known;
 mod look;
+mod missing;
 mod not_json;
 mod told;
 mod usage;
+mod walk;
 mod why;
 mod wrong_words;
 

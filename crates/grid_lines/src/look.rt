@@ -1,7 +1,8 @@
 //! What a job has at the place of its first fault.
 
+use crate::walk::Walk;
 use grid_forms::Form;
-use serde_json::Value;
+use json::Scratch;
 use std::alloc::{AllocError, Global};
 
 /// How many bytes of a text of the job a line shows at most.
@@ -20,171 +21,276 @@ pub(crate) fn shown(alloc: Global, text: &str) -> Result<String, AllocError> {
     Ok(front)
 }
 
-/// A place without its last step, and that step.
-fn split(place: &str) -> (&str, &str) {
-    place.rsplit_once('/').unwrap_or(("", ""))
+/// The text of a job, with the room that reading it needs. Each value is told by where it begins; of members of one name
+/// the last counts.
+#[derive(Drop)]
+pub(crate) struct Job<'a> {
+    text: &'a str,
+    scratch: Scratch,
 }
 
-/// A member of a value that is a text.
-pub(crate) fn text_of<'a>(value: &'a Value, name: &str) -> Option<&'a str> {
-    value.get(name).and_then(Value::as_str)
+/// Where the members of an object are that its place and its name are told by.
+#[derive(Clone, Copy, Drop)]
+struct Found {
+    wanted: Option<usize>,
+    id: Option<usize>,
+    name: Option<usize>,
 }
 
-/// The items of a member that is an array, or none.
-pub(crate) fn items_of<'a>(value: &'a Value, name: &str) -> &'a [Value] {
-    match value.get(name).and_then(Value::as_array) {
-        Some(items) => items.as_slice(),
-        None => &[],
+impl<'a> Job<'a> {
+    pub(crate) fn new(alloc: Global, text: &'a str) -> Job<'a> {
+        Job {
+            text,
+            scratch: Scratch::new(alloc),
+        }
+    }
+
+    /// A walk from a value on.
+    pub(crate) fn walk(&mut self, at: usize) -> Option<Walk<'_>> {
+        Walk::new(self.text, at, &mut self.scratch)
+    }
+
+    /// The first byte of a value, which tells its type.
+    fn first(&self, at: usize) -> Option<u8> {
+        self.text.as_bytes().get(at).copied()
+    }
+
+    /// The member of a name, and those that name an object, where the value is one.
+    fn find(&mut self, at: usize, wanted: &str) -> Found {
+        let mut found = Found {
+            wanted: None,
+            id: None,
+            name: None,
+        };
+        let Some(mut walk) = self.walk(at) else {
+            return found;
+        };
+        if !walk.enters_object() {
+            return found;
+        }
+        for _ in 0..u64::MAX {
+            let Some(name) = walk.next_name() else {
+                break;
+            };
+            let here = Some(walk.here());
+            if name == wanted {
+                found.wanted = here;
+            }
+            if name == "id" {
+                found.id = here;
+            }
+            if name == "name" {
+                found.name = here;
+            }
+            walk.pass();
+        }
+        found
+    }
+
+    /// The member of a name, where the value is an object.
+    pub(crate) fn member(&mut self, at: usize, name: &str) -> Option<usize> {
+        self.find(at, name).wanted
+    }
+
+    /// The item at a position, where the value is an array.
+    pub(crate) fn item(&mut self, at: usize, position: usize) -> Option<usize> {
+        let mut walk = self.walk(at)?;
+        if !walk.enters_array() {
+            return None;
+        }
+        for _ in 0..position {
+            if !walk.is_at_item() {
+                return None;
+            }
+            walk.pass();
+        }
+        if walk.is_at_item() {
+            Some(walk.here())
+        } else {
+            None
+        }
+    }
+
+    /// How many items there are, where the value is an array.
+    pub(crate) fn length(&mut self, at: usize) -> Option<usize> {
+        let mut walk = self.walk(at)?;
+        if !walk.enters_array() {
+            return None;
+        }
+        let mut length = 0usize;
+        for _ in 0..u64::MAX {
+            if !walk.is_at_item() {
+                break;
+            }
+            walk.pass();
+            length = length.saturating_add(1);
+        }
+        Some(length)
+    }
+
+    /// The text that the value is.
+    pub(crate) fn text(&mut self, at: usize) -> Option<&str> {
+        if self.first(at) != Some(b'"') {
+            return None;
+        }
+        self.walk(at)?.leaf()?.as_str()
+    }
+
+    /// The whole number that the value is.
+    pub(crate) fn whole(&mut self, at: usize) -> Option<i64> {
+        self.walk(at)?.leaf()?.as_i64()
+    }
+
+    /// The member of a name, where it is a text.
+    pub(crate) fn text_member(&mut self, at: usize, name: &str) -> Option<usize> {
+        let member = self.member(at, name)?;
+        if self.first(member) == Some(b'"') {
+            Some(member)
+        } else {
+            None
+        }
+    }
+
+    /// The text of a member, or none.
+    pub(crate) fn word(
+        &mut self,
+        alloc: Global,
+        at: usize,
+        name: &str,
+    ) -> Result<String, AllocError> {
+        let member = self.member(at, name);
+        let text = match member {
+            Some(member) => self.text(member),
+            None => None,
+        };
+        String::from_str(alloc, text.unwrap_or(""))
+    }
+
+    /// The front of the text that the value is.
+    pub(crate) fn shown(
+        &mut self,
+        alloc: Global,
+        at: Option<usize>,
+    ) -> Result<Option<String>, AllocError> {
+        let Some(at) = at else {
+            return Ok(None);
+        };
+        match self.text(at) {
+            Some(text) => Ok(Some(shown(alloc, text)?)),
+            None => Ok(None),
+        }
+    }
+
+    /// The job itself, of which the whole text may be a member.
+    fn inner(&mut self) -> usize {
+        self.member(0, "job").unwrap_or(0)
+    }
+
+    /// The network of the job.
+    pub(crate) fn network(&mut self) -> Option<usize> {
+        let inner = self.inner();
+        match self.member(inner, "network") {
+            Some(network) => Some(network),
+            None => self.member(inner, "configured"),
+        }
+    }
+
+    /// The job's format, or the last one where it names none.
+    pub(crate) fn format(&mut self) -> i64 {
+        let inner = self.inner();
+        match self.member(inner, "format") {
+            Some(format) => self.whole(format).unwrap_or(4),
+            None => 4,
+        }
+    }
+
+    /// The type of a value, in words.
+    pub(crate) fn found(&self, at: usize) -> &'static str {
+        match self.first(at) {
+            Some(b'n') => "null",
+            Some(b't' | b'f') => "true or false",
+            Some(b'"') => "a text",
+            Some(b'[') => "an array",
+            Some(b'{') => "an object",
+            _ => "a number",
+        }
+    }
+
+    /// The member or the item that a step of a place leads to.
+    fn step(&mut self, at: usize, step: &str) -> Found {
+        if self.first(at) != Some(b'[') {
+            return self.find(at, step);
+        }
+        let wanted = match step.parse::<usize>() {
+            Ok(position) => self.item(at, position),
+            Err(_) => None,
+        };
+        Found {
+            wanted,
+            id: None,
+            name: None,
+        }
+    }
+
+    /// The text that names an object, of those members that may.
+    fn name_of(&self, found: Found) -> Option<usize> {
+        let is_text = |at: &usize| self.first(*at) == Some(b'"');
+        found.id.filter(is_text).or(found.name.filter(is_text))
     }
 }
 
 /// What stands at a place of a job, and what leads there.
-#[derive(Clone, Copy)]
-pub(crate) struct Seen<'a> {
+#[derive(Clone, Copy, Drop)]
+pub(crate) struct Seen<'p> {
     pub(crate) form: Option<Form>,
-    pub(crate) root: &'a Value,
-    pub(crate) value: &'a Value,
+    pub(crate) value: usize,
+    /// The value that holds it, or the value itself at the top.
+    pub(crate) parent: usize,
+    /// The value that holds that one.
+    pub(crate) grandparent: usize,
+    /// The id or the name of the innermost object round the place that has one.
+    pub(crate) owner: Option<usize>,
     /// The last step, a member's name or a position.
-    pub(crate) name: &'a str,
+    pub(crate) name: &'p str,
     /// The step before it.
-    pub(crate) holder: &'a str,
+    pub(crate) holder: &'p str,
     /// The one before that.
-    pub(crate) above: &'a str,
-    /// The place of what holds the value.
-    pub(crate) front: &'a str,
+    pub(crate) above: &'p str,
 }
 
-impl<'a> Seen<'a> {
+impl<'p> Seen<'p> {
     /// What stands at a place; None where nothing does.
-    pub(crate) fn at(form: Option<Form>, root: &'a Value, place: &'a str) -> Option<Seen<'a>> {
-        let value = root.pointer(place)?;
-        let (front, name) = split(place);
-        let (rest, holder) = split(front);
-        let (_, above) = split(rest);
-        Some(Seen {
+    pub(crate) fn at(job: &mut Job<'_>, form: Option<Form>, place: &'p str) -> Option<Seen<'p>> {
+        let mut seen = Seen {
             form,
-            root,
-            value,
-            name,
-            holder,
-            above,
-            front,
-        })
+            value: 0,
+            parent: 0,
+            grandparent: 0,
+            owner: None,
+            name: "",
+            holder: "",
+            above: "",
+        };
+        for step in place.split('/').skip(1) {
+            let found = job.step(seen.value, step);
+            seen = Seen {
+                form,
+                value: found.wanted?,
+                parent: seen.value,
+                grandparent: seen.parent,
+                owner: job.name_of(found).or(seen.owner),
+                name: step,
+                holder: seen.name,
+                above: seen.holder,
+            };
+        }
+        let last = job.find(seen.value, "");
+        seen.owner = job.name_of(last).or(seen.owner);
+        Some(seen)
     }
 
     /// Whether the value is an item of an array.
     pub(crate) fn is_item(&self) -> bool {
         self.name.parse::<usize>().is_ok()
     }
-
-    /// The value that holds this one.
-    pub(crate) fn parent(&self) -> Option<&'a Value> {
-        self.root.pointer(self.front)
-    }
-
-    /// The network of the job.
-    pub(crate) fn network(&self) -> Option<&'a Value> {
-        let inner = self.root.get("job").unwrap_or(self.root);
-        inner.get("network").or(inner.get("configured"))
-    }
-
-    /// The job's format, or the last one where it names none.
-    pub(crate) fn format(&self) -> i64 {
-        let inner = self.root.get("job").unwrap_or(self.root);
-        inner.get("format").and_then(Value::as_i64).unwrap_or(4)
-    }
-}
-
-/// The id or the name of the innermost object round a place that has one.
-pub(crate) fn owner<'a>(root: &'a Value, place: &'a str) -> Option<&'a str> {
-    let mut front = place;
-    for _ in 0..16 {
-        let value = root.pointer(front)?;
-        if let Some(id) = text_of(value, "id").or(text_of(value, "name")) {
-            return Some(id);
-        }
-        if front.is_empty() {
-            return None;
-        }
-        front = split(front).0;
-    }
-    None
-}
-
-/// The type of a value, in words.
-pub(crate) fn found(value: &Value) -> &'static str {
-    match value {
-        Value::Null => "null",
-        Value::Bool(_) => "true or false",
-        Value::Number(_) => "a number",
-        Value::String(_) => "a text",
-        Value::Array(_) => "an array",
-        Value::Object(_) => "an object",
-    }
-}
-
-/// Whether one of the first substations, or a level of a network with configured buses, is a level of the id.
-fn has_level(network: &Value, substations: usize, id: &str) -> bool {
-    let is_level = |level: &Value| text_of(level, "id") == Some(id);
-    items_of(network, "levels").iter().any(is_level)
-        || items_of(network, "substations")
-            .iter()
-            .take(substations)
-            .any(|substation| items_of(substation, "levels").iter().any(is_level))
-}
-
-/// The level that the first end of a branch names in vain.
-pub(crate) fn missing_level<'a>(seen: &Seen<'a>) -> Option<&'a str> {
-    let network = seen.network()?;
-    let substations = match seen.above.parse::<usize>() {
-        Ok(place) if seen.holder == "transformers" => place.saturating_add(1),
-        _ => usize::MAX,
-    };
-    items_of(seen.value, "ends")
-        .iter()
-        .filter_map(|end| text_of(end, "level"))
-        .find(|id| !has_level(network, substations, *id))
-}
-
-/// The level at an end of a branch, by its side.
-pub(crate) fn level_of_side<'a>(seen: &Seen<'a>, side: u8) -> Option<&'a str> {
-    let place = usize::from(side).checked_sub(1)?;
-    let end = items_of(seen.value, "ends").get(place)?;
-    text_of(end, "level")
-}
-
-/// Whether a level with configured buses has a bus of the id.
-fn has_bus(level: &Value, id: &str) -> bool {
-    items_of(level, "buses")
-        .iter()
-        .any(|bus| bus.as_str() == Some(id))
-}
-
-/// The level of the id in a network with configured buses.
-fn configured_level<'a>(network: &'a Value, id: &str) -> Option<&'a Value> {
-    items_of(network, "levels")
-        .iter()
-        .find(|level| text_of(*level, "id") == Some(id))
-}
-
-/// The bus that an end of a line names and its level does not have.
-fn missing_bus_of_end<'a>(network: &Value, end: &'a Value) -> Option<&'a str> {
-    let level = configured_level(network, text_of(end, "level")?)?;
-    let bus = text_of(end, "bus")?;
-    if has_bus(level, bus) { None } else { Some(bus) }
-}
-
-/// The first configured bus that the object names in vain.
-pub(crate) fn missing_bus<'a>(seen: &Seen<'a>) -> Option<&'a str> {
-    let network = seen.network()?;
-    if seen.holder == "lines" {
-        return items_of(seen.value, "ends")
-            .iter()
-            .find_map(|end| missing_bus_of_end(network, end));
-    }
-    let level = seen.root.pointer(split(seen.front).0)?;
-    ["bus", "bus1", "bus2"]
-        .iter()
-        .filter_map(|name| text_of(seen.value, *name))
-        .find(|id| !has_bus(level, *id))
 }

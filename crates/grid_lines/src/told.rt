@@ -4,7 +4,8 @@ use crate::known::{
     commands, events, kinds_of, members_of_command, members_of_configured, members_of_item,
     members_of_kind, members_of_named, wanted_at, wanted_in,
 };
-use crate::look::{Seen, found, level_of_side, missing_bus, missing_level, shown, text_of};
+use crate::look::{Job, Seen, shown};
+use crate::missing::{level_of_side, missing_bus, missing_level};
 use crate::why::Why;
 use grid_forms::Form;
 use grid_json::Reason;
@@ -24,88 +25,142 @@ fn listed(alloc: Global, names: &[&str]) -> Result<String, AllocError> {
 }
 
 /// The words that may stand where the value does, each with the format that it came with.
-fn words_at(seen: &Seen<'_>) -> Option<&'static [(&'static str, i64)]> {
+fn words_at(
+    alloc: Global,
+    job: &mut Job<'_>,
+    seen: &Seen<'_>,
+) -> Result<Option<&'static [(&'static str, i64)]>, AllocError> {
     if seen.is_item() {
-        return (seen.holder == "kinds").then_some(events());
+        return Ok((seen.holder == "kinds").then_some(events()));
     }
     match seen.name {
-        "do" => Some(commands(seen.form)),
+        "do" => Ok(Some(commands(seen.form))),
         "kind" => {
-            let command = seen.parent().and_then(|object| text_of(object, "do"));
-            kinds_of(seen.above, command.unwrap_or(""))
+            let command = job.word(alloc, seen.parent, "do")?;
+            Ok(kinds_of(seen.above, command.as_str()))
         }
-        _ => None,
+        _ => Ok(None),
     }
 }
 
-/// Why a word is unknown: it is of a later format, or of none.
-fn word_told(alloc: Global, seen: &Seen<'_>, word: &str) -> Result<Option<Why>, AllocError> {
-    let Some(words) = words_at(seen) else {
-        return Ok(None);
-    };
-    let format = match seen.form {
-        Some(Form::Configured) => 4,
-        _ => seen.format(),
-    };
-    if let Some((_, later)) = words.iter().find(|(known, _)| *known == word) {
-        let word = shown(alloc, word)?;
-        return Ok(Some(Why::LaterWord {
-            word,
-            format: *later,
-        }));
-    }
+/// The format that a word came with, where the value is one of those listed.
+fn since(job: &mut Job<'_>, at: usize, words: &[(&str, i64)]) -> Option<i64> {
+    let word = job.text(at)?;
+    let (_, format) = words.iter().find(|(known, _)| *known == word)?;
+    Some(*format)
+}
+
+/// The words of those listed that a format has.
+fn words_of(alloc: Global, words: &[(&str, i64)], format: i64) -> Result<String, AllocError> {
     let mut known = Vec::new(alloc);
     for (name, since) in words {
         if *since <= format {
             known.push(*name)?;
         }
     }
-    Ok(Some(Why::UnknownWord {
-        word: shown(alloc, word)?,
-        known: listed(alloc, known.as_slice())?,
-    }))
+    listed(alloc, known.as_slice())
+}
+
+/// Why a word is unknown: it is of a later format, or of none.
+fn word_told(
+    alloc: Global,
+    job: &mut Job<'_>,
+    seen: &Seen<'_>,
+    word: String,
+) -> Result<Option<Why>, AllocError> {
+    let Some(words) = words_at(alloc, job, seen)? else {
+        return Ok(None);
+    };
+    if let Some(format) = since(job, seen.value, words) {
+        return Ok(Some(Why::LaterWord { word, format }));
+    }
+    let format = match seen.form {
+        Some(Form::Configured) => 4,
+        _ => job.format(),
+    };
+    let known = words_of(alloc, words, format)?;
+    Ok(Some(Why::UnknownWord { word, known }))
 }
 
 /// The members that the object may have.
-fn members_at(seen: &Seen<'_>) -> Option<&'static [&'static str]> {
-    let kind = text_of(seen.value, "kind").unwrap_or("");
+fn members_at(
+    alloc: Global,
+    job: &mut Job<'_>,
+    seen: &Seen<'_>,
+) -> Result<Option<&'static [&'static str]>, AllocError> {
     if !seen.is_item() {
-        return members_of_named(seen.form, seen.name);
+        return Ok(members_of_named(seen.form, seen.name));
     }
     if seen.above == "workers" {
-        return members_of_command(text_of(seen.value, "do").unwrap_or(""), kind);
+        let command = job.word(alloc, seen.value, "do")?;
+        let kind = job.word(alloc, seen.value, "kind")?;
+        return Ok(members_of_command(command.as_str(), kind.as_str()));
     }
-    match (seen.form, seen.holder) {
+    Ok(match (seen.form, seen.holder) {
         (Some(Form::Configured), "injections") => Some(&["kind", "id", "bus", "connected"]),
         (_, "injections") => Some(&["kind", "id", "node"]),
         (Some(Form::Configured), holder) => members_of_configured(holder),
         (_, holder) => members_of_item(holder),
-    }
+    })
 }
 
 /// The members that the object's kind brings.
-fn members_of_its_kind(seen: &Seen<'_>) -> &'static [&'static str] {
-    let kind = text_of(seen.value, "kind").unwrap_or("");
-    if seen.holder == "injections" || text_of(seen.value, "do") == Some("add_injection") {
-        members_of_kind(kind)
-    } else {
-        &[]
+fn members_of_its_kind(
+    alloc: Global,
+    job: &mut Job<'_>,
+    seen: &Seen<'_>,
+) -> Result<&'static [&'static str], AllocError> {
+    let command = job.word(alloc, seen.value, "do")?;
+    if seen.holder != "injections" && command.as_str() != "add_injection" {
+        return Ok(&[]);
+    }
+    let kind = job.word(alloc, seen.value, "kind")?;
+    Ok(members_of_kind(kind.as_str()))
+}
+
+/// The first name in the order of their bytes that is none of those known.
+fn unknown_name(
+    alloc: Global,
+    job: &mut Job<'_>,
+    object: usize,
+    known: &[&str],
+) -> Result<Option<String>, AllocError> {
+    let Some(mut walk) = job.walk(object) else {
+        return Ok(None);
+    };
+    if !walk.enters_object() {
+        return Ok(None);
+    }
+    let mut first: Option<&str> = None;
+    for _ in 0..u64::MAX {
+        let Some(name) = walk.next_name() else {
+            break;
+        };
+        if !known.iter().any(|known| *known == name) && first.is_none_or(|first| name < first) {
+            first = Some(name);
+        }
+        walk.pass();
+    }
+    match first {
+        Some(name) => Ok(Some(shown(alloc, name)?)),
+        None => Ok(None),
     }
 }
 
 /// The member that the object may not have.
-fn member_told(alloc: Global, seen: &Seen<'_>) -> Result<Option<Why>, AllocError> {
-    let (Some(members), Some(map)) = (members_at(seen), seen.value.as_object()) else {
+fn member_told(
+    alloc: Global,
+    job: &mut Job<'_>,
+    seen: &Seen<'_>,
+) -> Result<Option<Why>, AllocError> {
+    let Some(members) = members_at(alloc, job, seen)? else {
         return Ok(None);
     };
     let mut known = members.to_vec(alloc)?;
-    known.extend_from_slice(members_of_its_kind(seen))?;
-    match map
-        .keys()
-        .find(|name| !known.iter().any(|known| *known == name.as_str()))
-    {
+    known.extend_from_slice(members_of_its_kind(alloc, job, seen)?)?;
+    match unknown_name(alloc, job, seen.value, known.as_slice())? {
         Some(name) => Ok(Some(Why::UnknownMember {
-            name: shown(alloc, name.as_str())?,
+            name,
             known: listed(alloc, known.as_slice())?,
         })),
         None => Ok(None),
@@ -113,112 +168,111 @@ fn member_told(alloc: Global, seen: &Seen<'_>) -> Result<Option<Why>, AllocError
 }
 
 /// What is unknown: a word, a format or a member.
-fn unknown_told(alloc: Global, seen: &Seen<'_>) -> Result<Option<Why>, AllocError> {
-    if let Some(word) = seen.value.as_str() {
-        return word_told(alloc, seen, word);
+fn unknown_told(
+    alloc: Global,
+    job: &mut Job<'_>,
+    seen: &Seen<'_>,
+) -> Result<Option<Why>, AllocError> {
+    if let Some(word) = job.shown(alloc, Some(seen.value))? {
+        return word_told(alloc, job, seen, word);
     }
-    if let Some(found) = seen.value.as_i64() {
+    if let Some(found) = job.whole(seen.value) {
         let known = match seen.form {
             Some(Form::Configured) => "1 alone",
             _ => "1, 2, 3 and 4",
         };
         return Ok(Some(Why::UnknownFormat { found, known }));
     }
-    member_told(alloc, seen)
-}
-
-/// How many items the array of a branch has that its kind wants.
-fn length_at(seen: &Seen<'_>) -> usize {
-    let kind = seen.parent().and_then(|branch| text_of(branch, "kind"));
-    if kind == Some("THREE_WINDINGS") { 3 } else { 2 }
+    member_told(alloc, job, seen)
 }
 
 /// What was wanted at the place, and what stands there.
-fn kind_told(seen: &Seen<'_>) -> Why {
+fn kind_told(alloc: Global, job: &mut Job<'_>, seen: &Seen<'_>) -> Result<Why, AllocError> {
     let wanted = if seen.is_item() {
         wanted_in(seen.holder)
     } else {
         wanted_at(seen.name)
     };
-    match seen.value.as_array() {
-        Some(items) if wanted == "an array" => Why::OtherLength {
-            wanted: length_at(seen),
-            found: items.len(),
-        },
-        _ => Why::OtherKind {
-            wanted,
-            found: found(seen.value),
-        },
+    if wanted == "an array" {
+        if let Some(found) = job.length(seen.value) {
+            // How many items the array of a branch has that its kind wants.
+            let kind = job.word(alloc, seen.parent, "kind")?;
+            let wanted = if kind.as_str() == "THREE_WINDINGS" { 3 } else { 2 };
+            return Ok(Why::OtherLength { wanted, found });
+        }
     }
+    Ok(Why::OtherKind {
+        wanted,
+        found: job.found(seen.value),
+    })
 }
 
 /// Why an edit was refused, with the id that it was refused for.
-fn load_told(alloc: Global, seen: &Seen<'_>, fault: &EditFault) -> Result<Option<Why>, AllocError> {
+fn load_told(
+    alloc: Global,
+    job: &mut Job<'_>,
+    seen: &Seen<'_>,
+    fault: &EditFault,
+) -> Result<Option<Why>, AllocError> {
     match fault {
         EditFault::IdTaken => {
-            let Some(id) = text_of(seen.value, "id").or(seen.value.as_str()) else {
-                return Ok(None);
-            };
-            Ok(Some(Why::IdOfTaken {
-                id: shown(alloc, id)?,
-            }))
+            let named = job.text_member(seen.value, "id").unwrap_or(seen.value);
+            let id = job.shown(alloc, Some(named))?;
+            Ok(id.map(|id| Why::IdOfTaken { id }))
         }
         EditFault::NoLevel => {
-            let Some(id) = missing_level(seen) else {
-                return Ok(None);
-            };
-            Ok(Some(Why::NoLevelOf {
-                id: shown(alloc, id)?,
-            }))
+            let level = missing_level(alloc, job, seen)?;
+            let id = job.shown(alloc, level)?;
+            Ok(id.map(|id| Why::NoLevelOf { id }))
         }
         EditFault::OtherSubstation { side } => {
-            let Some(id) = level_of_side(seen, *side) else {
-                return Ok(None);
-            };
-            Ok(Some(Why::OtherSubstationOf {
-                side: *side,
-                id: shown(alloc, id)?,
-            }))
+            let side = *side;
+            let level = level_of_side(job, seen.value, side);
+            let id = job.shown(alloc, level)?;
+            Ok(id.map(|id| Why::OtherSubstationOf { side, id }))
         }
         _ => Ok(None),
     }
 }
 
 /// The converter station that an HVDC line names on a side.
-fn station_of<'a>(seen: &Seen<'a>, side: u8) -> Option<&'a str> {
-    text_of(seen.value, if side == 1 { "station1" } else { "station2" })
+fn station_of(
+    alloc: Global,
+    job: &mut Job<'_>,
+    seen: &Seen<'_>,
+    side: u8,
+) -> Result<Option<String>, AllocError> {
+    let name = if side == 1 { "station1" } else { "station2" };
+    let station = job.text_member(seen.value, name);
+    job.shown(alloc, station)
 }
 
 /// Why a job has a fault, with what stands at its place; None where that tells no more than the reason.
 pub(crate) fn why_seen(
     alloc: Global,
+    job: &mut Job<'_>,
     seen: &Seen<'_>,
     reason: &Reason,
 ) -> Result<Option<Why>, AllocError> {
     match reason {
-        Reason::Unknown => unknown_told(alloc, seen),
-        Reason::WrongKind => Ok(Some(kind_told(seen))),
-        Reason::Load(fault) => load_told(alloc, seen, fault),
-        Reason::NoStation { side } => match station_of(seen, *side) {
-            Some(id) => Ok(Some(Why::NoStationOf {
-                side: *side,
-                id: shown(alloc, id)?,
-            })),
-            None => Ok(None),
-        },
-        Reason::StationUsed { side } => match station_of(seen, *side) {
-            Some(id) => Ok(Some(Why::StationOfUsed {
-                side: *side,
-                id: shown(alloc, id)?,
-            })),
-            None => Ok(None),
-        },
-        Reason::NoBus => match missing_bus(seen) {
-            Some(id) => Ok(Some(Why::NoBusOf {
-                id: shown(alloc, id)?,
-            })),
-            None => Ok(None),
-        },
+        Reason::Unknown => unknown_told(alloc, job, seen),
+        Reason::WrongKind => Ok(Some(kind_told(alloc, job, seen)?)),
+        Reason::Load(fault) => load_told(alloc, job, seen, fault),
+        Reason::NoStation { side } => {
+            let side = *side;
+            let id = station_of(alloc, job, seen, side)?;
+            Ok(id.map(|id| Why::NoStationOf { side, id }))
+        }
+        Reason::StationUsed { side } => {
+            let side = *side;
+            let id = station_of(alloc, job, seen, side)?;
+            Ok(id.map(|id| Why::StationOfUsed { side, id }))
+        }
+        Reason::NoBus => {
+            let bus = missing_bus(alloc, job, seen)?;
+            let id = job.shown(alloc, bus)?;
+            Ok(id.map(|id| Why::NoBusOf { id }))
+        }
         _ => Ok(None),
     }
 }

@@ -8,7 +8,7 @@ ghost use Rattle.grid_screen.specs.Jobs.{contingencies_at, screen_at, screen_job
 
 use crate::{Contingencies, Contingency, ScreenJob};
 use grid_json::{Format, FromJson, JobFault, ReadError, Reason, few, job_member, member, only};
-use grid_value::{ByteFault, Scratch, Value};
+use grid_value::{ByteFault, Scratch, Tree, Value};
 use std::alloc::Global;
 
 /// The most contingencies that are screened at once.
@@ -47,7 +47,7 @@ fn contingencies_of(alloc: Global, value: &Value) -> Result<Contingencies, ReadE
 {
     match value.get("contingencies") {
         None => Err(ReadError::here(alloc, Reason::Missing).under(alloc, "contingencies")),
-        Some(found) => match read_list(alloc, found) {
+        Some(found) => match read_list(alloc, &found) {
             Ok(contingencies) => Ok(contingencies),
             Err(e) => Err(e.under(alloc, "contingencies")),
         },
@@ -76,12 +76,12 @@ pub fn read_screen(alloc: Global, bytes: &[u8]) -> Result<ScreenJob, JobFault>
     ensures total { IfOk result (λ screen. command_total screen.job.scripts ≤ max_commands) }
 {
     let mut scratch = Scratch::new(alloc);
-    let value = match Value::from_slice(alloc, bytes, &mut scratch) {
-        Ok(value) => value,
+    let tree = match Tree::from_slice(alloc, bytes, &mut scratch) {
+        Ok(tree) => tree,
         Err(ByteFault::NotJson) => return Err(JobFault::BadJson),
         Err(ByteFault::Memory) => return Err(JobFault::Memory),
     };
-    match read_root(alloc, &value) {
+    match read_root(alloc, &tree.root()) {
         Ok(screen) => Ok(screen),
         Err(ReadError::Memory) => Err(JobFault::Memory),
         Err(ReadError::Fault(fault)) => Err(JobFault::BadJob {

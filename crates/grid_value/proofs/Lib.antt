@@ -1,3 +1,4 @@
 pub mod Turns
 pub mod Growing
+pub mod Spelled
 pub mod Texts

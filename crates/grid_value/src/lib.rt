@@ -1,13 +1,15 @@
 //! JSON values whose texts are lent by the bytes that they were read from.
 #![tactic(auto)]
 
+mod node;
 mod number;
 mod read;
 mod text;
 mod value;
 
 pub use json::Scratch;
+pub use node::Node;
 pub use number::Number;
-pub use read::{ByteFault, MAX_DEPTH};
+pub use read::{ByteFault, MAX_DEPTH, Tree};
 pub use text::same_text;
-pub use value::Value;
+pub use value::{Items, Members, Value};

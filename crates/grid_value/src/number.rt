@@ -19,7 +19,7 @@ pub enum Number {
 
 impl Number {
     /// The number that a token of JSON writes, where it is in range.
-    pub(crate) fn parse(text: &str) -> Option<Number>
+    pub fn parse(text: &str) -> Option<Number>
         ensures { option_map number_view result ≡ number_of text.now }
     {
         let bytes = text.as_bytes();

@@ -1,11 +1,14 @@
 // From bytes to a JSON value, in one pass over the tokens.
-ghost use Rattle.std.specs.Prelude.{◌≡◌, ◌<◌, ℕ, length, Some, None, Err, IfOk, OnOk, IfSome, OnSome};
+ghost use Rattle.std.specs.Prelude.{◌≡◌, ◌≢◌, ◌<◌, [], ◌∷◌, ◌++◌, ℕ, length, Some, None, Err, IfOk, OnOk, IfSome, OnSome};
+ghost use Rattle.json.specs.Token.{begin_array, begin_object};
 ghost use Rattle.json.specs.Json.{value, items, members};
 ghost use Rattle.serde_json.specs.Data.{no_members};
 ghost use Rattle.serde_json.specs.Read.{of_json, of_items, of_members, converted};
 ghost use Rattle.grid_value.specs.Bytes.{reading};
-ghost use Rattle.grid_value.specs.View.{view, items_view, members_view};
+ghost use Rattle.grid_value.specs.View.{view, data_of};
+ghost use Rattle.grid_value.specs.Tree.{Grows, GrowsItems, GrowsMembers, tree_view};
 
+use crate::node::Node;
 use crate::number::Number;
 use crate::value::Value;
 use json::{Invalid, Reader, Scratch, Token};
@@ -14,8 +17,8 @@ use std::alloc::{AllocError, AllocFailed, Global};
 /// How deep arrays and objects may nest, as in `serde_json`.
 pub const MAX_DEPTH: usize = 127;
 
-/// For how many members an object has room from the start, as the longest of a job's usual objects have.
-const USUAL_MEMBERS: usize = 8;
+/// For how many nodes a tree of one value of a text has room from the start, as most of a job's small objects have.
+const USUAL_NODES: usize = 16;
 
 /// Why bytes are no JSON value.
 #[derive(Clone, Copy, Debug, Drop, PartialEq, Eq)]
@@ -59,25 +62,33 @@ impl<T: Drop> From<AllocFailed<T>> for ByteFault {
     }
 }
 
-impl<'t> Value<'t> {
+/// A JSON value with all that it holds. It takes at most twelve bytes for each byte of the text.
+#[derive(Debug, Drop)]
+pub struct Tree<'t> {
+    nodes: Vec<Node<'t>>,
+}
+
+impl<'t> Tree<'t> {
     /// The JSON value that the bytes spell, as `serde_json` reads them.
     pub fn from_slice(
         alloc: Global,
         bytes: &'t [u8],
         scratch: &'t mut Scratch,
-    ) -> Result<Value<'t>, ByteFault>
-        ensures ok { IfOk result (λ v. reading bytes.now ≡ Some (view v)) }
+    ) -> Result<Tree<'t>, ByteFault>
+        ensures ok { IfOk result (λ tree. reading bytes.now ≡ Some (tree_view tree)) }
         ensures not_json { result ≡ Err ByteFault.NotJson → reading bytes.now ≡ None }
     {
         let Ok(text) = std::str::from_utf8(bytes) else {
             return Err(ByteFault::NotJson);
         };
         let mut reader = Reader::new(text, scratch)?;
-        let value = read(alloc, &mut reader, MAX_DEPTH)?;
+        // Each value or name but the first stands behind a comma, a colon or a bracket.
+        let mut nodes = Vec::with_capacity(alloc, bytes.len() / 2 + 1)?;
+        read(&mut reader, &mut nodes, MAX_DEPTH)?;
         if reader.next().is_some() {
             return Err(ByteFault::NotJson);
         }
-        Ok(value)
+        Ok(Tree { nodes })
     }
 
     /// The next value of the reader. Arrays and objects may nest `depth` deep.
@@ -85,108 +96,183 @@ impl<'t> Value<'t> {
         alloc: Global,
         reader: &mut Reader<'t>,
         depth: usize,
-    ) -> Result<Value<'t>, ByteFault>
+    ) -> Result<Tree<'t>, ByteFault>
         ensures ok { IfOk result
-            (λ v. converted of_json (value depth reader.old) ≡ Some (view v, reader.new)) }
+            (λ tree. converted of_json (value depth reader.old) ≡ Some (tree_view tree, reader.new)) }
         ensures shorter { OnOk result (length reader.new < length reader.old) }
     {
-        read(alloc, reader, depth)
+        let mut nodes = Vec::with_capacity(alloc, USUAL_NODES)?;
+        read(reader, &mut nodes, depth)?;
+        Ok(Tree { nodes })
     }
 
+    /// The value itself.
+    #[inline]
+    pub fn root(&self) -> Value<'_, 't>
+        ensures { view result ≡ tree_view self.now }
+    {
+        let nodes = self.nodes.as_slice();
+        match nodes.split_first() {
+            Some((head, inside)) => Value {
+                head: *head,
+                inside,
+            },
+            None => Value {
+                head: Node::Null,
+                inside: nodes,
+            },
+        }
+    }
+}
+
+impl<'t> Value<'t, 't> {
     /// The next value of the reader, where it is neither an array nor an object, however deep those may nest. It takes no
     /// memory.
     #[inline]
-    pub fn next_leaf(reader: &mut Reader<'t>) -> Option<Value<'t>>
+    pub fn next_leaf(reader: &mut Reader<'t>) -> Option<Value<'t, 't>>
         ensures leaf { IfSome result (λ v. (depth : ℕ) → converted of_json (value depth reader.old)
             ≡ Some (view v, reader.new)) }
         ensures shorter { OnSome result (length reader.new < length reader.old) }
     {
         match reader.next()? {
-            Token::String(text) => Some(Value::Text(text)),
-            Token::Number(text) => Some(Value::Number(Number::parse(text)?)),
-            Token::Bool(flag) => Some(Value::Bool(flag)),
-            Token::Null => Some(Value::Null),
+            Token::String(text) => Some(leaf(Node::Text(text))),
+            Token::Number(text) => Some(leaf(Node::Number(Number::parse(text)?))),
+            Token::Bool(flag) => Some(leaf(Node::Bool(flag))),
+            Token::Null => Some(leaf(Node::Null)),
             _ => None,
         }
     }
 }
 
-/// The next value of the reader. Arrays and objects may nest `depth` deep.
+/// The value that one node is.
+#[inline]
+fn leaf<'t>(head: Node<'t>) -> Value<'t, 't>
+    ensures { view result ≡ data_of head.entry [] }
+{
+    Value { head, inside: &[] }
+}
+
+/// Appends a node.
+#[inline]
+fn append<'t>(nodes: &mut Vec<Node<'t>>, node: Node<'t>) -> Result<(), ByteFault>
+    ensures ok { OnOk result (nodes.new.items ≡ nodes.old.items ++ node.entry ∷ []) }
+    ensures err { result ≢ Err ByteFault.NotJson }
+{
+    nodes.push(node)?;
+    Ok(())
+}
+
+/// Appends the next value of the reader. Arrays and objects may nest `depth` deep.
 #[cycle(read)]
-fn read<'t>(alloc: Global, reader: &mut Reader<'t>, depth: usize) -> Result<Value<'t>, ByteFault>
-    ensures ok { IfOk result
-        (λ v. converted of_json (value depth reader.old) ≡ Some (view v, reader.new)) }
+fn read<'t>(
+    reader: &mut Reader<'t>,
+    nodes: &mut Vec<Node<'t>>,
+    depth: usize,
+) -> Result<(), ByteFault>
+    ensures ok { OnOk result (Grows nodes.old.items nodes.new.items
+        (converted of_json (value depth reader.old)) reader.new) }
     ensures shorter { OnOk result (length reader.new < length reader.old) }
     ensures err { result ≡ Err ByteFault.NotJson
         → converted of_json (value depth reader.old) ≡ None }
 {
     let token = reader.next().ok_or(ByteFault::NotJson)?;
     match token {
-        Token::String(text) => Ok(Value::Text(text)),
+        Token::String(text) => append(nodes, Node::Text(text)),
         Token::Number(text) => match Number::parse(text) {
-            Some(number) => Ok(Value::Number(number)),
+            Some(number) => append(nodes, Node::Number(number)),
             None => Err(ByteFault::NotJson),
         },
-        Token::Bool(flag) => Ok(Value::Bool(flag)),
-        Token::Null => Ok(Value::Null),
+        Token::Bool(flag) => append(nodes, Node::Bool(flag)),
+        Token::Null => append(nodes, Node::Null),
         Token::EndObject | Token::EndArray | Token::Key(_) | Token::Bad => Err(ByteFault::NotJson),
-        Token::BeginArray => {
-            if depth == 0 {
-                return Err(ByteFault::NotJson);
-            }
-            Ok(Value::Array(read_items(alloc, reader, depth - 1)?))
-        }
-        Token::BeginObject => {
-            if depth == 0 {
-                return Err(ByteFault::NotJson);
-            }
-            Ok(Value::Object(read_members(alloc, reader, depth - 1)?))
-        }
+        Token::BeginArray => read_array(reader, nodes, depth),
+        Token::BeginObject => read_object(reader, nodes, depth),
     }
 }
 
-/// The items up to the end of the array.
+/// Appends the array whose bracket was read. Arrays and objects may nest `depth` deep, this one with them.
+#[cycle(read)]
+fn read_array<'t>(
+    reader: &mut Reader<'t>,
+    nodes: &mut Vec<Node<'t>>,
+    depth: usize,
+) -> Result<(), ByteFault>
+    ensures ok { OnOk result (Grows nodes.old.items nodes.new.items
+        (converted of_json (value depth (begin_array ∷ reader.old))) reader.new) }
+    ensures shorter { OnOk result (length reader.new < length reader.old) }
+    ensures err { result ≡ Err ByteFault.NotJson
+        → converted of_json (value depth (begin_array ∷ reader.old)) ≡ None }
+{
+    if depth == 0 {
+        return Err(ByteFault::NotJson);
+    }
+    let place = nodes.len();
+    append(nodes, Node::Array(0))?;
+    read_items(reader, nodes, depth - 1)?;
+    nodes[place] = Node::Array(nodes.len() - place - 1);
+    Ok(())
+}
+
+/// Appends the object whose brace was read. Arrays and objects may nest `depth` deep, this one with them.
+#[cycle(read)]
+fn read_object<'t>(
+    reader: &mut Reader<'t>,
+    nodes: &mut Vec<Node<'t>>,
+    depth: usize,
+) -> Result<(), ByteFault>
+    ensures ok { OnOk result (Grows nodes.old.items nodes.new.items
+        (converted of_json (value depth (begin_object ∷ reader.old))) reader.new) }
+    ensures shorter { OnOk result (length reader.new < length reader.old) }
+    ensures err { result ≡ Err ByteFault.NotJson
+        → converted of_json (value depth (begin_object ∷ reader.old)) ≡ None }
+{
+    if depth == 0 {
+        return Err(ByteFault::NotJson);
+    }
+    let place = nodes.len();
+    append(nodes, Node::Object(0))?;
+    read_members(reader, nodes, depth - 1)?;
+    nodes[place] = Node::Object(nodes.len() - place - 1);
+    Ok(())
+}
+
+/// Appends the items up to the end of the array.
 #[cycle(read)]
 fn read_items<'t>(
-    alloc: Global,
     reader: &mut Reader<'t>,
+    nodes: &mut Vec<Node<'t>>,
     depth: usize,
-) -> Result<Vec<Value<'t>>, ByteFault>
-    ensures ok { IfOk result
-        (λ v. converted of_items (items (value depth) (length reader.old) reader.old)
-        ≡ Some (items_view v.items, reader.new)) }
+) -> Result<(), ByteFault>
+    ensures ok { OnOk result (GrowsItems nodes.old.items nodes.new.items
+        (converted of_items (items (value depth) (length reader.old) reader.old)) reader.new) }
     ensures shorter { OnOk result (length reader.new < length reader.old) }
     ensures err { result ≡ Err ByteFault.NotJson
         → converted of_items (items (value depth) (length reader.old) reader.old) ≡ None }
 {
-    let mut found = Vec::new(alloc);
     'items: while !reader.take_end_array() {
-        let item = read(alloc, reader, depth)?;
-        found.push(item)?;
+        read(reader, nodes, depth)?;
     }
-    Ok(found)
+    Ok(())
 }
 
-/// The members up to the end of the object.
+/// Appends the members up to the end of the object.
 #[cycle(read)]
 fn read_members<'t>(
-    alloc: Global,
     reader: &mut Reader<'t>,
+    nodes: &mut Vec<Node<'t>>,
     depth: usize,
-) -> Result<Vec<(&'t str, Value<'t>)>, ByteFault>
-    ensures ok { IfOk result
-        (λ m. converted (λ ms. of_members ms no_members)
-        (members (value depth) (length reader.old) reader.old)
-        ≡ Some (members_view m.items, reader.new)) }
+) -> Result<(), ByteFault>
+    ensures ok { OnOk result (GrowsMembers nodes.old.items nodes.new.items
+        (converted (λ ms. of_members ms no_members)
+        (members (value depth) (length reader.old) reader.old)) reader.new) }
     ensures shorter { OnOk result (length reader.new < length reader.old) }
     ensures err { result ≡ Err ByteFault.NotJson
         → converted (λ ms. of_members ms no_members)
         (members (value depth) (length reader.old) reader.old) ≡ None }
 {
-    let mut found = Vec::with_capacity(alloc, USUAL_MEMBERS)?;
     'members: while let Some(name) = reader.next_key()? {
-        let member = read(alloc, reader, depth)?;
-        found.push((name, member))?;
+        append(nodes, Node::Name(name))?;
+        read(reader, nodes, depth)?;
     }
-    Ok(found)
+    Ok(())
 }

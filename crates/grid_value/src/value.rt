@@ -1,67 +1,97 @@
 // What a JSON value holds.
-ghost use Rattle.std.specs.Prelude.{◌≡◌, is_some, option_map, option_and_then};
+ghost use Rattle.std.specs.Prelude.{◌≡◌, ◌<◌, ℕ, [], ◌∷◌, length, is_some, option_map, option_and_then, nat_lt, MatchOption};
+ghost use Rattle.serde_json.specs.Data.{no_items, item, no_members};
 ghost use Rattle.serde_json.specs.Find.{get, get_member, as_bool, as_number, as_str, as_array, as_object, as_i64};
-ghost use Rattle.grid_value.specs.View.{view, items_view, members_view};
+ghost use Rattle.grid_value.specs.View.{view, items_view, listed, members_view, items_of, listed_of, items_len, First};
 
+use crate::node::Node;
 use crate::number::Number;
 use crate::text::same_text;
 
 /// A JSON value. Its texts and its members' names are lent by the text that it was read from, or by the scratch where they
 /// were written with escapes. It is seen as the data that `serde_json` reads of the same text: of members of one name the
 /// last counts.
-#[derive(Debug, Drop)]
-pub enum Value<'t> {
-    Null,
-    Bool(bool),
-    Number(Number),
-    Text(&'t str),
-    Array(Vec<Value<'t>>),
-    Object(Vec<(&'t str, Value<'t>)>),
+#[derive(Clone, Copy, Debug, Drop)]
+pub struct Value<'v, 't> {
+    pub(crate) head: Node<'t>,
+    pub(crate) inside: &'v [Node<'t>],
 }
 
-impl<'t> Value<'t> {
+/// The items of an array that are still to come.
+#[derive(Clone, Copy, Debug, Drop)]
+pub struct Items<'v, 't> {
+    nodes: &'v [Node<'t>],
+}
+
+/// The members of an object that are still to come, as they are written, names that come twice among them.
+#[derive(Clone, Copy, Debug, Drop)]
+pub struct Members<'v, 't> {
+    nodes: &'v [Node<'t>],
+}
+
+/// The value at the front of the nodes, and the nodes behind it.
+#[inline]
+pub(crate) fn first_of<'v, 't>(nodes: &'v [Node<'t>]) -> Option<(Value<'v, 't>, &'v [Node<'t>])>
+    ensures { MatchOption result (nodes.now ≡ []) (λ found. First nodes.now found.0 found.1.now) }
+{
+    let (head, behind) = nodes.split_first()?;
+    let (inside, rest) = behind.split_at(head.inside().min(behind.len()));
+    Some((
+        Value {
+            head: *head,
+            inside,
+        },
+        rest,
+    ))
+}
+
+impl<'v, 't> Value<'v, 't> {
+    #[inline]
     pub fn as_bool(&self) -> Option<bool>
         ensures { result ≡ as_bool (view self.now) }
     {
-        if let Value::Bool(flag) = self {
-            Some(*flag)
+        if let Node::Bool(flag) = self.head {
+            Some(flag)
         } else {
             None
         }
     }
 
+    #[inline]
     pub fn is_number(&self) -> bool
         ensures { result ≡ is_some (as_number (view self.now)) }
     {
-        matches!(self, Value::Number(_))
+        matches!(self.head, Node::Number(_))
     }
 
     /// The number, where it is whole and fits 64 bits with a sign.
+    #[inline]
     pub fn as_i64(&self) -> Option<i64>
         ensures { result ≡ option_and_then as_i64 (as_number (view self.now)) }
     {
-        if let Value::Number(number) = self {
+        if let Node::Number(number) = self.head {
             number.as_i64()
         } else {
             None
         }
     }
 
+    #[inline]
     pub fn as_str(&self) -> Option<&'t str>
         ensures { option_map (λ text. text.now) result ≡ as_str (view self.now) }
     {
-        if let Value::Text(text) = self {
-            Some(*text)
+        if let Node::Text(text) = self.head {
+            Some(text)
         } else {
             None
         }
     }
 
-    pub fn as_array(&self) -> Option<&Vec<Value<'t>>>
-        ensures { option_map (λ list. items_view list.now.items) result ≡ as_array (view self.now) }
+    pub fn as_array(&self) -> Option<Items<'v, 't>>
+        ensures { option_map items_view result ≡ as_array (view self.now) }
     {
-        if let Value::Array(list) = self {
-            Some(list)
+        if let Node::Array(_) = self.head {
+            Some(Items { nodes: self.inside })
         } else {
             None
         }
@@ -70,45 +100,89 @@ impl<'t> Value<'t> {
     pub fn is_object(&self) -> bool
         ensures { result ≡ is_some (as_object (view self.now)) }
     {
-        self.as_object().is_some()
+        matches!(self.head, Node::Object(_))
     }
 
-    /// The members as they are written, names that come twice among them.
-    pub fn as_object(&self) -> Option<&Vec<(&'t str, Value<'t>)>>
-        ensures { option_map (λ list. members_view list.now.items) result
-            ≡ as_object (view self.now) }
+    pub fn as_object(&self) -> Option<Members<'v, 't>>
+        ensures { option_map members_view result ≡ as_object (view self.now) }
     {
-        if let Value::Object(members) = self {
-            Some(members)
+        if let Node::Object(_) = self.head {
+            Some(Members { nodes: self.inside })
         } else {
             None
         }
     }
 
     /// The last member of that name, where this is an object.
-    pub fn get(&self, name: &str) -> Option<&Value<'t>>
-        ensures { option_map (λ found. view found.now) result ≡ get name.now (view self.now) }
+    pub fn get(&self, name: &str) -> Option<Value<'v, 't>>
+        ensures { option_map view result ≡ get name.now (view self.now) }
     {
-        if let Value::Object(members) = self {
-            find(members, name)
-        } else {
-            None
-        }
+        self.as_object()?.last_of(name)
     }
 }
 
-/// The last member of that name.
-fn find<'v, 't>(members: &'v Vec<(&'t str, Value<'t>)>, name: &str) -> Option<&'v Value<'t>>
-    ensures { option_map (λ found. view found.now) result
-        ≡ get_member name.now (members_view members.now.items) }
-{
-    let mut left = members.len();
-    while left > 0 {
-        left -= 1;
-        let member = &members[left];
-        if same_text(member.0, name) {
-            return Some(&member.1);
+impl<'v, 't> Items<'v, 't> {
+    /// The next item.
+    #[inline]
+    pub fn next(&mut self) -> Option<Value<'v, 't>>
+        ensures { MatchOption result (items_view self.old ≡ no_items)
+            (λ v. items_view self.old ≡ item (view v) (items_view self.new)) }
+    {
+        match first_of(self.nodes) {
+            None => None,
+            Some((value, rest)) => {
+                *self = Items { nodes: rest };
+                Some(value)
+            }
         }
     }
-    None
+
+    /// Whether more than so many items are still to come. It passes over no more of them.
+    pub fn are_above(&self, most: usize) -> bool
+        ensures { result ≡ nat_lt most (items_len (items_view self.now)) }
+    {
+        let mut items = *self;
+        let mut left = most;
+        while left > 0 {
+            if items.next().is_none() {
+                return false;
+            }
+            left -= 1;
+        }
+        items.next().is_some()
+    }
+}
+
+impl<'v, 't> Members<'v, 't> {
+    /// The next member.
+    #[inline]
+    pub fn next(&mut self) -> Option<(&'t str, Value<'v, 't>)>
+        ensures { MatchOption result (listed self.old ≡ [])
+            (λ m. listed self.old ≡ (m.0.now, view m.1) ∷ listed self.new) }
+    {
+        match self.nodes.split_first() {
+            None => None,
+            Some((name, behind)) => match first_of(behind) {
+                None => None,
+                Some((value, rest)) => {
+                    *self = Members { nodes: rest };
+                    Some((name.name(), value))
+                }
+            },
+        }
+    }
+
+    /// The last of the members that have that name.
+    fn last_of(&self, name: &str) -> Option<Value<'v, 't>>
+        ensures { option_map view result ≡ get_member name.now (members_view self.now) }
+    {
+        let mut members = *self;
+        let mut found = None;
+        while let Some((known, value)) = members.next() {
+            if same_text(known, name) {
+                found = Some(value);
+            }
+        }
+        found
+    }
 }

@@ -1,8 +1,12 @@
-use Rattle.std.proofs.Common.{◌≡◌, true, take}
-use Rattle.std.specs.List.{list_any, list_all}
-use Rattle.std.specs.Str.{bytes_eq}
+use Rattle.std.proofs.Common.{◌≡◌, length}
+use Rattle.grid_value.specs.View.{listed, members_view}
+use Rattle.grid_json.specs.Reading.{texts, all_known}
+use Rattle.grid_json.proofs.Objects.{are_known}
 use Rattle.grid_json.proofs.read.has_only.Given as goal
 
--- the names of the first members are known
-abbrev pub invariant-loop-place : goal.invariant-loop-place
-invariant-loop-place l = list_all (λ member. list_any (λ known. bytes_eq known.now member.0.now) l.names) (take l.place l.members) ≡ true
+-- the members that were passed are known
+abbrev pub invariant-loop-name : goal.invariant-loop-name
+invariant-loop-name l = all_known (texts l.names) (members_view l.members) ≡ are_known (texts l.names) (listed l.left)
+
+abbrev pub decreases-loop-name : goal.decreases-loop-name
+decreases-loop-name l = length (listed l.left)

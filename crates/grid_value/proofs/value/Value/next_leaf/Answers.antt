@@ -4,31 +4,25 @@ use Rattle.json.specs.Json.{value}
 use Rattle.json.proofs.Grammar.{value_is}
 use Rattle.serde_json.specs.Data.{null, boolean, number, string}
 use Rattle.serde_json.specs.Read.{of_json, converted}
-use Rattle.grid_value.specs.View.{view, number_view}
-use Rattle.grid_value.specs.declared.value.Value.{Text, Number, Bool, Null, the_lemmas}
 use Rattle.grid_value.proofs.value.Value.next_leaf.Goals as goal
 
 pub returns-in-String-clause-leaf : goal.returns-in-String-clause-leaf
 returns-in-String-clause-leaf c = λ depth.
     let first : c.args.reader.now ≡ Token.string c.in-String.text.now ∷ c.next.new.self = grind arith in
-    let seen : view (Text c.in-String.text) ≡ string c.in-String.text.now = search (rules, the_lemmas) in
-    ap (λ ts. converted of_json (value depth ts)) first ∙ ap (converted of_json) (value_is depth _) ∙ ap (λ d. Some (d, c.next.new.self)) (sym seen)
+    ap (λ ts. converted of_json (value depth ts)) first ∙ ap (converted of_json) (value_is depth _) ∙ ap (λ d. Some (d, c.next.new.self)) (sym c.leaf.ensures)
 
 pub returns-in_ok-parse-in-Number-clause-leaf : goal.returns-in_ok-parse-in-Number-clause-leaf
 returns-in_ok-parse-in-Number-clause-leaf c = λ depth.
     let read = c.in_ok-parse-in-Number in
     let first : c.args.reader.now ≡ Token.number c.in-Number.text.now ∷ c.next.new.self = grind arith in
-    let seen : view (Number read.field-0) ≡ number (number_view read.field-0) = search (rules, the_lemmas) in
-    ap (λ ts. converted of_json (value depth ts)) first ∙ ap (converted of_json) (value_is depth _) ∙ rw (← read.ensures, seen)
+    ap (λ ts. converted of_json (value depth ts)) first ∙ ap (converted of_json) (value_is depth _) ∙ rw (← read.ensures) (ap (λ d. Some (d, c.next.new.self)) (sym c.leaf-in-Number.ensures))
 
 pub returns-in-Bool-clause-leaf : goal.returns-in-Bool-clause-leaf
 returns-in-Bool-clause-leaf c = λ depth.
     let first : c.args.reader.now ≡ Token.boolean c.in-Bool.flag ∷ c.next.new.self = grind arith in
-    let seen : view (Bool c.in-Bool.flag) ≡ boolean c.in-Bool.flag = search (rules, the_lemmas) in
-    ap (λ ts. converted of_json (value depth ts)) first ∙ ap (converted of_json) (value_is depth _) ∙ ap (λ d. Some (d, c.next.new.self)) (sym seen)
+    ap (λ ts. converted of_json (value depth ts)) first ∙ ap (converted of_json) (value_is depth _) ∙ ap (λ d. Some (d, c.next.new.self)) (sym c.leaf-in-Bool.ensures)
 
 pub returns-in-Null-clause-leaf : goal.returns-in-Null-clause-leaf
 returns-in-Null-clause-leaf c = λ depth.
     let first : c.args.reader.now ≡ Token.null ∷ c.next.new.self = grind arith in
-    let seen : view Null ≡ null = search (rules, the_lemmas) in
-    ap (λ ts. converted of_json (value depth ts)) first ∙ ap (converted of_json) (value_is depth _) ∙ ap (λ d. Some (d, c.next.new.self)) (sym seen)
+    ap (λ ts. converted of_json (value depth ts)) first ∙ ap (converted of_json) (value_is depth _) ∙ ap (λ d. Some (d, c.next.new.self)) (sym c.leaf-in-Null.ensures)
