@@ -1,5 +1,5 @@
 // The first pass over a job straight from its tokens, where it has no fault.
-ghost use Rattle.std.specs.Prelude.{◌≡◌, ◌<◌, ◌≤◌, length, unwrap_or, codes, None, Ok, IfSome, OnSome, IsTrue};
+ghost use Rattle.std.specs.Prelude.{◌≡◌, ◌<◌, ◌≤◌, length, unwrap_or, codes, None, Ok, IfOk, IfSome, OnSome, IsTrue};
 ghost use Rattle.grid_json.specs.declared.format.Format.TheVariants.{One};
 ghost use Rattle.grid_json.specs.Job.{command_total, max_commands, draft_at};
 ghost use Rattle.grid_json.specs.Streams.{Streams, Fills, Takes};
@@ -14,7 +14,7 @@ use crate::tokens::{FromTokens, Slots, fill, leaf, object_of, small};
 use grid_ids::Seq;
 use grid_requests::{Request, Scripts};
 use grid_value::{MAX_DEPTH, Scratch};
-use json::Reader;
+use json::{Reader, Token};
 use std::alloc::Global;
 
 impl FromTokens for Format {
@@ -173,19 +173,40 @@ fn next_draft(alloc: Global, reader: &mut Reader<'_>, depth: usize) -> Option<Jo
     })
 }
 
+/// Where a pass over tokens stopped, which is a guess at what is wrong, and promises nothing.
+#[derive(Clone, Copy, Debug, Drop, PartialEq, Eq)]
+pub enum Stop {
+    /// Before a good token, as where a job has a fault.
+    Midway,
+    /// Where no good token follows, as where the text is broken.
+    AtEnd,
+}
+
+/// Where the reader stands.
+fn stop_of(reader: &mut Reader<'_>) -> Stop {
+    match reader.next() {
+        None | Some(Token::Bad) => Stop::AtEnd,
+        Some(_) => Stop::Midway,
+    }
+}
+
 /// The first pass over the bytes, where they spell a job with no fault whose format stands before what is read by it.
-pub fn stream_draft(alloc: Global, bytes: &[u8]) -> Option<JobDraft>
-    ensures draft { IfSome result (λ draft. draft_of bytes.now ≡ Ok draft) }
-    ensures total { IfSome result (λ draft. command_total draft.scripts ≤ max_commands) }
+pub fn stream_draft(alloc: Global, bytes: &[u8]) -> Result<JobDraft, Stop>
+    ensures draft { IfOk result (λ draft. draft_of bytes.now ≡ Ok draft) }
+    ensures total { IfOk result (λ draft. command_total draft.scripts ≤ max_commands) }
 {
     let Ok(text) = std::str::from_utf8(bytes) else {
-        return None;
+        return Err(Stop::AtEnd);
     };
     let mut scratch = Scratch::new(alloc);
-    let mut reader = Reader::new(text, &mut scratch).ok()?;
-    let draft = next_draft(alloc, &mut reader, MAX_DEPTH)?;
+    let Ok(mut reader) = Reader::new(text, &mut scratch) else {
+        return Err(Stop::Midway);
+    };
+    let Some(draft) = next_draft(alloc, &mut reader, MAX_DEPTH) else {
+        return Err(stop_of(&mut reader));
+    };
     if reader.next().is_some() {
-        return None;
+        return Err(Stop::AtEnd);
     }
-    Some(draft)
+    Ok(draft)
 }

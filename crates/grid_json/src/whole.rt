@@ -1,5 +1,6 @@
 // Jobs from bytes.
-ghost use Rattle.std.specs.Prelude.{◌≡◌, ◌≤◌, codes, IfOk};
+ghost use Rattle.std.specs.Prelude.{◌≡◌, ◌≤◌, None, codes, IfOk, IsTrue};
+ghost use Rattle.grid_value.specs.Bytes.{reading};
 ghost use Rattle.grid_value.specs.View.{view};
 ghost use Rattle.grid_json.specs.Job.{command_total, max_commands, draft_at};
 ghost use Rattle.grid_json.specs.Reading.{Gives, member_at};
@@ -7,12 +8,12 @@ ghost use Rattle.grid_json.specs.Whole.{loaded, whole_job_at, or_bad_job, draft_
 
 use crate::job::{JobDraft, Order, read_draft};
 use crate::load::load_network;
-use crate::stream::stream_draft;
+use crate::stream::{Stop, stream_draft};
 use crate::{Place, ReadError, Reason};
 use grid_events::Filters;
 use grid_requests::Scripts;
 use grid_structure::Structure;
-use grid_value::{ByteFault, Scratch, Tree, Value};
+use grid_value::{ByteFault, Scratch, Tree, Value, is_grammatical};
 use std::alloc::Global;
 
 /// A network with its listeners, the scripts of its workers, and the order of their steps, where one is given.
@@ -50,22 +51,46 @@ fn read_first(alloc: Global, value: &Value) -> Result<JobDraft, JobFault>
     }
 }
 
-/// The first pass over the bytes, straight from the tokens where that goes, and else over a value of them, which is given
-/// up then.
+/// The first pass over a tree of all that the bytes spell.
 #[tactic(auto, unfolding(crate::specs::Whole::draft_of))]
-fn read_bytes(alloc: Global, bytes: &[u8]) -> Result<JobDraft, JobFault>
+fn read_tree(alloc: Global, bytes: &[u8]) -> Result<JobDraft, JobFault>
     ensures draft { JobGives result (draft_of bytes.now) }
     ensures total { IfOk result (λ draft. command_total draft.scripts ≤ max_commands) }
 {
-    if let Some(draft) = stream_draft(alloc, bytes) {
-        return Ok(draft);
-    }
     let mut scratch = Scratch::new(alloc);
     match Tree::from_slice(alloc, bytes, &mut scratch) {
         Ok(tree) => read_first(alloc, &tree.root()),
         Err(ByteFault::NotJson) => Err(JobFault::BadJson),
         Err(ByteFault::Memory) => Err(JobFault::Memory),
     }
+}
+
+/// Whether a pass over the tokens, which keeps nothing of them, tells that the bytes are no JSON.
+fn is_broken(alloc: Global, bytes: &[u8]) -> bool
+    ensures { IsTrue result → reading bytes.now ≡ None }
+{
+    let mut scratch = Scratch::new(alloc);
+    match is_grammatical(bytes, &mut scratch) {
+        Ok(is_one) => !is_one,
+        Err(_) => false,
+    }
+}
+
+/// The first pass over the bytes, straight from the tokens where that goes, and else over a tree of them, which is given
+/// up then. Where the tokens came to an end, the text is looked at first, since a tree of a broken text is made in vain.
+#[tactic(auto, unfolding(crate::specs::Whole::draft_of))]
+fn read_bytes(alloc: Global, bytes: &[u8]) -> Result<JobDraft, JobFault>
+    ensures draft { JobGives result (draft_of bytes.now) }
+    ensures total { IfOk result (λ draft. command_total draft.scripts ≤ max_commands) }
+{
+    let stop = match stream_draft(alloc, bytes) {
+        Ok(draft) => return Ok(draft),
+        Err(stop) => stop,
+    };
+    if stop == Stop::AtEnd && is_broken(alloc, bytes) {
+        return Err(JobFault::BadJson);
+    }
+    read_tree(alloc, bytes)
 }
 
 /// The second pass: the draft with its network loaded.

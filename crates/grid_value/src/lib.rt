@@ -1,12 +1,14 @@
 //! JSON values whose texts are lent by the bytes that they were read from.
 #![tactic(auto)]
 
+mod grammar;
 mod node;
 mod number;
 mod read;
 mod text;
 mod value;
 
+pub use grammar::is_grammatical;
 pub use json::Scratch;
 pub use node::Node;
 pub use number::Number;
