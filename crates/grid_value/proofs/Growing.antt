@@ -1,5 +1,5 @@
 -- Members that are put one after the other, and looked for.
-use Rattle.std.proofs.Common.{◌≡◌, List, [], ◌∷◌, ◌++◌, ℕ, ◌-◌, length, slice_set, Bool, true, false, cond, Option, Some, None, Result, Ok, Err, bytes_eq, true≢false, refl, sym, ap, ap₂, ◌∙◌, arith, append_assoc, length-append}
+use Rattle.std.proofs.Common.{◌≡◌, List, [], ◌∷◌, ◌++◌, ℕ, ◌-◌, length, slice_set, Bool, true, false, cond, Option, Some, None, Result, Ok, Err, bytes_eq, true≢false, refl, sym, ap, ap₂, ◌∙◌, arith, length-append}
 use Rattle.std.proofs.Math.Seq.{set-append_seam}
 use Rattle.std.proofs.lemmas.Slice.Eq.{bytes_eq-Decides}
 use Rattle.std.specs.Prelude.{OnOk}

@@ -1,11 +1,14 @@
 -- What nodes spell, a value at a time.
-use Rattle.std.proofs.Common.{◌≡◌, ℕ, zero, suc, ◌≤◌, List, [], ◌∷◌, ◌++◌, length, take, drop, refl, sym, ap, ap₂, ◌∙◌, arith, append_assoc}
+use Rattle.std.proofs.Common.{◌≡◌, ℕ, zero, suc, ◌≤◌, List, [], ◌∷◌, ◌++◌, length, take, drop, refl, sym, ap, ap₂, ◌∙◌, arith, append_assoc, Option, Some, None}
 use Rattle.std.proofs.lemmas.List.{length-take, length-drop, take_at, drop_at, append-nil}
 use Rattle.serde_json.specs.Data.{Data, array, object, item, Items, no_items, no_members}
 use Rattle.grid_value.specs.declared.node.Node.{Node}
 use Rattle.grid_value.specs.declared.node.Node.TheVariants as nodes
 use Rattle.grid_value.specs.declared.value.Value.{Value}
-use Rattle.grid_value.specs.View.{First, view, Spelling, Listed, inside, name_of, data_by, data_of, spelling, items_of, listed_of, put_each}
+use Rattle.grid_value.specs.declared.value.Items.{Items as ItemsLeft}
+use Rattle.grid_value.specs.declared.value.Members.{Members as MembersLeft}
+use Rattle.grid_value.specs.View.{First, view, Spelling, Listed, inside, name_of, data_by, data_of, items_view, spelling, items_of, listed_of, put_each}
+use Rattle.grid_value.specs.Passing.{PassesMember}
 
 -- ---- the bound on the turns does not matter
 
@@ -128,3 +131,21 @@ listed_alone k ns none = ap (λ ms. listed_of (k ∷ ms)) none
 pub listed_next : (k : Node) (ns : List Node) (v : Value) (rest : List Node) → First ns v rest → listed_of (k ∷ ns) ≡ (name_of k, view v) ∷ listed_of rest
 listed_next k [] v rest cut = absurd cut
 listed_next k (n ∷ ns) v rest cut = listed_first k n ns ∙ ap₂ (λ d ms. (name_of k, d) ∷ ms) (ap₂ data_of (sym cut.0) (sym cut.1)) (ap listed_of (sym cut.2))
+
+-- ---- the first of some items
+
+abbrev pub first_item : Items → Option Data
+first_item no_items = None
+first_item (item d ds) = Some d
+
+abbrev pub first_found : Option ItemsLeft → Option Data
+first_found None = None
+first_found (Some front) = first_item (items_view front)
+
+pub passes : (old new : MembersLeft) (front : ItemsLeft) (k n : Node) (ns behind : List Node) → old.nodes.now ≡ k ∷ behind → behind ≡ n ∷ ns → front.nodes.now ≡ behind → new.nodes.now ≡ drop (inside n) ns → PassesMember old (name_of k) front new
+passes old new front k n ns behind cut first same rest = (
+  data_of n (take (inside n) ns),
+  items_of (drop (inside n) ns),
+  ap items_of (same ∙ first) ∙ items_first n ns,
+  ap listed_of (cut ∙ ap (λ all. k ∷ all) first) ∙ listed_first k n ns ∙ ap (λ all. (name_of k, data_of n (take (inside n) ns)) ∷ listed_of all) (sym rest),
+)

@@ -4,7 +4,7 @@ use Rattle.std.specs.Str.{is_utf8}
 use Rattle.json.specs.Lex.{tokens}
 use Rattle.json.specs.Json.{Json, if_last, value}
 use Rattle.serde_json.specs.Data.{Data}
-use Rattle.serde_json.specs.Read.{max_depth, of_json, read}
+use Rattle.serde_json.specs.Read.{max_depth, read}
 
 -- the JSON value that the bytes spell, where they are text and spell one
 unfoldable pub reading : List ℕ → Option Data

@@ -1,5 +1,5 @@
 -- Trees, and how their nodes grow while they are read.
-use Rattle.std.specs.Prelude.{◌≡◌, ◌+◌, List, [], ◌∷◌, ◌++◌, length, Option, Some}
+use Rattle.std.specs.Prelude.{◌≡◌, List, [], ◌∷◌, ◌++◌, length, Option, Some}
 use Rattle.json.specs.Token.{Token}
 use Rattle.serde_json.specs.Data.{Data, null, Items, Members, no_members}
 use Rattle.grid_value.specs.declared.node.Node.{Node}

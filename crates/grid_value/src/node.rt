@@ -19,7 +19,7 @@ pub enum Node<'t> {
 
 impl<'t> Node<'t> {
     /// How many nodes behind this one belong to it.
-    #[inline]
+    #[inline(always)]
     pub(crate) fn inside(&self) -> usize
         ensures { result ≡ inside self.now }
     {
@@ -30,7 +30,7 @@ impl<'t> Node<'t> {
     }
 
     /// The name that this node is.
-    #[inline]
+    #[inline(always)]
     pub(crate) fn name(&self) -> &'t str
         ensures { result.now ≡ name_of self.now }
     {

@@ -153,7 +153,7 @@ fn leaf<'t>(head: Node<'t>) -> Value<'t, 't>
 }
 
 /// Appends a node.
-#[inline]
+#[inline(always)]
 fn append<'t>(nodes: &mut Vec<Node<'t>>, node: Node<'t>) -> Result<(), ByteFault>
     ensures ok { OnOk result (nodes.new.items ≡ nodes.old.items ++ node.entry ∷ []) }
     ensures err { result ≢ Err ByteFault.NotJson }

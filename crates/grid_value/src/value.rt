@@ -3,6 +3,7 @@ ghost use Rattle.std.specs.Prelude.{◌≡◌, ◌<◌, ℕ, [], ◌∷◌, leng
 ghost use Rattle.serde_json.specs.Data.{no_items, item, no_members};
 ghost use Rattle.serde_json.specs.Find.{get, get_member, as_bool, as_number, as_str, as_array, as_object, as_i64};
 ghost use Rattle.grid_value.specs.View.{view, items_view, listed, members_view, items_of, listed_of, items_len, First};
+ghost use Rattle.grid_value.specs.Passing.{PassesMember};
 
 use crate::node::Node;
 use crate::number::Number;
@@ -30,7 +31,7 @@ pub struct Members<'v, 't> {
 }
 
 /// The value at the front of the nodes, and the nodes behind it.
-#[inline]
+#[inline(always)]
 pub(crate) fn first_of<'v, 't>(nodes: &'v [Node<'t>]) -> Option<(Value<'v, 't>, &'v [Node<'t>])>
     ensures { MatchOption result (nodes.now ≡ []) (λ found. First nodes.now found.0 found.1.now) }
 {
@@ -123,7 +124,7 @@ impl<'v, 't> Value<'v, 't> {
 
 impl<'v, 't> Items<'v, 't> {
     /// The next item.
-    #[inline]
+    #[inline(always)]
     pub fn next(&mut self) -> Option<Value<'v, 't>>
         ensures { MatchOption result (items_view self.old ≡ no_items)
             (λ v. items_view self.old ≡ item (view v) (items_view self.new)) }
@@ -155,7 +156,7 @@ impl<'v, 't> Items<'v, 't> {
 
 impl<'v, 't> Members<'v, 't> {
     /// The next member.
-    #[inline]
+    #[inline(always)]
     pub fn next(&mut self) -> Option<(&'t str, Value<'v, 't>)>
         ensures { MatchOption result (listed self.old ≡ [])
             (λ m. listed self.old ≡ (m.0.now, view m.1) ∷ listed self.new) }
@@ -172,17 +173,37 @@ impl<'v, 't> Members<'v, 't> {
         }
     }
 
+    /// Passes over the next member, and gives its name and items of which its value is the first.
+    #[inline(always)]
+    fn pass(&mut self) -> Option<(&'t str, Items<'v, 't>)>
+        ensures { MatchOption result (listed self.old ≡ [])
+            (λ m. PassesMember self.old m.0.now m.1 self.new) }
+    {
+        let Some((name, behind)) = self.nodes.split_first() else {
+            return None;
+        };
+        let Some((head, inside)) = behind.split_first() else {
+            return None;
+        };
+        let (_, rest) = inside.split_at(head.inside().min(inside.len()));
+        *self = Members { nodes: rest };
+        Some((name.name(), Items { nodes: behind }))
+    }
+
     /// The last of the members that have that name.
     fn last_of(&self, name: &str) -> Option<Value<'v, 't>>
         ensures { option_map view result ≡ get_member name.now (members_view self.now) }
     {
         let mut members = *self;
         let mut found = None;
-        while let Some((known, value)) = members.next() {
+        while let Some((known, items)) = members.pass() {
             if same_text(known, name) {
-                found = Some(value);
+                found = Some(items);
             }
         }
-        found
+        match found {
+            Some(mut items) => items.next(),
+            None => None,
+        }
     }
 }

@@ -11,9 +11,9 @@ pub returns-clause-draft : goal.returns-clause-draft
 unfolding draft_of
 returns-clause-draft c =
     let text = c.in-Ok.ensures.cases in
-    let from : c.in_ok-reader.reader ≡ tokens c.in-Ok.text.now = grind arith in
+    let from : c.in-Ok-new.reader ≡ tokens c.in-Ok.text.now = grind arith in
     let end : c.next_draft.new.reader ≡ [] = search rules in
-    let read = c.in_ok-draft.ensures.draft in
+    let read = c.in-Some.ensures.draft in
     let next = rw (from, end) at read.1 in
     let is : reading c.args.bytes.now ≡ Some read.0 =
     reading_some c.args.bytes.now read.0 text.1 (ap (λ t. whole (value 127 (tokens t))) (sym text.0) ∙ whole_some (value 127 (tokens c.in-Ok.text.now)) read.0 next) in

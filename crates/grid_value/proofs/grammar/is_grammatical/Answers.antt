@@ -1,8 +1,7 @@
-use Rattle.std.proofs.Common.{◌≡◌, List, [], ◌∷◌, Bool, true, false, Option, Some, None, sym, ap, ◌∙◌, arith, rules}
-use Rattle.std.specs.Prelude.{is_some, option_map}
+use Rattle.std.proofs.Common.{◌≡◌, List, [], ◌∷◌, Some, None, sym, ap, ◌∙◌, rules}
+use Rattle.std.specs.Prelude.{is_some}
 use Rattle.json.specs.Lex.{tokens}
 use Rattle.json.specs.Json.{skip_value, value}
-use Rattle.grid_value.specs.Bytes.{spelled}
 use Rattle.grid_value.proofs.Texts.{alone, spelled_text, spelled_none, not_spelled, alone_refused, alone_passed, alone_longer}
 use Rattle.grid_value.proofs.grammar.is_grammatical.Goals as goal
 

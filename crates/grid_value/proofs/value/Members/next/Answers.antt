@@ -1,5 +1,5 @@
-use Rattle.std.proofs.Common.{◌≡◌, [], ◌∷◌, sym, ap, ◌∙◌, rules, arith}
-use Rattle.grid_value.specs.View.{listed_of, name_of, view}
+use Rattle.std.proofs.Common.{◌≡◌, ◌∷◌, sym, ap, ◌∙◌, arith}
+use Rattle.grid_value.specs.View.{listed_of, view}
 use Rattle.grid_value.proofs.Spelled.{listed_end, listed_alone, listed_next}
 use Rattle.grid_value.proofs.value.Members.next.Goals as goal
 
