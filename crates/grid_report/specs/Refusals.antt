@@ -9,38 +9,82 @@ use Rattle.grid_core.specs.declared.reply.Refusal.TheVariants as refusals
 use Rattle.grid_report.specs.Words.{behind}
 use Rattle.grid_report.specs.Lines.{terminal_text}
 
--- a value that may not stand, and the bound that it breaks
-unfoldable pub check_text : CheckFault → List ℕ
-check_text (checks.NominalNotPositive found bound) = codes "10 nominal not positive" ++ behind found ++ behind bound
-check_text (checks.VoltageLimits found bound) = codes "11 voltage limits" ++ behind found ++ behind bound
-check_text (checks.PowerLimits found bound) = codes "12 power limits" ++ behind found ++ behind bound
-check_text (checks.Sections found bound) = codes "13 sections" ++ behind found ++ behind bound
-check_text (checks.RatedNotPositive found bound) = codes "14 rated not positive" ++ behind found ++ behind bound
+-- ---- numbers
 
-unfoldable pub fault_text : EditFault → List ℕ
-fault_text (faults.Check fault) = check_text fault
-fault_text (faults.NodeRange node) = codes "20 node range" ++ behind node
-fault_text (faults.NodeTaken terminal) = codes "21 node taken by " ++ terminal_text terminal
-fault_text (faults.SameNode node) = codes "22 same node" ++ behind node
-fault_text faults.NoEdge = codes "23 no edge"
-fault_text faults.TooManyNodes = codes "24 too many nodes"
-fault_text faults.TooManyEdges = codes "25 too many edges"
-fault_text faults.IdTaken = codes "30 id taken"
-fault_text faults.NoSubstation = codes "31 no substation"
-fault_text faults.NoLevel = codes "32 no level"
-fault_text faults.NoSuchId = codes "33 no such id"
-fault_text (faults.OtherSubstation side) = codes "34 other substation " ++ decimal side
-fault_text faults.TooManyLevels = codes "35 too many levels"
-fault_text faults.TooManySwitches = codes "36 too many switches"
+unfoldable pub check_number : CheckFault → ℕ
+check_number (checks.NominalNotPositive found bound) = 10
+check_number (checks.VoltageLimits found bound) = 11
+check_number (checks.PowerLimits found bound) = 12
+check_number (checks.Sections found bound) = 13
+check_number (checks.RatedNotPositive found bound) = 14
+
+unfoldable pub fault_number : EditFault → ℕ
+fault_number (faults.Check fault) = check_number fault
+fault_number (faults.NodeRange node) = 20
+fault_number (faults.NodeTaken terminal) = 21
+fault_number (faults.SameNode node) = 22
+fault_number faults.NoEdge = 23
+fault_number faults.TooManyNodes = 24
+fault_number faults.TooManyEdges = 25
+fault_number faults.IdTaken = 30
+fault_number faults.NoSubstation = 31
+fault_number faults.NoLevel = 32
+fault_number faults.NoSuchId = 33
+fault_number (faults.OtherSubstation side) = 34
+fault_number faults.TooManyLevels = 35
+fault_number faults.TooManySwitches = 36
+
+unfoldable pub refusal_number : Refusal → ℕ
+refusal_number refusals.NoVariant = 40
+refusal_number refusals.NoSwitch = 41
+refusal_number refusals.NoEquipment = 42
+refusal_number refusals.NoSide = 43
+refusal_number refusals.NoLevel = 44
+refusal_number refusals.TargetExists = 45
+refusal_number refusals.InitialStays = 46
+refusal_number refusals.TooManyVariants = 47
+refusal_number refusals.NoPower = 48
+refusal_number (refusals.Edit fault) = fault_number fault
+
+-- ---- reasons
+
+-- a value that may not stand, and the bound that it breaks
+unfoldable pub check_reason : CheckFault → List ℕ
+check_reason (checks.NominalNotPositive found bound) = codes "nominal not positive" ++ behind found ++ behind bound
+check_reason (checks.VoltageLimits found bound) = codes "voltage limits" ++ behind found ++ behind bound
+check_reason (checks.PowerLimits found bound) = codes "power limits" ++ behind found ++ behind bound
+check_reason (checks.Sections found bound) = codes "sections" ++ behind found ++ behind bound
+check_reason (checks.RatedNotPositive found bound) = codes "rated not positive" ++ behind found ++ behind bound
+
+unfoldable pub fault_reason : EditFault → List ℕ
+fault_reason (faults.Check fault) = check_reason fault
+fault_reason (faults.NodeRange node) = codes "node range" ++ behind node
+fault_reason (faults.NodeTaken terminal) = codes "node taken by " ++ terminal_text terminal
+fault_reason (faults.SameNode node) = codes "same node" ++ behind node
+fault_reason faults.NoEdge = codes "no edge"
+fault_reason faults.TooManyNodes = codes "too many nodes"
+fault_reason faults.TooManyEdges = codes "too many edges"
+fault_reason faults.IdTaken = codes "id taken"
+fault_reason faults.NoSubstation = codes "no substation"
+fault_reason faults.NoLevel = codes "no level"
+fault_reason faults.NoSuchId = codes "no such id"
+fault_reason (faults.OtherSubstation side) = codes "other substation " ++ decimal side
+fault_reason faults.TooManyLevels = codes "too many levels"
+fault_reason faults.TooManySwitches = codes "too many switches"
+
+unfoldable pub reason_text : Refusal → List ℕ
+reason_text refusals.NoVariant = codes "no variant"
+reason_text refusals.NoSwitch = codes "no switch"
+reason_text refusals.NoEquipment = codes "no equipment"
+reason_text refusals.NoSide = codes "no side"
+reason_text refusals.NoLevel = codes "no level"
+reason_text refusals.TargetExists = codes "target exists"
+reason_text refusals.InitialStays = codes "initial stays"
+reason_text refusals.TooManyVariants = codes "too many variants"
+reason_text refusals.NoPower = codes "no power"
+reason_text (refusals.Edit fault) = fault_reason fault
+
+-- ---- refusals
 
 unfoldable pub refusal_text : Refusal → List ℕ
-refusal_text refusals.NoVariant = codes "40 no variant"
-refusal_text refusals.NoSwitch = codes "41 no switch"
-refusal_text refusals.NoEquipment = codes "42 no equipment"
-refusal_text refusals.NoSide = codes "43 no side"
-refusal_text refusals.NoLevel = codes "44 no level"
-refusal_text refusals.TargetExists = codes "45 target exists"
-refusal_text refusals.InitialStays = codes "46 initial stays"
-refusal_text refusals.TooManyVariants = codes "47 too many variants"
-refusal_text refusals.NoPower = codes "48 no power"
-refusal_text (refusals.Edit fault) = fault_text fault
+refusal_text refusal = decimal (refusal_number refusal) ++ codes " " ++ reason_text refusal

@@ -21,6 +21,7 @@ pub use outcome::{BusViews, Outcome, VariantView, VariantViews};
 pub use parallel::write_report_on_threads;
 pub use pieces::{Pieces, ReportFault};
 pub use plan::{put_order, put_variant, put_worker};
-pub use refusal::put_refusal;
+pub use refusal::{put_reason, put_refusal, refusal_number};
+pub use reply::put_answer;
 pub use report::{Blocks, write_blocks, write_report, write_text};
 pub use text::{Shown, Text, put_named, put_spaced};

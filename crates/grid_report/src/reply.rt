@@ -89,9 +89,9 @@ fn put_totals(out: &mut Text, load: &i128, generation: &i128) -> Result<(), Memo
     out.put_signed(generation)
 }
 
-/// Puts the answer on a command's line.
+/// Puts the answer on a command's line. Where memory is wanting, the text is empty.
 #[tactic(auto, unfolding(crate::specs::Replies::answer_text))]
-pub(crate) fn put_answer(out: &mut Text, reply: &Reply) -> Result<(), Memory>
+pub fn put_answer(out: &mut Text, reply: &Reply) -> Result<(), Memory>
     ensures ok { OnOk result (out.new ≡ out.old ++ answer_text reply.now) }
     ensures err { OnErr result (out.new ≡ []) }
 {

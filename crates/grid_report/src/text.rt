@@ -53,7 +53,7 @@ impl Text {
     }
 
     /// Puts bytes last.
-    fn put_bytes(&mut self, bytes: &[u8]) -> Result<(), Memory>
+    pub fn put_bytes(&mut self, bytes: &[u8]) -> Result<(), Memory>
         ensures ok { OnOk result (self.new ≡ self.old ++ bytes.now) }
         ensures err { OnErr result (self.new ≡ []) }
     {
