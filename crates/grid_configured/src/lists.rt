@@ -42,10 +42,7 @@ pub(crate) fn read_member<R: Reader>(
 }
 
 /// Each item, under its position.
-pub(crate) fn read_each<R: Reader>(
-    alloc: Global,
-    items: &Items,
-) -> Result<Seq<R::Item>, ReadError>
+pub(crate) fn read_each<R: Reader>(alloc: Global, items: &Items) -> Result<Seq<R::Item>, ReadError>
     ensures items { Gives result (items_at R.reads 0 (items_view items.now)) }
     ensures count { IfOk result (λ list. length list ≡ items_len (items_view items.now)) }
 {
