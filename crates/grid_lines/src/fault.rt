@@ -1,12 +1,13 @@
 // The line on standard error.
-ghost use Rattle.std.specs.Prelude.{◌≡◌, ◌↔◌, IsNone};
+ghost use Rattle.std.specs.Prelude.{◌≡◌, MatchOption};
 ghost use Rattle.grid_forms.specs.Exits.{exit_number};
+ghost use Rattle.grid_lines.specs.Told.{told_number};
 
 use crate::look::{Job, Seen};
 use crate::not_json::{NotJson, not_json};
 use crate::told::why_seen;
 use crate::why::{Why, why_of};
-use crate::wrong_words::{WrongWords, wrong_words};
+use crate::wrong_words::{WrongWords, file_hint, wrong_words};
 use grid_forms::{Form, Status, read_words};
 use grid_json::{Place, Reason};
 use std::alloc::{AllocError, Global};
@@ -16,9 +17,11 @@ use thiserror::Error;
 #[derive(Debug, Drop, Error)]
 pub enum Fault {
     /// The words are no form.
-    #[error("grid: {why}; nothing was read")]
+    #[error("grid: {why}; nothing was read{hint}")]
     Usage {
         why: WrongWords,
+        /// How the form is called, where a file is named behind it; or no text.
+        hint: String,
     },
     /// The source failed.
     #[error("grid: standard input could not be read to its end; nothing was written")]
@@ -35,7 +38,7 @@ pub enum Fault {
     #[error("grid: the job's first fault is at {}{owner}: {why}; nothing was written (docs/formats.md)", place_text(.place))]
     BadJob {
         place: Place,
-        /// The id of the object that has the fault, with a word before it; or no text.
+        /// The step of the command that has the fault, or the id of the object that has it, in words; or no text.
         owner: String,
         why: Why,
     },
@@ -56,6 +59,43 @@ fn place_text(place: &Place) -> &str {
     }
 }
 
+/// The step of a command by its worker and its number from 1, as a report tells it.
+fn step_of(place: &str) -> Option<(usize, usize)> {
+    let (_, behind) = place.split_once("/workers/")?;
+    let mut steps = behind.split('/');
+    let worker = steps.next()?.parse::<usize>().ok()?;
+    let position = steps.next()?.parse::<usize>().ok()?;
+    Some((worker, position.saturating_add(1)))
+}
+
+/// Whose fault it is, in words: the command's, by its step, or else the object's, by its id.
+fn owner_of(
+    alloc: Global,
+    job: &mut Job<'_>,
+    seen: &Seen<'_>,
+    place: &str,
+) -> Result<String, AllocError> {
+    let (Some(command), Some((worker, step))) = (seen.command, step_of(place)) else {
+        return match job.shown(alloc, seen.owner)? {
+            Some(id) => format!(in alloc; " of `{id}`"),
+            None => Ok(String::new(alloc)),
+        };
+    };
+    let word = job.member(command, "do");
+    match job.shown(alloc, word)? {
+        Some(word) => format!(in alloc; " (step {step} of worker {worker}, `{word}`)"),
+        None => format!(in alloc; " (step {step} of worker {worker})"),
+    }
+}
+
+/// The place of what is there of a fault: for a member that is missing, that of the object that wants it.
+fn place_there<'p>(place: &'p str, reason: &Reason) -> &'p str {
+    match (reason, place.rsplit_once('/')) {
+        (Reason::Missing, Some((holder, _))) => holder,
+        _ => place,
+    }
+}
+
 /// Why a job has a fault at a place, and whose it is, as its bytes tell; None where they tell no more than the reason.
 fn seen_in(
     alloc: Global,
@@ -64,17 +104,15 @@ fn seen_in(
     reason: &Reason,
     input: &[u8],
 ) -> Result<(Option<Why>, String), AllocError> {
-    let mut owner = String::new(alloc);
     let Ok(text) = std::str::from_utf8(input) else {
-        return Ok((None, owner));
+        return Ok((None, String::new(alloc)));
     };
     let mut job = Job::new(alloc, text);
-    let Some(seen) = Seen::at(&mut job, form, place.text()) else {
-        return Ok((None, owner));
+    let there = place_there(place.text(), reason);
+    let Some(seen) = Seen::at(&mut job, form, there) else {
+        return Ok((None, String::new(alloc)));
     };
-    if let Some(id) = job.shown(alloc, seen.owner)? {
-        owner = format!(in alloc; " of `{id}`")?;
-    }
+    let owner = owner_of(alloc, &mut job, &seen, there)?;
     Ok((why_seen(alloc, &mut job, &seen, reason)?, owner))
 }
 
@@ -93,13 +131,15 @@ fn bad_job(alloc: Global, form: Option<Form>, place: Place, reason: Reason, inpu
 
 /// What is told of a status on standard error; nothing exactly where the output was written whole.
 fn fault_of(alloc: Global, words: Option<&[String]>, status: Status, input: &[u8]) -> Option<Fault>
-    ensures { IsNone result ↔ (status ≡ Status.Done) }
+    ensures { MatchOption result (status ≡ Status.Done) (λ fault. told_number fault ≡ exit_number status) }
 {
     match status {
         Status::Done => None,
-        Status::Usage => Some(Fault::Usage {
-            why: wrong_words(alloc, words),
-        }),
+        Status::Usage => {
+            let why = wrong_words(alloc, words);
+            let hint = file_hint(alloc, &why);
+            Some(Fault::Usage { why, hint })
+        }
         Status::ReadFault => Some(Fault::ReadFault),
         Status::TooLong => Some(Fault::TooLong),
         Status::BadJson => Some(Fault::BadJson {
@@ -124,7 +164,8 @@ pub fn ending(
     input: &[u8],
 ) -> (u8, Option<Fault>)
     ensures number { result.0 ≡ exit_number status }
-    ensures told { IsNone result.1 ↔ (status ≡ Status.Done) }
+    ensures told { MatchOption result.1 (status ≡ Status.Done)
+        (λ fault. told_number fault ≡ exit_number status) }
 {
     let number = status.number();
     (number, fault_of(alloc, words, status, input))

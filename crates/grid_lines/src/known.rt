@@ -106,6 +106,33 @@ fn members_of_top(form: Option<Form>) -> &'static [&'static str] {
 
 const JOB: &[&str] = &["format", "network", "listeners", "workers", "order"];
 
+/// Members that belong to inputs of one form alone, with all that such an input may have, and that form.
+const FORMS: [(&str, &[&str], &str); 4] = [
+    ("contingencies", &["job", "contingencies"], "screen"),
+    ("hvdc", &["job", "hvdc"], "hvdc"),
+    (
+        "configured",
+        &["format", "configured", "workers", "order"],
+        "configured",
+    ),
+    ("network", JOB, "check, replay, run or print"),
+];
+
+/// The form, in words, whose input has the members of these names.
+pub(crate) fn other_form(names: &[&str]) -> Option<&'static str> {
+    for (own, members, form) in &FORMS {
+        let has_own = names.iter().any(|name| name == own);
+        if has_own
+            && names
+                .iter()
+                .all(|name| members.iter().any(|member| member == name))
+        {
+            return Some(*form);
+        }
+    }
+    None
+}
+
 /// The members of an object that is a member of another one.
 pub(crate) fn members_of_named(form: Option<Form>, name: &str) -> Option<&'static [&'static str]> {
     match name {
@@ -212,6 +239,16 @@ pub(crate) fn members_of_command(command: &str, kind: &str) -> Option<&'static [
         "add_branch" if kind == "LINE" => Some(&["do", "kind", "id", "ends"]),
         "add_branch" => Some(&["do", "kind", "id", "ends", "substation", "rated_u"]),
         _ => members_of_edit(command),
+    }
+}
+
+/// The unit of the numbers at a member, in words, if they have one.
+pub(crate) fn unit_of(name: &str) -> &'static str {
+    match name {
+        "nominal_v" | "low_v" | "high_v" | "target_v" | "rated_u" => " of volts",
+        "p0" | "target_p" | "min_p" | "max_p" | "watts" => " of watts",
+        "q0" | "target_q" => " of vars",
+        _ => "",
     }
 }
 

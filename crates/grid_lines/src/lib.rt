@@ -6,6 +6,8 @@ mod known;
 mod look;
 mod missing;
 mod not_json;
+mod order;
+mod stop;
 mod told;
 mod usage;
 mod walk;

@@ -26,6 +26,8 @@ pub(crate) fn shown(alloc: Global, text: &str) -> Result<String, AllocError> {
 #[derive(Drop)]
 pub(crate) struct Job<'a> {
     text: &'a str,
+    /// Where the whole value begins.
+    top: usize,
     scratch: Scratch,
 }
 
@@ -41,6 +43,7 @@ impl<'a> Job<'a> {
     pub(crate) fn new(alloc: Global, text: &'a str) -> Job<'a> {
         Job {
             text,
+            top: text.len().saturating_sub(text.trim_ascii_start().len()),
             scratch: Scratch::new(alloc),
         }
     }
@@ -113,19 +116,7 @@ impl<'a> Job<'a> {
 
     /// How many items there are, where the value is an array.
     pub(crate) fn length(&mut self, at: usize) -> Option<usize> {
-        let mut walk = self.walk(at)?;
-        if !walk.enters_array() {
-            return None;
-        }
-        let mut length = 0usize;
-        for _ in 0..u64::MAX {
-            if !walk.is_at_item() {
-                break;
-            }
-            walk.pass();
-            length = length.saturating_add(1);
-        }
-        Some(length)
+        self.walk(at)?.items()
     }
 
     /// The text that the value is.
@@ -136,9 +127,14 @@ impl<'a> Job<'a> {
         self.walk(at)?.leaf()?.as_str()
     }
 
+    /// The number that the value is, as it is written.
+    pub(crate) fn number(&mut self, at: usize) -> Option<&str> {
+        self.walk(at)?.number()
+    }
+
     /// The whole number that the value is.
     pub(crate) fn whole(&mut self, at: usize) -> Option<i64> {
-        self.walk(at)?.leaf()?.as_i64()
+        self.walk(at)?.whole()
     }
 
     /// The member of a name, where it is a text.
@@ -158,12 +154,10 @@ impl<'a> Job<'a> {
         at: usize,
         name: &str,
     ) -> Result<String, AllocError> {
-        let member = self.member(at, name);
-        let text = match member {
-            Some(member) => self.text(member),
-            None => None,
+        let Some(member) = self.member(at, name) else {
+            return Ok(String::new(alloc));
         };
-        String::from_str(alloc, text.unwrap_or(""))
+        String::from_str(alloc, self.text(member).unwrap_or(""))
     }
 
     /// The front of the text that the value is.
@@ -183,7 +177,8 @@ impl<'a> Job<'a> {
 
     /// The job itself, of which the whole text may be a member.
     fn inner(&mut self) -> usize {
-        self.member(0, "job").unwrap_or(0)
+        let top = self.top;
+        self.member(top, "job").unwrap_or(top)
     }
 
     /// The network of the job.
@@ -232,10 +227,15 @@ impl<'a> Job<'a> {
         }
     }
 
-    /// The text that names an object, of those members that may.
-    fn name_of(&self, found: Found) -> Option<usize> {
+    /// The text that names an object, of those members that may. A contingency alone is named by its `name`.
+    fn name_of(&self, found: Found, holder: &str) -> Option<usize> {
         let is_text = |at: &usize| self.first(*at) == Some(b'"');
-        found.id.filter(is_text).or(found.name.filter(is_text))
+        let name = if holder == "contingencies" {
+            found.name
+        } else {
+            None
+        };
+        found.id.filter(is_text).or(name.filter(is_text))
     }
 }
 
@@ -250,6 +250,8 @@ pub(crate) struct Seen<'p> {
     pub(crate) grandparent: usize,
     /// The id or the name of the innermost object round the place that has one.
     pub(crate) owner: Option<usize>,
+    /// The command that the place is in.
+    pub(crate) command: Option<usize>,
     /// The last step, a member's name or a position.
     pub(crate) name: &'p str,
     /// The step before it.
@@ -259,33 +261,60 @@ pub(crate) struct Seen<'p> {
 }
 
 impl<'p> Seen<'p> {
-    /// What stands at a place; None where nothing does.
-    pub(crate) fn at(job: &mut Job<'_>, form: Option<Form>, place: &'p str) -> Option<Seen<'p>> {
-        let mut seen = Seen {
+    /// The whole value, which begins there.
+    fn top(form: Option<Form>, top: usize) -> Seen<'p> {
+        Seen {
             form,
-            value: 0,
-            parent: 0,
-            grandparent: 0,
+            value: top,
+            parent: top,
+            grandparent: top,
             owner: None,
+            command: None,
             name: "",
             holder: "",
             above: "",
-        };
-        for step in place.split('/').skip(1) {
-            let found = job.step(seen.value, step);
-            seen = Seen {
-                form,
-                value: found.wanted?,
-                parent: seen.value,
-                grandparent: seen.parent,
-                owner: job.name_of(found).or(seen.owner),
-                name: step,
-                holder: seen.name,
-                above: seen.holder,
+        }
+    }
+
+    /// What stands at a step from here; None where nothing does.
+    fn below(&self, job: &mut Job<'_>, step: &'p str) -> Option<Seen<'p>> {
+        let found = job.step(self.value, step);
+        Some(Seen {
+            form: self.form,
+            value: found.wanted?,
+            parent: self.value,
+            grandparent: self.parent,
+            owner: job.name_of(found, self.holder).or(self.owner),
+            command: self.command_here(),
+            name: step,
+            holder: self.name,
+            above: self.holder,
+        })
+    }
+
+    /// The command that the value is or is in.
+    fn command_here(&self) -> Option<usize> {
+        if self.above == "workers" && self.is_item() {
+            Some(self.value)
+        } else {
+            self.command
+        }
+    }
+
+    /// What stands at a place; None where nothing does.
+    pub(crate) fn at(job: &mut Job<'_>, form: Option<Form>, place: &'p str) -> Option<Seen<'p>> {
+        let mut seen = Seen::top(form, job.top);
+        let mut steps = place.split('/');
+        steps.next()?;
+        for _ in 0..u64::MAX {
+            let Some(step) = steps.next() else {
+                break;
             };
+            seen = seen.below(job, step)?;
         }
         let last = job.find(seen.value, "");
-        seen.owner = job.name_of(last).or(seen.owner);
+        seen.owner = job.name_of(last, seen.holder).or(seen.owner);
+        seen.command = seen.command_here();
         Some(seen)
     }
 

@@ -1,20 +1,22 @@
 //! Why an input is no JSON, and where.
 
-use crate::walk::Walk;
-use grid_value::Number;
-use json::{Reader, Scratch, Token};
-use serde::{Deserialize, Deserializer, Format};
-use serde_json::from_slice;
+use crate::stop::{Stop, stop_of};
 use std::alloc::Global;
 use thiserror::Error;
 
-/// Why an input is no JSON. Lines and columns count from 1.
+/// Why an input is no JSON. Lines and columns count from 1, columns by bytes. The end of an input is where its last byte is.
 #[derive(Debug, Drop, Error)]
 pub enum NotJson {
     #[error("the input is empty, and a job in JSON is wanted")]
     Empty,
     #[error("the input begins with a byte order mark, which JSON does not allow")]
     Mark,
+    #[error("the input is compressed by gzip, and a job in JSON is wanted, as `gzip -dc` gives it")]
+    Gzip,
+    #[error("the input is UTF-16, and a job in JSON is wanted as UTF-8")]
+    Utf16,
+    #[error("the input is not UTF-8, at line {line}, column {column}")]
+    NotUtf8 { line: usize, column: usize },
     #[error("the input is not JSON: it goes on after its value, at line {line}, column {column}")]
     GoesOn { line: usize, column: usize },
     #[error("the input is not JSON: it ends before its value does, at line {line}, column {column}")]
@@ -25,139 +27,80 @@ pub enum NotJson {
     Unknown,
 }
 
-/// The bytes before a line and a column.
-fn front_of(input: &[u8], line: usize, column: usize) -> &[u8] {
-    let mut at = (1usize, 1usize);
-    for (place, byte) in input.iter().enumerate() {
-        if at == (line, column) {
-            return input.get(..place).unwrap_or(input);
-        }
-        at = if *byte == b'\n' {
-            (at.0.saturating_add(1), 1)
-        } else {
-            (at.0, at.1.saturating_add(1))
-        };
-    }
-    input
+/// The line and the column of a byte, or of the end of the input.
+fn place_of(input: &[u8], offset: usize) -> (usize, usize) {
+    let front = input.get(..offset).unwrap_or(input);
+    let newlines = front.iter().filter(|byte| **byte == b'\n').count();
+    let before = match front.iter().rposition(|byte| *byte == b'\n') {
+        Some(newline) => front.len().saturating_sub(newline).saturating_sub(1),
+        None => front.len(),
+    };
+    let column = if offset < input.len() {
+        before.saturating_add(1)
+    } else {
+        before.max(1)
+    };
+    (newlines.saturating_add(1), column)
 }
 
-/// A value of any type, which is passed over.
-#[derive(Drop)]
-struct Passed;
-
-impl<'de> Deserialize<'de> for Passed {
-    fn deserialize<F: Format>(
-        _alloc: Global,
-        from: &mut Deserializer<'de, '_, F>,
-    ) -> Result<Passed, F::Error> {
-        from.skip()?;
-        Ok(Passed)
+/// What is told of an input that stops to be JSON.
+fn told(input: &[u8], offset: usize, stop: Stop) -> NotJson {
+    let (line, column) = place_of(input, offset);
+    match stop {
+        Stop::Within => NotJson::At { line, column },
+        Stop::Behind => NotJson::GoesOn { line, column },
+        Stop::Early => NotJson::Ends { line, column },
     }
 }
 
-/// Where an input stops to be JSON, and whether it could go on there.
-#[derive(Clone, Copy, Drop)]
-struct Stop {
-    line: usize,
-    column: usize,
-    is_end: bool,
-}
-
-/// The line and the column of a byte, as `serde_json` tells them: the end of the input is where its last byte is.
-fn stop_at(input: &[u8], offset: usize) -> Stop {
-    let (mut line, mut column) = (1usize, 0usize);
-    for byte in input.iter().take(offset) {
-        if *byte == b'\n' {
-            line = line.saturating_add(1);
-            column = 0;
-        } else {
-            column = column.saturating_add(1);
-        }
-    }
-    if offset < input.len() {
-        column = column.saturating_add(1);
-    }
-    Stop {
-        line,
-        column,
-        is_end: false,
-    }
-}
-
-/// Where the input goes on behind its first number that no float holds.
-fn vast_number(alloc: Global, input: &[u8]) -> Option<Stop> {
-    let text = std::str::from_utf8(input).ok()?;
-    let mut scratch = Scratch::new(alloc);
-    let mut reader = Reader::new(text, &mut scratch).ok()?;
-    for _ in 0..u64::MAX {
-        match reader.next()? {
-            Token::Number(number) if Number::parse(number).is_none() => {
-                return Some(stop_at(input, reader.offset()));
-            }
-            Token::Bad => return None,
-            _ => {}
-        }
-    }
-    None
-}
-
-/// Where the input breaks the grammar.
-fn broken(alloc: Global, input: &[u8]) -> Option<Stop> {
-    let read: Result<Passed, _> = from_slice(alloc, input);
-    match read {
-        Ok(_) => None,
-        Err(error) => Some(Stop {
-            line: error.line(),
-            column: error.column(),
-            is_end: error.is_eof(),
-        }),
-    }
-}
-
-/// Where the input stops to be JSON; None where it is JSON.
-fn stop_of(alloc: Global, input: &[u8]) -> Option<Stop> {
-    match (broken(alloc, input), vast_number(alloc, input)) {
-        (Some(broken), Some(vast)) => {
-            if (vast.line, vast.column) <= (broken.line, broken.column) {
-                Some(vast)
-            } else {
-                Some(broken)
-            }
-        }
-        (broken, vast) => broken.or(vast),
-    }
-}
-
-/// Whether the bytes are one JSON value.
-fn is_json(alloc: Global, input: &[u8]) -> bool {
-    let Ok(text) = std::str::from_utf8(input) else {
+/// Whether a text that is cut within a character behind it ends before its value does.
+fn is_early(alloc: Global, front: &[u8]) -> bool {
+    let Ok(front) = std::str::from_utf8(front) else {
         return false;
     };
-    let mut scratch = Scratch::new(alloc);
-    let is_whole = match Walk::new(text, 0, &mut scratch) {
-        Some(mut walk) => walk.ends_whole(),
-        None => false,
-    };
-    is_whole && vast_number(alloc, input).is_none()
+    // Any letter stands for the one that is cut.
+    match format!(in alloc; "{front}?") {
+        Ok(text) => matches!(stop_of(alloc, text.as_str()), Some((_, Stop::Early))),
+        Err(_) => false,
+    }
+}
+
+/// What is told of an input that is text up to a byte, and that is cut within a character there, or else no text.
+fn no_text(alloc: Global, input: &[u8], offset: usize, is_cut: bool) -> NotJson {
+    let (line, column) = place_of(input, offset);
+    if is_cut && is_early(alloc, input.get(..offset).unwrap_or(&[])) {
+        NotJson::Ends { line, column }
+    } else {
+        NotJson::NotUtf8 { line, column }
+    }
+}
+
+/// What the first bytes tell of an input that is no JSON.
+fn by_first_bytes(input: &[u8]) -> Option<NotJson> {
+    match input {
+        [0xef, 0xbb, 0xbf, ..] => Some(NotJson::Mark),
+        [0x1f, 0x8b, ..] => Some(NotJson::Gzip),
+        [0xfe, 0xff, ..] | [0xff, 0xfe, ..] => Some(NotJson::Utf16),
+        _ if input.trim_ascii().is_empty() => Some(NotJson::Empty),
+        _ => None,
+    }
 }
 
 /// Why these bytes, which are no JSON, are none.
 pub(crate) fn not_json(alloc: Global, input: &[u8]) -> NotJson {
-    if input.starts_with(&[0xef, 0xbb, 0xbf]) {
-        return NotJson::Mark;
+    if let Some(why) = by_first_bytes(input) {
+        return why;
     }
-    if input.trim_ascii().is_empty() {
-        return NotJson::Empty;
-    }
-    let Some(stop) = stop_of(alloc, input) else {
-        return NotJson::Unknown;
-    };
-    let Stop { line, column, .. } = stop;
-    if stop.is_end {
-        NotJson::Ends { line, column }
-    } else if is_json(alloc, front_of(input, line, column)) {
-        NotJson::GoesOn { line, column }
-    } else {
-        NotJson::At { line, column }
+    match std::str::from_utf8(input) {
+        Ok(text) => match stop_of(alloc, text) {
+            Some((offset, stop)) => told(input, offset, stop),
+            None => NotJson::Unknown,
+        },
+        Err(error) => no_text(
+            alloc,
+            input,
+            error.valid_up_to(),
+            error.error_len().is_none(),
+        ),
     }
 }

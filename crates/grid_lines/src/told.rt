@@ -2,10 +2,11 @@
 
 use crate::known::{
     commands, events, kinds_of, members_of_command, members_of_configured, members_of_item,
-    members_of_kind, members_of_named, wanted_at, wanted_in,
+    members_of_kind, members_of_named, other_form, unit_of, wanted_at, wanted_in,
 };
 use crate::look::{Job, Seen, shown};
 use crate::missing::{level_of_side, missing_bus, missing_level};
+use crate::order::order_told;
 use crate::why::Why;
 use grid_forms::Form;
 use grid_json::Reason;
@@ -118,33 +119,39 @@ fn members_of_its_kind(
     Ok(members_of_kind(kind.as_str()))
 }
 
-/// The first name in the order of their bytes that is none of those known.
-fn unknown_name(
+/// The names of an object's members.
+fn names_of<'j>(
     alloc: Global,
-    job: &mut Job<'_>,
+    job: &'j mut Job<'_>,
     object: usize,
-    known: &[&str],
-) -> Result<Option<String>, AllocError> {
+) -> Result<Vec<&'j str>, AllocError> {
+    let mut names = Vec::new(alloc);
     let Some(mut walk) = job.walk(object) else {
-        return Ok(None);
+        return Ok(names);
     };
     if !walk.enters_object() {
-        return Ok(None);
+        return Ok(names);
     }
-    let mut first: Option<&str> = None;
     for _ in 0..u64::MAX {
         let Some(name) = walk.next_name() else {
             break;
         };
-        if !known.iter().any(|known| *known == name) && first.is_none_or(|first| name < first) {
-            first = Some(name);
-        }
+        names.push(name)?;
         walk.pass();
     }
-    match first {
-        Some(name) => Ok(Some(shown(alloc, name)?)),
-        None => Ok(None),
+    Ok(names)
+}
+
+/// The first name in the order of their bytes that is none of those known.
+fn unknown_of<'n>(names: &[&'n str], known: &[&str]) -> Option<&'n str> {
+    let mut first: Option<&'n str> = None;
+    for name in names {
+        let is_first = first.is_none_or(|first| *name < first);
+        if is_first && !known.iter().any(|known| known == name) {
+            first = Some(*name);
+        }
     }
+    first
 }
 
 /// The member that the object may not have.
@@ -158,13 +165,21 @@ fn member_told(
     };
     let mut known = members.to_vec(alloc)?;
     known.extend_from_slice(members_of_its_kind(alloc, job, seen)?)?;
-    match unknown_name(alloc, job, seen.value, known.as_slice())? {
-        Some(name) => Ok(Some(Why::UnknownMember {
-            name,
-            known: listed(alloc, known.as_slice())?,
-        })),
-        None => Ok(None),
-    }
+    let names = names_of(alloc, job, seen.value)?;
+    let Some(name) = unknown_of(names.as_slice(), known.as_slice()) else {
+        return Ok(None);
+    };
+    let name = shown(alloc, name)?;
+    let known = listed(alloc, known.as_slice())?;
+    let other = if seen.name.is_empty() {
+        other_form(names.as_slice())
+    } else {
+        None
+    };
+    Ok(Some(match other {
+        Some(form) => Why::OtherForm { name, known, form },
+        None => Why::UnknownMember { name, known },
+    }))
 }
 
 /// What is unknown: a word, a format or a member.
@@ -197,7 +212,11 @@ fn kind_told(alloc: Global, job: &mut Job<'_>, seen: &Seen<'_>) -> Result<Why, A
         if let Some(found) = job.length(seen.value) {
             // How many items the array of a branch has that its kind wants.
             let kind = job.word(alloc, seen.parent, "kind")?;
-            let wanted = if kind.as_str() == "THREE_WINDINGS" { 3 } else { 2 };
+            let wanted = if kind.as_str() == "THREE_WINDINGS" {
+                3
+            } else {
+                2
+            };
             return Ok(Why::OtherLength { wanted, found });
         }
     }
@@ -205,6 +224,34 @@ fn kind_told(alloc: Global, job: &mut Job<'_>, seen: &Seen<'_>) -> Result<Why, A
         wanted,
         found: job.found(seen.value),
     })
+}
+
+/// Why a number is not whole, as it is written.
+fn number_told(
+    alloc: Global,
+    job: &mut Job<'_>,
+    seen: &Seen<'_>,
+) -> Result<Option<Why>, AllocError> {
+    let unit = unit_of(if seen.is_item() {
+        seen.holder
+    } else {
+        seen.name
+    });
+    let Some(number) = job.number(seen.value) else {
+        return Ok(None);
+    };
+    if number == "-0" {
+        return Ok(Some(Why::MinusZero));
+    }
+    let is_fraction = number
+        .bytes()
+        .any(|byte| matches!(byte, b'.' | b'e' | b'E'));
+    let found = shown(alloc, number)?;
+    Ok(Some(if is_fraction {
+        Why::Fraction { found, unit }
+    } else {
+        Why::TooLarge { found }
+    }))
 }
 
 /// Why an edit was refused, with the id that it was refused for.
@@ -257,6 +304,8 @@ pub(crate) fn why_seen(
     match reason {
         Reason::Unknown => unknown_told(alloc, job, seen),
         Reason::WrongKind => Ok(Some(kind_told(alloc, job, seen)?)),
+        Reason::NotWhole => number_told(alloc, job, seen),
+        Reason::Schedule => order_told(alloc, job, seen.parent, seen.value),
         Reason::Load(fault) => load_told(alloc, job, seen, fault),
         Reason::NoStation { side } => {
             let side = *side;

@@ -79,15 +79,38 @@ impl<'t> Walk<'t> {
         self.good && !self.reader.take_end_array()
     }
 
-    /// Passes the next value, and tells whether it is whole and the text ends behind it.
-    pub(crate) fn ends_whole(&mut self) -> bool {
-        self.pass();
-        self.good && self.reader.next().is_none()
+    /// Passes the next value, and counts its items where it is an array.
+    pub(crate) fn items(&mut self) -> Option<usize> {
+        if !self.enters_array() {
+            return None;
+        }
+        let mut items = 0usize;
+        for _ in 0..u64::MAX {
+            if !self.is_at_item() {
+                break;
+            }
+            self.pass();
+            items = items.saturating_add(1);
+        }
+        Some(items)
     }
 
     /// Passes the next value, which is neither an array nor an object.
     pub(crate) fn leaf(&mut self) -> Option<Value<'t, 't>> {
         Value::next_leaf(&mut self.reader)
+    }
+
+    /// Passes the next value, and gives it where it is a whole number.
+    pub(crate) fn whole(&mut self) -> Option<i64> {
+        self.leaf()?.as_i64()
+    }
+
+    /// Passes the next value, which is a number, and gives it as it is written.
+    pub(crate) fn number(&mut self) -> Option<&'t str> {
+        match self.reader.next()? {
+            Token::Number(number) => Some(number),
+            _ => None,
+        }
     }
 
     /// Passes the next value, and tells whether it is this text.

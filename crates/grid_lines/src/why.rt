@@ -16,6 +16,17 @@ pub enum Why {
     WrongKind,
     #[error("the number is not whole, or does not fit 64 bits with a sign (62)")]
     NotWhole,
+    #[error("{found} must be a whole number{unit}, without point or exponent (62)")]
+    Fraction {
+        found: String,
+        unit: &'static str,
+    },
+    #[error("{found} does not fit 64 bits with a sign (62)")]
+    TooLarge {
+        found: String,
+    },
+    #[error("-0 must be written as 0 (62)")]
+    MinusZero,
     #[error("the word or the format is none of those that are known here, or the object has a member that it should not have (63)")]
     Unknown,
     #[error("`{word}` is none of the words that are known here: {known} (63)")]
@@ -38,6 +49,12 @@ pub enum Why {
         name: String,
         known: String,
     },
+    #[error("the object has a member `{name}`, and may have only {known}: this is a job for {form} (63)")]
+    OtherForm {
+        name: String,
+        known: String,
+        form: &'static str,
+    },
     #[error("{wanted} must stand here, and this is {found} (61)")]
     OtherKind {
         wanted: &'static str,
@@ -50,6 +67,17 @@ pub enum Why {
     },
     #[error("the order must name each worker as often as its script has commands, and nobody else (64)")]
     Schedule,
+    #[error("worker {worker} comes {named} times in the order and has {commands} commands (64)")]
+    OtherOften {
+        worker: usize,
+        named: usize,
+        commands: usize,
+    },
+    #[error("the order names worker {worker}, and the job has {workers} workers, counted from 0 (64)")]
+    NoWorker {
+        worker: i64,
+        workers: usize,
+    },
     #[error("all scripts together have more than 20,000 commands (65)")]
     TooManyCommands,
     #[error("there are more than 32 workers (66)")]

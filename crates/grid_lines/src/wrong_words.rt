@@ -16,6 +16,9 @@ pub enum WrongWords {
     NoForm { word: String },
     #[error("`{form}` takes no further words, and `{word}` is one")]
     Further { form: String, word: String },
+    /// A form that reads a job, and a further word that looks like the name of a file.
+    #[error("`{form}` takes no further words, and `{word}` is one")]
+    File { form: String, word: String },
     #[error("`{form}` wants a SEED and a SIZE")]
     Fewer { form: String },
     #[error("`{word}` is no SEED: a whole number from 0 to {MOST_SEED} in decimal digits, without a leading zero")]
@@ -58,6 +61,16 @@ fn wrong_numbers(alloc: Global, form: &str, rest: &[String]) -> Result<WrongWord
     }
 }
 
+/// What is wrong with a word behind that of a form that reads a job.
+fn further(alloc: Global, form: String, word: &str) -> Result<WrongWords, AllocError> {
+    let shown = shown(alloc, word)?;
+    Ok(if word.ends_with(".json") {
+        WrongWords::File { form, word: shown }
+    } else {
+        WrongWords::Further { form, word: shown }
+    })
+}
+
 /// What is wrong with words that are no form.
 fn wrong(alloc: Global, words: &[String]) -> Result<WrongWords, AllocError> {
     let Some((form, rest)) = words.split_first() else {
@@ -67,14 +80,11 @@ fn wrong(alloc: Global, words: &[String]) -> Result<WrongWords, AllocError> {
     if form_of(alloc, &[form, "0", "1"])?.is_some() {
         return wrong_numbers(alloc, form, rest);
     }
-    match (form_of(alloc, &[form])?, rest.first()) {
-        (Some(_), Some(word)) => Ok(WrongWords::Further {
-            form: shown(alloc, form)?,
-            word: shown(alloc, word.as_str())?,
-        }),
-        _ => Ok(WrongWords::NoForm {
-            word: shown(alloc, form)?,
-        }),
+    let is_form = form_of(alloc, &[form])?.is_some();
+    let form = shown(alloc, form)?;
+    match rest.first() {
+        Some(word) if is_form => further(alloc, form, word.as_str()),
+        _ => Ok(WrongWords::NoForm { word: form }),
     }
 }
 
@@ -86,5 +96,19 @@ pub(crate) fn wrong_words(alloc: Global, words: Option<&[String]>) -> WrongWords
     match wrong(alloc, words) {
         Ok(wrong) => wrong,
         Err(_) => WrongWords::Unknown,
+    }
+}
+
+/// How a form is called that a file is named behind; no text where none is, or where memory does not serve.
+pub(crate) fn file_hint(alloc: Global, why: &WrongWords) -> String {
+    let hint = match why {
+        WrongWords::File { form, .. } => {
+            format!(in alloc; "; a job is read from standard input: grid {form} < FILE")
+        }
+        _ => Ok(String::new(alloc)),
+    };
+    match hint {
+        Ok(hint) => hint,
+        Err(_) => String::new(alloc),
     }
 }
