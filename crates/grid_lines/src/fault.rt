@@ -109,7 +109,7 @@ fn seen_in(
     };
     let mut job = Job::new(alloc, text);
     let there = place_there(place.text(), reason);
-    let Some(seen) = Seen::at(&mut job, form, there) else {
+    let Some(seen) = Seen::at(alloc, &mut job, form, there)? else {
         return Ok((None, String::new(alloc)));
     };
     let owner = owner_of(alloc, &mut job, &seen, there)?;

@@ -9,6 +9,7 @@ mod not_json;
 mod order;
 mod stop;
 mod told;
+mod trail;
 mod usage;
 mod walk;
 mod why;

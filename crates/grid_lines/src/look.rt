@@ -1,5 +1,6 @@
 //! What a job has at the place of its first fault.
 
+use crate::trail::{Stage, Trail};
 use crate::walk::Walk;
 use grid_forms::Form;
 use json::Scratch;
@@ -31,14 +32,6 @@ pub(crate) struct Job<'a> {
     scratch: Scratch,
 }
 
-/// Where the members of an object are that its place and its name are told by.
-#[derive(Clone, Copy, Drop)]
-struct Found {
-    wanted: Option<usize>,
-    id: Option<usize>,
-    name: Option<usize>,
-}
-
 impl<'a> Job<'a> {
     pub(crate) fn new(alloc: Global, text: &'a str) -> Job<'a> {
         Job {
@@ -58,41 +51,23 @@ impl<'a> Job<'a> {
         self.text.as_bytes().get(at).copied()
     }
 
-    /// The member of a name, and those that name an object, where the value is one.
-    fn find(&mut self, at: usize, wanted: &str) -> Found {
-        let mut found = Found {
-            wanted: None,
-            id: None,
-            name: None,
-        };
-        let Some(mut walk) = self.walk(at) else {
-            return found;
-        };
+    /// The member of a name, where the value is an object.
+    pub(crate) fn member(&mut self, at: usize, wanted: &str) -> Option<usize> {
+        let mut walk = self.walk(at)?;
         if !walk.enters_object() {
-            return found;
+            return None;
         }
+        let mut found = None;
         for _ in 0..u64::MAX {
             let Some(name) = walk.next_name() else {
                 break;
             };
-            let here = Some(walk.here());
             if name == wanted {
-                found.wanted = here;
-            }
-            if name == "id" {
-                found.id = here;
-            }
-            if name == "name" {
-                found.name = here;
+                found = Some(walk.here());
             }
             walk.pass();
         }
         found
-    }
-
-    /// The member of a name, where the value is an object.
-    pub(crate) fn member(&mut self, at: usize, name: &str) -> Option<usize> {
-        self.find(at, name).wanted
     }
 
     /// The item at a position, where the value is an array.
@@ -211,32 +186,41 @@ impl<'a> Job<'a> {
         }
     }
 
-    /// The member or the item that a step of a place leads to.
-    fn step(&mut self, at: usize, step: &str) -> Found {
-        if self.first(at) != Some(b'[') {
-            return self.find(at, step);
-        }
-        let wanted = match step.parse::<usize>() {
-            Ok(position) => self.item(at, position),
-            Err(_) => None,
-        };
-        Found {
-            wanted,
-            id: None,
-            name: None,
-        }
-    }
-
-    /// The text that names an object, of those members that may. A contingency alone is named by its `name`.
-    fn name_of(&self, found: Found, holder: &str) -> Option<usize> {
+    /// The text that names a stage of the way, of those members that may. A contingency alone is named by its `name`.
+    fn name_of(&self, stage: &Stage, holder: &str) -> Option<usize> {
         let is_text = |at: &usize| self.first(*at) == Some(b'"');
         let name = if holder == "contingencies" {
-            found.name
+            stage.name
         } else {
             None
         };
-        found.id.filter(is_text).or(name.filter(is_text))
+        stage.id.filter(is_text).or(name.filter(is_text))
     }
+
+    /// The id or the name of the last of these stages that has one.
+    fn owner_of(&self, trail: &Trail<'_>) -> Option<usize> {
+        let mut owner = None;
+        for (place, stage) in trail.stages.iter().enumerate() {
+            let holder = step_at(trail, place.checked_sub(2));
+            owner = self.name_of(stage, holder).or(owner);
+        }
+        owner
+    }
+}
+
+/// A step of the way by its position, or no text.
+fn step_at<'p>(trail: &Trail<'p>, position: Option<usize>) -> &'p str {
+    match position {
+        Some(position) => trail.steps.get(position).copied().unwrap_or(""),
+        None => "",
+    }
+}
+
+/// The command that the way goes through.
+fn command_of(trail: &Trail<'_>) -> Option<usize> {
+    let workers = trail.steps.iter().position(|step| *step == "workers")?;
+    let stage = trail.stages.get(workers.saturating_add(3))?;
+    Some(stage.at)
 }
 
 /// What stands at a place of a job, and what leads there.
@@ -261,65 +245,52 @@ pub(crate) struct Seen<'p> {
 }
 
 impl<'p> Seen<'p> {
-    /// The whole value, which begins there.
-    fn top(form: Option<Form>, top: usize) -> Seen<'p> {
-        Seen {
-            form,
-            value: top,
-            parent: top,
-            grandparent: top,
-            owner: None,
-            command: None,
-            name: "",
-            holder: "",
-            above: "",
-        }
-    }
-
-    /// What stands at a step from here; None where nothing does.
-    fn below(&self, job: &mut Job<'_>, step: &'p str) -> Option<Seen<'p>> {
-        let found = job.step(self.value, step);
+    /// What stands at the end of a way; None where that does not lead to its end.
+    fn of(job: &Job<'_>, form: Option<Form>, trail: &Trail<'p>) -> Option<Seen<'p>> {
+        let steps = trail.steps.len();
+        let value = trail.stages.get(steps)?.at;
+        let parent = stage_at(trail, steps.checked_sub(1), value);
         Some(Seen {
-            form: self.form,
-            value: found.wanted?,
-            parent: self.value,
-            grandparent: self.parent,
-            owner: job.name_of(found, self.holder).or(self.owner),
-            command: self.command_here(),
-            name: step,
-            holder: self.name,
-            above: self.holder,
+            form,
+            value,
+            parent,
+            grandparent: stage_at(trail, steps.checked_sub(2), parent),
+            owner: job.owner_of(trail),
+            command: command_of(trail),
+            name: step_at(trail, steps.checked_sub(1)),
+            holder: step_at(trail, steps.checked_sub(2)),
+            above: step_at(trail, steps.checked_sub(3)),
         })
     }
 
-    /// The command that the value is or is in.
-    fn command_here(&self) -> Option<usize> {
-        if self.above == "workers" && self.is_item() {
-            Some(self.value)
-        } else {
-            self.command
-        }
-    }
-
     /// What stands at a place; None where nothing does.
-    pub(crate) fn at(job: &mut Job<'_>, form: Option<Form>, place: &'p str) -> Option<Seen<'p>> {
-        let mut seen = Seen::top(form, job.top);
-        let mut steps = place.split('/');
-        steps.next()?;
-        for _ in 0..u64::MAX {
-            let Some(step) = steps.next() else {
-                break;
-            };
-            seen = seen.below(job, step)?;
-        }
-        let last = job.find(seen.value, "");
-        seen.owner = job.name_of(last, seen.holder).or(seen.owner);
-        seen.command = seen.command_here();
-        Some(seen)
+    pub(crate) fn at(
+        alloc: Global,
+        job: &mut Job<'_>,
+        form: Option<Form>,
+        place: &'p str,
+    ) -> Result<Option<Seen<'p>>, AllocError> {
+        let top = job.top;
+        let Some(mut walk) = job.walk(top) else {
+            return Ok(None);
+        };
+        let trail = Trail::to(alloc, &mut walk, place)?;
+        Ok(Seen::of(job, form, &trail))
     }
 
     /// Whether the value is an item of an array.
     pub(crate) fn is_item(&self) -> bool {
         self.name.parse::<usize>().is_ok()
+    }
+}
+
+/// Where a stage of the way begins, by its position, or else another place.
+fn stage_at(trail: &Trail<'_>, position: Option<usize>, otherwise: usize) -> usize {
+    match position {
+        Some(position) => trail
+            .stages
+            .get(position)
+            .map_or(otherwise, |stage| stage.at),
+        None => otherwise,
     }
 }

@@ -146,7 +146,10 @@ fn names_of<'j>(
 fn unknown_of<'n>(names: &[&'n str], known: &[&str]) -> Option<&'n str> {
     let mut first: Option<&'n str> = None;
     for name in names {
-        let is_first = first.is_none_or(|first| *name < first);
+        let is_first = match first {
+            Some(first) => *name < first,
+            None => true,
+        };
         if is_first && !known.iter().any(|known| known == name) {
             first = Some(*name);
         }

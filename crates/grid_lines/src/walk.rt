@@ -37,6 +37,11 @@ impl<'t> Walk<'t> {
         self.text.as_bytes().get(self.reader.offset()).copied()
     }
 
+    /// Whether the next value begins with the byte.
+    pub(crate) fn is_at(&self, byte: u8) -> bool {
+        self.first() == Some(byte)
+    }
+
     /// Passes the next value.
     pub(crate) fn pass(&mut self) {
         self.good = self.good && self.reader.skip_value(MAX_DEPTH).is_ok();
