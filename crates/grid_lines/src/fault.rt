@@ -117,7 +117,9 @@ fn seen_in(
 }
 
 /// What is told of a job's first fault.
-fn bad_job(alloc: Global, form: Option<Form>, place: Place, reason: Reason, input: &[u8]) -> Fault {
+fn bad_job(alloc: Global, form: Option<Form>, place: Place, reason: Reason, input: &[u8]) -> Fault
+    ensures { told_number result ≡ 6 }
+{
     let (why, owner) = match seen_in(alloc, form, &place, &reason, input) {
         Ok(seen) => seen,
         Err(_) => (None, String::new(alloc)),
