@@ -1,5 +1,5 @@
-//! The members that the objects of a job may have, and the words that it may use: for the line on standard error. They are
-//! those of the reader, listed once more.
+//! The members that the objects of a job may have, and the words that it may use: for the line on standard error.
+//! They are those of the reader, listed once more.
 
 use grid_forms::Form;
 

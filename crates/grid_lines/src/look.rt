@@ -22,8 +22,8 @@ pub(crate) fn shown(alloc: Global, text: &str) -> Result<String, AllocError> {
     Ok(front)
 }
 
-/// The text of a job, with the room that reading it needs. Each value is told by where it begins; of members of one name
-/// the last counts.
+/// The text of a job, with the room that reading it needs. Each value is told by where it begins; of members of one
+/// name the last counts.
 #[derive(Drop)]
 pub(crate) struct Job<'a> {
     text: &'a str,

@@ -4,7 +4,8 @@ use crate::stop::{Stop, stop_of};
 use std::alloc::Global;
 use thiserror::Error;
 
-/// Why an input is no JSON. Lines and columns count from 1, columns by bytes. The end of an input is where its last byte is.
+/// Why an input is no JSON. Lines and columns count from 1, columns by bytes. The end of an input is where its last
+/// byte is.
 #[derive(Debug, Drop, Error)]
 pub enum NotJson {
     #[error("the input is empty, and a job in JSON is wanted")]

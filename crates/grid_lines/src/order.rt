@@ -72,8 +72,8 @@ fn count_names(
     Ok(named)
 }
 
-/// Why an order does not fit the scripts: the first worker that it names too often or too seldom, or else a number that is
-/// no worker's.
+/// Why an order does not fit the scripts: the first worker that it names too often or too seldom, or else a number
+/// that is no worker's.
 pub(crate) fn order_told(
     alloc: Global,
     job: &mut Job<'_>,

@@ -42,8 +42,8 @@ pub(crate) struct Trail<'p> {
 }
 
 impl<'p> Trail<'p> {
-    /// The way to a place, in one walk over the whole value. Of members of one name the last counts. Where nothing stands at
-    /// the place, there are fewer stages than steps.
+    /// The way to a place, in one walk over the whole value. Of members of one name the last counts. Where nothing
+    /// stands at the place, there are fewer stages than steps.
     pub(crate) fn to(
         alloc: Global,
         walk: &mut Walk<'_>,
