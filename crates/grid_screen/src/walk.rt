@@ -1,0 +1,235 @@
+// A walk over what a fault hits: each level is looked at once, and each branch end that is hit leads to the others of its
+// branch.
+ghost use Rattle.std.specs.Prelude.{◌≡◌, ℕ, ◌<◌, ◌++◌, [], ◌∷◌, length, false, true, None, Some, IfOk, OnOk, IsTrue, map, slice_get, slice_set};
+ghost use Rattle.std.specs.List.{zip, list_all};
+ghost use Rattle.grid_level.specs.Kept.{among};
+ghost use Rattle.grid_level.specs.Passing as passing;
+ghost use Rattle.grid_level.specs.Passing.{nodes};
+ghost use Rattle.grid_structure.specs.Sites.{levels};
+ghost use Rattle.grid_structure.specs.Sites as places;
+ghost use Rattle.grid_screen.specs.Grounds as grounds;
+ghost use Rattle.grid_screen.specs.Zones as zones;
+ghost use Rattle.grid_screen.specs.Zones.{sites_of_equipment};
+ghost use Rattle.grid_screen.specs.Walks as walks;
+ghost use Rattle.grid_screen.specs.Walks.{touched_at, label_in, hits_in, hits_by, ends_at, new_ends, IsNode, IsTouched, AreTouched, IsUntouched, CanHit, IsHitIn, Grows};
+
+use crate::scene::Scene;
+use grid_groups::{index_of, labels};
+use grid_ids::{Duplicate, Id, Ids, Memory};
+use grid_json::SeenIds;
+use grid_kinds::SwitchKind;
+use grid_level::{Level, Placed, Stand, Switch};
+use grid_structure::Site;
+use std::alloc::Global;
+
+/// A level of the screened state, with the label of each node: the least index of the nodes to which a fault passes from
+/// it. A label is hit or not.
+#[derive(Drop)]
+pub(crate) struct Touched<'a> {
+    pub level: &'a Level,
+    pub labels: Vec<u32>,
+    pub hit: Vec<bool>,
+}
+
+/// For each level by place what is hit of it, none where the walk was not there; and the ids of the equipment whose
+/// terminals the walk has not gone to yet.
+#[derive(Drop)]
+pub(crate) struct Walk<'a> {
+    pub touched: Vec<Option<Box<Touched<'a>>>>,
+    pub work: Ids,
+}
+
+// Whether the switch is a breaker that is not fictitious.
+#[tactic(auto, unfolding(grid_level::specs::Passing::is_operable, grid_level::specs::Passing::is_breaker))]
+pub(crate) fn is_operable(switch: &Switch) -> bool
+    ensures { result ≡ passing.is_operable switch.now }
+{
+    match switch.kind {
+        SwitchKind::Breaker => !switch.fictitious,
+        SwitchKind::Disconnector => false,
+        SwitchKind::LoadBreakSwitch => false,
+    }
+}
+
+// Whether a fault passes over a switch in this position.
+#[tactic(auto, unfolding(crate::specs::Zones::passes_fault, grid_level::specs::Passing::is_operable))]
+fn passes_fault(switch: &Switch, opened: bool, stuck: &SeenIds) -> bool
+    ensures { result ≡ zones.passes_fault stuck.now (grounds.with_flag_of (switch.now, opened)) }
+{
+    !opened && (!is_operable(switch) || stuck.has(&switch.id))
+}
+
+// Over which switches a fault passes.
+#[tactic(auto, unfolding(crate::specs::Grounds::fault_flags))]
+fn fault_flags(
+    alloc: Global,
+    switches: &[Switch],
+    opened: &[bool],
+    stuck: &SeenIds,
+) -> Result<Vec<bool>, Memory>
+    ensures { IfOk result (λ flags. flags.items
+        ≡ grounds.fault_flags stuck.now switches.now opened.now) }
+{
+    Ok(switches
+        .iter()
+        .zip(opened)
+        .map(|(switch, opened)| passes_fault(switch, *opened, stuck))
+        .collect(alloc)?)
+}
+
+// A level with these labels, of which nothing is hit.
+fn untouched<'a>(
+    alloc: Global,
+    level: &'a Level,
+    labels: Vec<u32>,
+) -> Result<Box<Touched<'a>>, Memory>
+    ensures { IfOk result (λ t. IsUntouched level.now labels.items t.value) }
+{
+    let hit = vec![in alloc; false; labels.len()]?;
+    let touched = Touched { level, labels, hit };
+    Ok(Box::new(alloc, touched)?)
+}
+
+// Looks at the level at a place, of which nothing is hit yet.
+fn look<'a>(alloc: Global, scene: &Scene<'a>, place: u32) -> Result<Box<Touched<'a>>, Memory>
+    requires { place < length (levels scene.now.net) }
+    ensures touched { IfOk result (λ t. IsTouched scene.now place t.value) }
+    ensures none { IfOk result (λ t. (node : ℕ) → hits_in t.value node ≡ false) }
+{
+    scene.keeps();
+    let level = scene.structure().level(place);
+    level.keeps();
+    let flags = fault_flags(alloc, level.switches(), scene.opened(place), scene.stuck())?;
+    let labels = labels(alloc, level, &flags)?;
+    untouched(alloc, level, labels)
+}
+
+// Takes out what is hit at a place, if the walk was there.
+fn take_at<'a>(
+    touched: &mut Vec<Option<Box<Touched<'a>>>>,
+    place: usize,
+) -> Option<Box<Touched<'a>>>
+    requires { place < length touched.old.items }
+    ensures taken { result ≡ touched_at touched.old.items place }
+    ensures left { touched.new.items ≡ slice_set touched.old.items place None }
+{
+    touched[place].take()
+}
+
+// Puts what is hit at a place.
+fn put_at<'a>(touched: &mut Vec<Option<Box<Touched<'a>>>>, place: usize, here: Box<Touched<'a>>)
+    requires { place < length touched.old.items }
+    ensures { touched.new.items ≡ slice_set touched.old.items place (Some here.entry) }
+{
+    touched[place] = Some(here);
+}
+
+// Takes out what is hit at a place, where the walk may not have been yet.
+fn take_touched<'a>(
+    alloc: Global,
+    scene: &Scene<'a>,
+    touched: &mut Vec<Option<Box<Touched<'a>>>>,
+    place: u32,
+) -> Result<Box<Touched<'a>>, Memory>
+    requires place { place < length (levels scene.now.net) }
+    requires touched { AreTouched scene.now touched.old.items }
+    ensures touched { IfOk result (λ t. IsTouched scene.now place t.value) }
+    ensures same { IfOk result (λ t. (node : ℕ)
+        → hits_in t.value node ≡ hits_by (touched_at touched.old.items place) node) }
+    ensures left { OnOk result (touched.new.items ≡ slice_set touched.old.items place None) }
+{
+    match take_at(touched, place as usize) {
+        Some(here) => Ok(here),
+        None => look(alloc, scene, place),
+    }
+}
+
+// The label of a node.
+fn label_at(touched: &Touched, node: u16) -> u32
+    requires node { IsTrue (among (nodes touched.now.level.now) node) }
+    requires long { length touched.now.labels.items ≡ length (nodes touched.now.level.now) }
+    ensures { result ≡ label_in touched.now node }
+{
+    touched.labels[index_of(touched.level, node) as usize]
+}
+
+// Whether it is an end of a branch.
+#[tactic(auto, unfolding(grid_level::specs::Passing::is_branch_end))]
+fn is_branch_end(placed: &Placed) -> bool
+    ensures { result ≡ passing.is_branch_end placed.now.stand }
+{
+    match placed.stand {
+        Stand::BranchEnd => true,
+        _ => false,
+    }
+}
+
+// Whether it is an end of a branch at a node with a label.
+fn is_end_at(touched: &Touched, placed: &Placed, label: u32) -> bool
+    requires node { IsTrue (among (nodes touched.now.level.now) placed.now.node) }
+    requires long { length touched.now.labels.items ≡ length (nodes touched.now.level.now) }
+    ensures { result ≡ walks.is_end_at touched.now label placed.now }
+{
+    is_branch_end(placed) && label_at(touched, placed.node) == label
+}
+
+// Puts the equipment of the branch ends at nodes with a label last.
+fn push_ends(
+    work: &mut Ids,
+    touched: &Touched,
+    placed: &[Placed],
+    label: u32,
+) -> Result<(), Memory>
+    requires nodes { IsTrue (list_all (λ p. among (nodes touched.now.level.now) p.node) placed.now) }
+    requires long { length touched.now.labels.items ≡ length (nodes touched.now.level.now) }
+    ensures { OnOk result (work.new ≡ work.old ++ ends_at touched.now placed.now label) }
+{
+    for placed in placed {
+        if !is_end_at(touched, placed, label) {
+            continue;
+        }
+        work.push(placed.terminal.equipment.copy()?)?;
+    }
+    Ok(())
+}
+
+// Hits a node and all with its label. Where they were not hit yet, the equipment of their branch ends waits then.
+#[tactic(auto, unfolding(crate::specs::Walks::new_ends))]
+fn hit_in<'a>(
+    here: Box<Touched<'a>>,
+    node: u16,
+    placed: &[Placed],
+    work: &mut Ids,
+) -> Result<Box<Touched<'a>>, Memory>
+    requires { CanHit here.value node placed.now }
+    ensures hit { IfOk result (λ t. IsHitIn here.entry.value node t.value) }
+    ensures work { OnOk result (work.new ≡ work.old ++ new_ends here.entry.value placed.now node) }
+{
+    let mut here = here;
+    let label = label_at(&here, node);
+    if here.hit[label as usize] {
+        return Ok(here);
+    }
+    push_ends(work, &here, placed, label)?;
+    here.hit[label as usize] = true;
+    Ok(here)
+}
+
+// Hits a site.
+fn hit<'a>(
+    alloc: Global,
+    scene: &Scene<'a>,
+    walk: &mut Walk<'a>,
+    site: Site,
+) -> Result<(), Memory>
+    requires touched { AreTouched scene.now walk.old.touched.items }
+    requires site { IsNode scene.now.net site }
+    ensures { OnOk result (Grows scene.now walk.old walk.new (site ∷ [])) }
+{
+    scene.keeps();
+    let here = take_touched(alloc, scene, &mut walk.touched, site.level)?;
+    let placed = scene.level(site.level).placed();
+    let here = hit_in(here, site.node, placed, &mut walk.work)?;
+    put_at(&mut walk.touched, site.level as usize, here);
+    Ok(())
+}
