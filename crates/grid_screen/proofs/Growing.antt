@@ -1,10 +1,12 @@
 -- What a walk has hit after more sites: just what edges join to them, and the equipment of new branch ends waits.
-use Rattle.std.proofs.Common.{◌≡◌, refl, sym, ap, ◌∙◌, subst, ℕ, zero, suc, ◌<◌, ◌≢◌, Bool, true, false, cond, List, [], ◌∷◌, ◌++◌, length, get_or, inl, inr, ◌⊎◌, arith, Some, None, Option, get_or-set_same, get_or-set_other}
+use Rattle.std.proofs.Common.{◌≡◌, refl, sym, ap, ◌∙◌, subst, ℕ, zero, suc, ◌<◌, ◌≢◌, Bool, true, false, cond, List, [], ◌∷◌, ◌++◌, length, get_or, take, ◌+◌, inl, inr, ◌⊎◌, arith, Some, None, Option, get_or-set_same, get_or-set_other}
 use Rattle.std.specs.Prelude.{slice_get, slice_set, ◌==◌, Box, ◌||◌, filter, map}
 use Rattle.std.specs.declared.alloc.Global.{Global}
-use Rattle.std.specs.List.{list_any}
+use Rattle.std.specs.List.{list_any, flat_map}
 use Rattle.std.proofs.lemmas.Bool.{and_parts, and_from, or_cases, or_left, or_right, eqb-true, eq-eqb, true≢false, false≢true}
-use Rattle.std.proofs.lemmas.List.{length-set}
+use Rattle.std.proofs.lemmas.List.{length-set, append-nil}
+use Rattle.std.proofs.lemmas.Grind.{flat_map-append}
+use Rattle.grid_lemmas.proofs.Lists.{take_next}
 use Rattle.grid_ids.specs.Name.{same_id, has_id}
 use Rattle.grid_ids.proofs.Alike.{has_join, same_is, same_itself}
 use Rattle.grid_level.specs.declared.Placed.{Placed}
@@ -48,6 +50,9 @@ had id ids i = any_among (same_id id) id ids i (same_itself id)
 pub has_some : (id : List ℕ) (ids : List (List ℕ)) → has_id ids id ≡ true → Among id ids
 unfolding has_id
 has_some id ids h = let f = any_found (same_id id) ids h in subst (λ (z : List ℕ). Among z ids) (sym (same_is id f.0 f.2)) f.1
+
+pub flat_more : {X Y : Type 0} (f : X → List Y) (xs : List X) (i : ℕ) (x : X) → i < length xs → x ≡ get_or xs i x → flat_map f (take (i + 1) xs) ≡ flat_map f (take i xs) ++ f x
+flat_more f xs i x lt at = ap (flat_map f) (take_next xs i x lt at) ∙ flat_map-append f (take i xs) (x ∷ []) ∙ ap (λ z. flat_map f (take i xs) ++ z) (append-nil (f x))
 
 -- the node of a site is one of the level that was looked at there
 pub node_there : (g : Ground) (s : Site) (t : Touched) → IsNode g.net s → IsTouched g s.level t → among (nodes t.level.now) s.node ≡ true

@@ -10,3 +10,6 @@ pub mod Kept
 pub mod Laws
 pub mod Texts
 pub mod Jobs
+pub mod Grounds
+pub mod Walks
+pub mod Zones

@@ -12,7 +12,9 @@ use Rattle.grid_groups.specs.Labels.{label_of, labels_where}
 use Rattle.grid_states.specs.Rows.{row_at}
 use Rattle.grid_structure.specs.declared.Site.{Site}
 use Rattle.grid_structure.specs.Network.{Network}
-use Rattle.grid_structure.specs.Sites.{levels}
+use Rattle.std.specs.Option.{option_map, option_to_list}
+use Rattle.grid_structure.specs.declared.SwitchAt.{SwitchAt}
+use Rattle.grid_structure.specs.Sites.{levels, site, terminal_spot}
 use Rattle.grid_screen.specs.declared.walk.Touched.{Touched}
 use Rattle.grid_screen.specs.declared.walk.Walk.{Walk}
 use Rattle.grid_screen.specs.Grounds.{Ground, fault_flags}
@@ -125,3 +127,48 @@ pub record Grows (g : Ground) (old new : Walk) (sites : List Site) : Type 0 wher
   pub ends : (s : Site) (p : Placed) → IsEnd g s p → hits new.touched.items s ≡ true → (hits old.touched.items s ≡ true) ⊎ (has_id new.work p.terminal.equipment ≡ true)
   pub waits : (id : List ℕ) → has_id old.work id ≡ true → has_id new.work id ≡ true
   pub reasons : (id : List ℕ) → has_id new.work id ≡ true → (has_id old.work id ≡ true) ⊎ ((s : Site) × (p : Placed) × IsEnd g s p × (hits new.touched.items s ≡ true) × (p.terminal.equipment ≡ id))
+
+-- ---- from id to id
+
+-- the node of the terminal of a side, if there is one
+unfoldable pub site_of_side : Network → List ℕ → ℕ → List Site
+site_of_side net id side = option_to_list (option_map terminal_spot (site net id side))
+
+abbrev pub switch_place : SwitchAt → ℕ × ℕ
+switch_place at = (at.level, at.place)
+
+-- a switch of the level at a place
+pub record IsSwitchOf (net : Network) (at : SwitchAt) : Type 0 where
+  pub level : VoltageLevel
+  pub there : slice_get (levels net) at.level ≡ Some level
+  pub inside : at.place < length level.switches
+
+-- ---- until nothing waits
+
+-- of each branch end that was hit, the equipment waits or its terminals were hit; and what waits is of such a one
+pub record IsOpen (g : Ground) (walk : Walk) : Type 0 where
+  pub touched : AreTouched g walk.touched.items
+  pub pending : (s : Site) (p : Placed) → IsEnd g s p → hits walk.touched.items s ≡ true → (has_id walk.work p.terminal.equipment ≡ true) ⊎ HasSites (hits walk.touched.items) (sites_of_equipment g.net p.terminal.equipment)
+  pub reasons : (id : List ℕ) → has_id walk.work id ≡ true → (s : Site) × (p : Placed) × IsEnd g s p × (hits walk.touched.items s ≡ true) × (p.terminal.equipment ≡ id)
+
+-- with a branch end a set of sites has all terminals of its branch
+abbrev pub HasEnds : Ground → (Site → Bool) → Type 0
+HasEnds g set = (s : Site) (p : Placed) → IsEnd g s p → set s ≡ true → HasSites set (sites_of_equipment g.net p.terminal.equipment)
+
+-- what was hit stays hit, and what is new is in each set that has it with what edges and branches join
+pub record Reaches (g : Ground) (old new : Touches) : Type 0 where
+  pub kept : (s : Site) → hits old s ≡ true → hits new s ≡ true
+  pub least : (set : Site → Bool) → HasEdges g set → HasEnds g set → ((s : Site) → IsNode g.net s → hits old s ≡ true → set s ≡ true) → (s : Site) → IsNode g.net s → hits new s ≡ true → set s ≡ true
+
+pub record Runs (g : Ground) (old new : Walk) : Type 0 where
+  pub touched : AreTouched g new.touched.items
+  pub reaches : Reaches g old.touched.items new.touched.items
+  pub ends : HasEnds g (hits new.touched.items)
+
+-- the starts are hit, with each site what edges and branches join to it, and nothing else
+pub record IsSettled (g : Ground) (starts : List Site) (touched : Touches) : Type 0 where
+  pub each : AreTouched g touched
+  pub here : HasSites (hits touched) starts
+  pub edges : HasEdges g (hits touched)
+  pub ends : HasEnds g (hits touched)
+  pub least : (set : Site → Bool) → HasEdges g set → HasEnds g set → HasSites set starts → (s : Site) → IsNode g.net s → hits touched s ≡ true → set s ≡ true

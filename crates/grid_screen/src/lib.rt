@@ -12,7 +12,9 @@ mod outage;
 mod parallel;
 mod present;
 mod read;
+mod scene;
 mod screening;
+mod walk;
 mod write;
 
 pub use find::find_one;

@@ -33,6 +33,7 @@ impl<'a> Model for Scene<'a> {
         (shown_rows s.changes.items s.states.now) s.stuck };
 
     ghost invariant = { λ s. (length s.changes.items ≡ length (levels s.structure.now))
+        × (length s.states.now ≡ length (levels s.structure.now))
         × IsGround (ground s.structure.now (shown_levels s.changes.items (levels s.structure.now))
         (shown_rows s.changes.items s.states.now) s.stuck) };
 }

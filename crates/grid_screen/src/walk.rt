@@ -1,17 +1,16 @@
 // A walk over what a fault hits: each level is looked at once, and each branch end that is hit leads to the others of its
 // branch.
-ghost use Rattle.std.specs.Prelude.{◌≡◌, ℕ, ◌<◌, ◌++◌, [], ◌∷◌, length, false, true, None, Some, IfOk, OnOk, IsTrue, map, slice_get, slice_set};
-ghost use Rattle.std.specs.List.{zip, list_all};
+ghost use Rattle.std.specs.Prelude.{◌≡◌, ℕ, ◌<◌, ◌++◌, [], ◌∷◌, length, false, true, None, Some, IfOk, OnOk, IsTrue, flat_map, slice_set};
+ghost use Rattle.std.specs.List.{list_all};
 ghost use Rattle.grid_level.specs.Kept.{among};
 ghost use Rattle.grid_level.specs.Passing as passing;
 ghost use Rattle.grid_level.specs.Passing.{nodes};
 ghost use Rattle.grid_structure.specs.Sites.{levels};
-ghost use Rattle.grid_structure.specs.Sites as places;
 ghost use Rattle.grid_screen.specs.Grounds as grounds;
 ghost use Rattle.grid_screen.specs.Zones as zones;
-ghost use Rattle.grid_screen.specs.Zones.{sites_of_equipment};
+ghost use Rattle.grid_screen.specs.Zones.{sites_of, sites_of_switch, sites_of_equipment};
 ghost use Rattle.grid_screen.specs.Walks as walks;
-ghost use Rattle.grid_screen.specs.Walks.{touched_at, label_in, hits_in, hits_by, ends_at, new_ends, IsNode, IsTouched, AreTouched, IsUntouched, CanHit, IsHitIn, Grows};
+ghost use Rattle.grid_screen.specs.Walks.{touched_at, label_in, hits_in, hits_by, ends_at, new_ends, IsNode, IsTouched, AreTouched, IsUntouched, CanHit, IsHitIn, Grows, IsSwitchOf, switch_place, site_of_side, IsOpen, Runs, IsSettled};
 
 use crate::scene::Scene;
 use grid_groups::{index_of, labels};
@@ -19,7 +18,7 @@ use grid_ids::{Duplicate, Id, Ids, Memory};
 use grid_json::SeenIds;
 use grid_kinds::SwitchKind;
 use grid_level::{Level, Placed, Stand, Switch};
-use grid_structure::Site;
+use grid_structure::{Site, SwitchAt};
 use std::alloc::Global;
 
 /// A level of the screened state, with the label of each node: the least index of the nodes to which a fault passes from
@@ -232,4 +231,136 @@ fn hit<'a>(
     let here = hit_in(here, site.node, placed, &mut walk.work)?;
     put_at(&mut walk.touched, site.level as usize, here);
     Ok(())
+}
+
+// Hits the node of the terminal of a side, if there is one.
+fn hit_side<'a>(
+    alloc: Global,
+    scene: &Scene<'a>,
+    walk: &mut Walk<'a>,
+    id: &Id,
+    side: u8,
+) -> Result<(), Memory>
+    requires { AreTouched scene.now walk.old.touched.items }
+    ensures { OnOk result (Grows scene.now walk.old walk.new (site_of_side scene.now.net id.now side)) }
+{
+    scene.keeps();
+    match scene.structure().site(id, side) {
+        Some(site) => hit(alloc, scene, walk, site),
+        None => Ok(()),
+    }
+}
+
+// Hits the nodes of all terminals of an equipment.
+fn hit_equipment<'a>(
+    alloc: Global,
+    scene: &Scene<'a>,
+    walk: &mut Walk<'a>,
+    id: &Id,
+) -> Result<(), Memory>
+    requires { AreTouched scene.now walk.old.touched.items }
+    ensures { OnOk result (Grows scene.now walk.old walk.new (sites_of_equipment scene.now.net id.now)) }
+{
+    hit_side(alloc, scene, walk, id, 1)?;
+    hit_side(alloc, scene, walk, id, 2)?;
+    hit_side(alloc, scene, walk, id, 3)
+}
+
+// Hits the two nodes of a switch.
+fn hit_switch<'a>(
+    alloc: Global,
+    scene: &Scene<'a>,
+    walk: &mut Walk<'a>,
+    at: SwitchAt,
+) -> Result<(), Memory>
+    requires touched { AreTouched scene.now walk.old.touched.items }
+    requires at { IsSwitchOf scene.now.net at }
+    ensures { OnOk result (Grows scene.now walk.old walk.new (sites_of_switch scene.now.net (switch_place at))) }
+{
+    scene.keeps();
+    let level = at.level;
+    let switch = scene.structure().level(level).switch(at.place);
+    let (node1, node2) = (switch.node1, switch.node2);
+    hit(alloc, scene, walk, Site { level, node: node1 })?;
+    hit(alloc, scene, walk, Site { level, node: node2 })
+}
+
+// Hits the sites of the switch or of the equipment of an id.
+#[tactic(auto, unfolding(crate::specs::Zones::sites_of))]
+fn hit_id<'a>(
+    alloc: Global,
+    scene: &Scene<'a>,
+    walk: &mut Walk<'a>,
+    id: &Id,
+) -> Result<(), Memory>
+    requires { AreTouched scene.now walk.old.touched.items }
+    ensures { OnOk result (Grows scene.now walk.old walk.new (sites_of scene.now.net id.now)) }
+{
+    match scene.structure().find_switch(id) {
+        Some(at) => hit_switch(alloc, scene, walk, at),
+        None => hit_equipment(alloc, scene, walk, id),
+    }
+}
+
+// Hits the sites of these ids.
+fn hit_all<'a>(
+    alloc: Global,
+    scene: &Scene<'a>,
+    walk: &mut Walk<'a>,
+    ids: &[Id],
+) -> Result<(), Memory>
+    requires { AreTouched scene.now walk.old.touched.items }
+    ensures { OnOk result (Grows scene.now walk.old walk.new (flat_map (sites_of scene.now.net) ids.now)) }
+{
+    for id in ids {
+        hit_id(alloc, scene, walk, id)?;
+    }
+    Ok(())
+}
+
+// Goes on until no branch end that was hit waits. It is want of memory, too, where more of them came than a number can
+// count.
+fn go_on<'a>(alloc: Global, scene: &Scene<'a>, walk: &mut Walk<'a>) -> Result<(), Memory>
+    requires { IsOpen scene.now walk.old }
+    ensures { OnOk result (Runs scene.now walk.old walk.new) }
+{
+    scene.keeps();
+    for _turn in 0..u64::MAX {
+        let Some(id) = walk.work.pop() else {
+            return Ok(());
+        };
+        hit_equipment(alloc, scene, walk, &id)?;
+    }
+    Err(Memory)
+}
+
+// Of no level something is hit.
+fn nowhere<'a>(alloc: Global, count: u32) -> Result<Vec<Option<Box<Touched<'a>>>>, Memory>
+    ensures long { IfOk result (λ touched. length touched.items ≡ count) }
+    ensures none { IfOk result (λ touched. (k : ℕ) → touched_at touched.items k ≡ None) }
+{
+    let mut touched = Vec::with_capacity(alloc, count as usize)?;
+    for _place in 0..count {
+        touched.push(None)?;
+    }
+    Ok(touched)
+}
+
+/// What is hit where these ids are: the sites that are joined to theirs. The time is that of a look at each level that is
+/// hit, and of a look-up for each branch end.
+pub(crate) fn walk_from<'a>(
+    alloc: Global,
+    scene: &Scene<'a>,
+    ids: &[Id],
+) -> Result<Walk<'a>, Memory>
+    ensures { IfOk result (λ walk. IsSettled scene.now (flat_map (sites_of scene.now.net) ids.now)
+        walk.touched.items) }
+{
+    scene.keeps();
+    let touched = nowhere(alloc, scene.structure().level_count())?;
+    let work = Ids::empty(alloc);
+    let mut walk = Walk { touched, work };
+    hit_all(alloc, scene, &mut walk, ids)?;
+    go_on(alloc, scene, &mut walk)?;
+    Ok(walk)
 }
