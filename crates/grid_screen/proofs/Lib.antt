@@ -4,6 +4,7 @@ pub mod Cases
 pub mod Changing
 pub mod Closed
 pub mod Counted
+pub mod Ended
 pub mod Figured
 pub mod Grouped
 pub mod Growing
@@ -23,3 +24,4 @@ pub mod Stands
 pub mod Stepped
 pub mod Threaded
 pub mod Written
+pub mod Zoned

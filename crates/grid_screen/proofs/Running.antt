@@ -28,7 +28,7 @@ use Rattle.grid_screen.proofs.Passed as passed
 
 -- ---- branch ends
 
-map_back : {X Y : Type 0} (f : X → Y) (xs : List X) (k : ℕ) (y : Y) → slice_get (map f xs) k ≡ Some y → (x : X) × (slice_get xs k ≡ Some x) × (f x ≡ y)
+pub map_back : {X Y : Type 0} (f : X → Y) (xs : List X) (k : ℕ) (y : Y) → slice_get (map f xs) k ≡ Some y → (x : X) × (slice_get xs k ≡ Some x) × (f x ≡ y)
 map_back f [] k y e = cc
 map_back f (x ∷ xs) zero y e = (x, refl, cc)
 map_back f (x ∷ xs) (suc k) y e = map_back f xs k y e

@@ -79,7 +79,7 @@ branch_range (b ∷ bs) x h = elim (or_cases (has (sides_from b.id 1 (branch_end
 ]
 
 -- a branch end that stands in a level is a side of it
-end_side : (id : List ℕ) (ps : List Placed) (k : ℕ) (p : Placed) → slice_get ps k ≡ Some p → is_branch_end p.stand ≡ true → has (sides_at id ps) (p.terminal.equipment, p.terminal.side, id, pos p.node) ≡ true
+pub end_side : (id : List ℕ) (ps : List Placed) (k : ℕ) (p : Placed) → slice_get ps k ≡ Some p → is_branch_end p.stand ≡ true → has (sides_at id ps) (p.terminal.equipment, p.terminal.side, id, pos p.node) ≡ true
 end_side id [] k p at h = cc
 end_side id (q ∷ ps) zero p at h =
     let same : q ≡ p = cc in
@@ -106,7 +106,7 @@ end_side id (q ∷ ps) (suc k) p at h = by (is_branch_end q.stand) (end_side id 
 -- ---- where it stands
 
 -- a terminal has one of three sides
-one_of_three : (net : Network) (k j : ℕ) (l : VoltageLevel) (p : Placed) → IsSound net → slice_get (levels net) k ≡ Some l → slice_get l.placed j ≡ Some p → (1 ≤ p.terminal.side) × (p.terminal.side ≤ 3)
+pub one_of_three : (net : Network) (k j : ℕ) (l : VoltageLevel) (p : Placed) → IsSound net → slice_get (levels net) k ≡ Some l → slice_get l.placed j ≡ Some p → (1 ≤ p.terminal.side) × (p.terminal.side ≤ 3)
 unfolding is_branch_end side_passes stand_passes
 one_of_three net k j l p s at here = by (is_branch_end p.stand) refl
   where

@@ -211,7 +211,7 @@ out_same first removed state new k p o t = record {
 }
 
 -- switches are found where they were
-found_alike : {A B : Type 0} (test : A → Option B) (f : A → A) (c : ℕ) (xs : List A) → ((x : A) → test (f x) ≡ test x) → first_found c test (map f xs) ≡ first_found c test xs
+pub found_alike : {A B : Type 0} (test : A → Option B) (f : A → A) (c : ℕ) (xs : List A) → ((x : A) → test (f x) ≡ test x) → first_found c test (map f xs) ≡ first_found c test xs
 found_alike test f c [] h = refl
 found_alike {A} {B} test f c (x ∷ xs) h = ap (chosen (first_found (c + 1) test (map f xs))) (h x) ∙ same (test x) (found_alike test f (c + 1) xs h)
   where
