@@ -1,7 +1,10 @@
 -- Ids may be put out in any order, and one that comes again changes nothing.
-use Rattle.std.proofs.Common.{◌≡◌, inl, inr, refl, sym, ap, ◌∙◌, subst, ℕ, zero, suc, Bool, true, false, cond, not, List, [], ◌∷◌, Option, Some, None}
+use Rattle.std.proofs.Common.{◌≡◌, inl, inr, refl, sym, ap, ◌∙◌, subst, ℕ, zero, suc, Bool, true, false, cond, not, List, [], ◌∷◌, ◌++◌, ◌+◌, ◌<◌, length, get_or, take, Option, Some, None}
 use Rattle.std.specs.Prelude.{filter, fold, slice_set}
 use Rattle.std.proofs.lemmas.Bool.{or_cases, false≢true}
+use Rattle.std.proofs.lemmas.List.{take_more}
+use Rattle.grid_json.specs.Seen.{Knows}
+use Rattle.grid_json.proofs.IdSets.{knows-append}
 use Rattle.grid_ids.specs.Name.{same_id, has_id}
 use Rattle.grid_ids.proofs.Alike.{same_is}
 use Rattle.grid_level.specs.declared.Placed.{Placed}
@@ -161,3 +164,7 @@ pub levels_again : (net : Network) (ids : List (List ℕ)) (ls : List VoltageLev
 unfolding levels_with_out levels_after
 levels_again net ids ls id h =
     again (levels_with_out net) (λ s a b. out_swap net a b (find_switch net a) (find_switch net b) s) (λ s a. out_twice net a (find_switch net a) s) ls ids id h
+
+-- a set that knows the ids before a place, with the one there
+pub knows_more : (seen new ids : List (List ℕ)) (i : ℕ) (id : List ℕ) → i < length ids → id ≡ get_or ids i id → Knows seen (take i ids) → Knows new (seen ++ id ∷ []) → Knows new (take (i + 1) ids)
+knows_more seen new ids i id lt at k h q = h q ∙ knows-append seen (take i ids) (id ∷ []) k q ∙ ap (λ z. has_id z q) (sym (take_more ids i id lt ∙ ap (λ z. take i ids ++ z ∷ []) (sym at)))

@@ -18,6 +18,7 @@ pub mod Outed
 pub mod Passed
 pub mod Removed
 pub mod Running
+pub mod Scened
 pub mod Shown
 pub mod Sitings
 pub mod Stands

@@ -364,8 +364,8 @@ module _ (g : Ground) (b : IsGround g) (past : Network) (stuck : List (List ℕ)
         ]
 
     -- the sites that the walk has hit are the zone
-    pub zone_is : (touched : Touches) → IsSettled g starts touched → filter (hits touched) (network_sites g.net) ≡ zone_over g.net ties starts
-    unfolding zone zone_over
+    pub zone_is : (touched : Touches) → IsSettled g starts touched → filter (hits touched) (network_sites g.net) ≡ zone_over g.net (fault_ties past g.opened stuck) starts
+    unfolding zone zone_over ties
     zone_is touched done = filter_agrees (hits touched) (is_hit (network_sites g.net) ties starts) (network_sites g.net) both
       where
         both : (s : Site) → Among s (network_sites g.net) → hits touched s ≡ is_hit (network_sites g.net) ties starts s

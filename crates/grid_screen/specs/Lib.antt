@@ -13,3 +13,6 @@ pub mod Jobs
 pub mod Grounds
 pub mod Walks
 pub mod Zones
+pub mod Faults
+pub mod Listing
+pub mod Scenes

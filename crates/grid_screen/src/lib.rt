@@ -6,6 +6,7 @@ ghost use Rattle.std.proofs.Common.{rules};
 
 mod alike;
 mod counting;
+pub mod faults;
 pub mod find;
 pub mod laws;
 mod outage;
@@ -16,6 +17,7 @@ mod scene;
 mod screening;
 mod walk;
 mod write;
+pub mod zone;
 
 pub use find::find_one;
 use grid_ids::{Duplicate, Id, Ids, Seq};

@@ -347,6 +347,25 @@ fn look_at_all<'a>(alloc: Global, powers: &Powers, changes: &mut Changes<'a>) ->
     Ok(())
 }
 
+/// The levels that change where these ids are out, one after the other, not looked at yet: a switch is opened, an equipment
+/// removed. The time is that of a look-up of each id, with a copy of each level from which equipment is removed.
+pub(crate) fn changes_without<'a>(
+    alloc: Global,
+    structure: &'a Structure,
+    states: &States,
+    ids: &[Id],
+) -> Result<Changes<'a>, Memory>
+    requires rows { length states.now ≡ length (levels structure.now) }
+    requires flags { FlagsFit structure.now states.now }
+    ensures { IfOk result (λ changes. Shows (levels structure.now) states.now changes.items
+        (levels_after structure.now ids.now (levels structure.now))
+        (rows_after structure.now ids.now states.now)) }
+{
+    let mut changes = unchanged(alloc, structure.level_count())?;
+    put_all_out(alloc, structure, states, &mut changes, ids)?;
+    Ok(changes)
+}
+
 /// The levels that change where these ids are out, one after the other: a switch is opened, an equipment removed. The time
 /// is that of a look-up of each id and of a view of each level that they touch, with a copy where equipment is removed.
 pub(crate) fn find_changes<'a>(
@@ -362,8 +381,7 @@ pub(crate) fn find_changes<'a>(
         changes.items (levels_after structure.now ids.now (levels structure.now))
         (rows_after structure.now ids.now states.now)) }
 {
-    let mut changes = unchanged(alloc, structure.level_count())?;
-    put_all_out(alloc, structure, states, &mut changes, ids)?;
+    let mut changes = changes_without(alloc, structure, states, ids)?;
     look_at_all(alloc, powers, &mut changes)?;
     Ok(changes)
 }

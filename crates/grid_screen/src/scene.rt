@@ -2,14 +2,20 @@
 ghost use Rattle.std.specs.Prelude.{◌≡◌, ◌<◌, length, Some, IfOk, slice_get};
 ghost use Rattle.grid_states.specs.Rows.{row_at};
 ghost use Rattle.grid_structure.specs.Sites.{levels};
+ghost use Rattle.grid_json.specs.Seen.{Knows};
+ghost use Rattle.grid_screen.specs.Findings.{CaseFits};
 ghost use Rattle.grid_screen.specs.Grounds.{Ground, IsGround};
-ghost use Rattle.grid_screen.specs.Screened.{shown_levels, shown_rows};
+ghost use Rattle.grid_screen.specs.Scenes.{IsScene};
 
-use crate::outage::Changes;
+use crate::faults::FaultCase;
+use crate::outage::{Changes, changes_without};
+use grid_core::Case;
+use grid_ids::{Id, Memory};
 use grid_json::SeenIds;
 use grid_level::Level;
 use grid_states::States;
 use grid_structure::Structure;
+use std::alloc::Global;
 use std::marker::Model;
 
 /// The state before a fault: what is screened with what an outage has changed, and the ids of the breakers that are stuck.
@@ -38,7 +44,38 @@ impl<'a> Model for Scene<'a> {
         (shown_rows s.changes.items s.states.now) s.stuck) };
 }
 
+// The ids of a list, to look them up in.
+fn set_of(alloc: Global, ids: &[Id]) -> Result<SeenIds, Memory>
+    ensures { IfOk result (λ set. Knows set ids.now) }
+{
+    let mut set = SeenIds::empty(alloc);
+    for id in ids {
+        set.add(id)?;
+    }
+    Ok(set)
+}
+
 impl<'a> Scene<'a> {
+    /// The state of a case before a fault: with what is out, one id after the other.
+    pub(crate) fn before_fault(
+        alloc: Global,
+        case: &'a Case,
+        fault: &FaultCase,
+    ) -> Result<Scene<'a>, Memory>
+        requires { CaseFits case.now }
+        ensures { IfOk result (IsScene case.now fault.now) }
+    {
+        case.structure.keeps();
+        let changes = changes_without(alloc, &case.structure, &case.states, fault.out.slice())?;
+        let stuck = set_of(alloc, fault.stuck.slice())?;
+        Ok(Scene {
+            structure: &case.structure,
+            states: &case.states,
+            changes,
+            stuck,
+        })
+    }
+
     /// The structure that is screened.
     pub(crate) fn structure(&self) -> &'a Structure
         ensures { result.now ≡ self.now.net }

@@ -1,18 +1,12 @@
-use Rattle.std.proofs.Common.{◌∙◌}
 use Rattle.grid_structure.specs.Sites.{levels}
 use Rattle.grid_screen.specs.Steps.{levels_after, rows_after}
-use Rattle.grid_screen.proofs.Changing.{none_shows}
 use Rattle.grid_screen.proofs.Shown.{all_fit, all_looked}
 use Rattle.grid_screen.proofs.outage.find_changes.Goals as goal
 
-pub put_all_out-requires : goal.put_all_out-requires
-put_all_out-requires c =
-    none_shows (levels c.args.structure.now) c.args.states.now c.in_ok-changes.changes.items (c.in_ok-changes.ensures.long ∙ c.level_count.ensures) c.requires.rows c.in_ok-changes.ensures.none c.requires.flags
-
 pub look_at_all-requires : goal.look_at_all-requires
-look_at_all-requires c = all_fit (levels c.args.structure.now) c.args.states.now c.put_all_out.new.changes.items _ _ c.in_ok-put_all_out.ensures
+look_at_all-requires c = all_fit (levels c.args.structure.now) c.args.states.now c.in_ok-changes.changes.items _ _ c.in_ok-changes.ensures
 
 pub returns : goal.returns
 returns c =
     let net = c.args.structure.now in
-    all_looked c.args.powers.now.listed (levels net) c.args.states.now c.put_all_out.new.changes.items c.look_at_all.new.changes.items (levels_after net c.args.ids.now (levels net)) (rows_after net c.args.ids.now c.args.states.now) c.in_ok-put_all_out.ensures c.in_ok-look_at_all.ensures
+    all_looked c.args.powers.now.listed (levels net) c.args.states.now c.in_ok-changes.changes.items c.look_at_all.new.changes.items (levels_after net c.args.ids.now (levels net)) (rows_after net c.args.ids.now c.args.states.now) c.in_ok-changes.ensures c.in_ok-look_at_all.ensures

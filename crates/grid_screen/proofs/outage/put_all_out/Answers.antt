@@ -1,21 +1,16 @@
-use Rattle.std.proofs.Common.{◌≡◌, refl, sym, ap, ◌∙◌, ℕ, ◌+◌, ◌<◌, Bool, true, false, not, List, [], ◌∷◌, ◌++◌, length, get_or, take}
+use Rattle.std.proofs.Common.{◌≡◌, refl, sym, ap, ◌∙◌, ◌+◌, Bool, true, false, not, take}
 use Rattle.std.proofs.lemmas.Bool.{true≢false}
-use Rattle.std.proofs.lemmas.List.{take_all, take_more}
+use Rattle.std.proofs.lemmas.List.{take_all}
 use Rattle.grid_ids.specs.Name.{has_id}
-use Rattle.grid_json.specs.Seen.{Knows}
-use Rattle.grid_json.proofs.IdSets.{knows-append}
 use Rattle.grid_structure.specs.Sites.{levels}
 use Rattle.grid_screen.specs.Steps.{levels_with_out, rows_with_out, levels_after, rows_after}
-use Rattle.grid_screen.proofs.Again.{levels_again, rows_again}
+use Rattle.grid_screen.proofs.Again.{levels_again, rows_again, knows_more}
 use Rattle.grid_screen.proofs.Changing.{shown_so, shows_as, all_more}
 use Rattle.grid_screen.proofs.outage.put_all_out.Goals as goal
 
 told : (added has : Bool) → added ≡ not has → added ≡ false → has ≡ true
 told added true e f = refl
 told added false e f = absurd (true≢false (sym e ∙ f))
-
-knows_more : (seen new ids : List (List ℕ)) (i : ℕ) (id : List ℕ) → i < length ids → id ≡ get_or ids i id → Knows seen (take i ids) → Knows new (seen ++ id ∷ []) → Knows new (take (i + 1) ids)
-knows_more seen new ids i id lt at k h q = h q ∙ knows-append seen (take i ids) (id ∷ []) k q ∙ ap (λ z. has_id z q) (sym (take_more ids i id lt ∙ ap (λ z. take i ids ++ z ∷ []) (sym at)))
 
 pub loop-id-init : goal.loop-id-init
 unfolding levels_after rows_after

@@ -1,0 +1,72 @@
+-- The levels and flags before a fault.
+use Rattle.std.proofs.Common.{◌≡◌, refl, sym, ap, ◌∙◌, subst, ℕ, Bool, List, [], map, length}
+use Rattle.std.specs.Prelude.{slice_get, Some}
+use Rattle.grid_level.specs.VoltageLevel.{VoltageLevel}
+use Rattle.grid_states.specs.Rows.{row_at}
+use Rattle.grid_structure.specs.Network.{Network}
+use Rattle.grid_structure.specs.Sites.{levels, branches}
+use Rattle.grid_structure.specs.Soundness.{IsSound}
+use Rattle.grid_core.specs.declared.case.Case.{Case}
+use Rattle.grid_core.specs.Solo.{State}
+use Rattle.grid_json.specs.Seen.{Knows}
+use Rattle.grid_screen.specs.declared.faults.FaultCase.{FaultCase}
+use Rattle.grid_screen.specs.Faults.{before_fault}
+use Rattle.grid_screen.specs.Findings.{state_in}
+use Rattle.grid_screen.specs.Grounds.{Ground, IsGround, ground}
+use Rattle.grid_screen.specs.Screened.{Changes, level_without, branches_without, shown_levels, shown_rows}
+use Rattle.grid_screen.specs.Scenes.{IsScene}
+use Rattle.grid_screen.specs.Steps.{Shows, levels_after, rows_after}
+use Rattle.grid_screen.proofs.Outcomes.{outcome}
+use Rattle.grid_screen.proofs.Running.{map_back}
+use Rattle.grid_screen.proofs.Shown.{length-shown_rows}
+use Rattle.grid_screen.proofs.Stepped.{Outcome, Out}
+use Rattle.grid_screen.proofs.Zoned.{IsPast}
+
+module _ (case : Case) (fault : FaultCase) (changes : Changes) (stuck : List (List ℕ)) (sound : IsSound case.structure)
+    (shows : Shows (levels case.structure) case.states changes (levels_after case.structure fault.out (levels case.structure)) (rows_after case.structure fault.out case.states)) (known : Knows stuck fault.stuck) where
+  scene : Ground
+  scene = ground case.structure (shown_levels changes (levels case.structure)) (shown_rows changes case.states) stuck
+
+  past_of : (retained : List (List Bool)) → Outcome (state_in case retained) (before_fault (state_in case retained) fault) (levels_after case.structure fault.out (levels case.structure)) (rows_after case.structure fault.out case.states)
+  unfolding before_fault
+  past_of retained = outcome (state_in case retained) fault.out sound
+
+  pub is_ground : IsGround (ground case.structure (shown_levels changes (levels case.structure)) (shown_rows changes case.states) stuck)
+  is_ground =
+      let o = past_of [] in
+      record {
+        sound = sound;
+        removed = o.removed;
+        left = shows.levels_are ∙ o.levels_are ∙ o.out.levels_left;
+        rows = length-shown_rows changes case.states (shows.long ∙ sym shows.rows_long) ∙ shows.rows_long;
+        flags = λ k l at. ap (λ z. length (row_at z k)) shows.rows_are ∙ shows.flags_fit k l at;
+      }
+
+  pub is_scene : IsScene case fault (ground case.structure (shown_levels changes (levels case.structure)) (shown_rows changes case.states) stuck)
+  is_scene = record {
+    net_is = refl;
+    levels_are = λ retained. shows.levels_are ∙ (past_of retained).levels_are;
+    opened_are = λ retained. shows.rows_are ∙ (past_of retained).rows_are;
+    stuck_are = known;
+  }
+
+-- the network before the fault
+pub past : (case : Case) (fault : FaultCase) (g : Ground) (sound : IsSound case.structure) (is : IsScene case fault g) (rows : length g.opened ≡ length (levels case.structure))
+    (flags : (k : ℕ) (l : VoltageLevel) → slice_get (levels case.structure) k ≡ Some l → length (row_at g.opened k) ≡ length l.switches) (retained : List (List Bool))
+    → (b : IsGround g) × IsPast g b (before_fault (state_in case retained) fault).structure fault.stuck
+unfolding before_fault
+past case fault g sound is rows flags retained =
+    let o = outcome (state_in case retained) fault.out sound in
+    let b : IsGround g = record {
+      sound = subst IsSound (sym is.net_is) sound;
+      removed = o.removed;
+      left = is.levels_are retained ∙ o.out.levels_left ∙ ap (λ (z : Network). map (level_without o.removed) (levels z)) (sym is.net_is);
+      rows = rows ∙ ap (λ (z : Network). length (levels z)) (sym is.net_is);
+      flags = subst (λ (z : Network). (k : ℕ) (l : VoltageLevel) → slice_get (levels z) k ≡ Some l → length (row_at g.opened k) ≡ length l.switches) (sym is.net_is) flags;
+    } in
+    (b, record {
+      sound = o.out.sound;
+      levels_are = sym (is.levels_are retained);
+      branches_are = o.out.branches_left ∙ ap (λ (z : Network). branches_without o.removed (branches z)) (sym is.net_is);
+      known = λ q. sym (is.stuck_are q);
+    })
