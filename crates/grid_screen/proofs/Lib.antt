@@ -12,6 +12,7 @@ pub mod Grown
 pub mod Hitting
 pub mod Likeness
 pub mod Linked
+pub mod Listed
 pub mod Members
 pub mod Outcomes
 pub mod Outed

@@ -82,6 +82,9 @@ module _ (level : VoltageLevel) (flags : List Bool) (labels : List ℕ) (keeps :
   pub long : length labels ≡ length (nodes level)
   long = bridge.labels_long (nodes level) (passing_where level flags) keeps.nodes_rise ends_in labels by_index
 
+  pub each_below : (k : ℕ) → k < length labels → get_or labels k 0 < length (nodes level)
+  each_below k lt = bridge.label_below (nodes level) (passing_where level flags) keeps.nodes_rise ends_in labels by_index k (omega (arith, lt, long))
+
   pub below : (node : ℕ) → among (nodes level) node ≡ true → label_of (nodes level) labels node < length labels
   unfolding label_of
   below node i =

@@ -1,6 +1,6 @@
 -- The levels and flags before a fault.
 use Rattle.std.proofs.Common.{◌≡◌, refl, sym, ap, ◌∙◌, subst, ℕ, Bool, List, [], map, length}
-use Rattle.std.specs.Prelude.{slice_get, Some}
+use Rattle.std.specs.Prelude.{filter, flat_map}
 use Rattle.grid_level.specs.VoltageLevel.{VoltageLevel}
 use Rattle.grid_states.specs.Rows.{row_at}
 use Rattle.grid_structure.specs.Network.{Network}
@@ -10,17 +10,20 @@ use Rattle.grid_core.specs.declared.case.Case.{Case}
 use Rattle.grid_core.specs.Solo.{State}
 use Rattle.grid_json.specs.Seen.{Knows}
 use Rattle.grid_screen.specs.declared.faults.FaultCase.{FaultCase}
-use Rattle.grid_screen.specs.Faults.{before_fault}
+use Rattle.grid_structure.specs.declared.Site.{Site}
+use Rattle.grid_screen.specs.Faults.{before_fault, zone_from, zone_of, IsZone}
 use Rattle.grid_screen.specs.Findings.{state_in}
 use Rattle.grid_screen.specs.Grounds.{Ground, IsGround, ground}
 use Rattle.grid_screen.specs.Screened.{Changes, level_without, branches_without, shown_levels, shown_rows}
 use Rattle.grid_screen.specs.Scenes.{IsScene}
+use Rattle.grid_screen.specs.Walks.{Touches, hits, IsSettled}
+use Rattle.grid_screen.specs.Zones.{network_sites, sites_of, fault_ties, zone_over}
 use Rattle.grid_screen.specs.Steps.{Shows, levels_after, rows_after}
 use Rattle.grid_screen.proofs.Outcomes.{outcome}
 use Rattle.grid_screen.proofs.Running.{map_back}
 use Rattle.grid_screen.proofs.Shown.{length-shown_rows}
 use Rattle.grid_screen.proofs.Stepped.{Outcome, Out}
-use Rattle.grid_screen.proofs.Zoned.{IsPast}
+use Rattle.grid_screen.proofs.Zoned.{IsPast, zone_is, starts_are_nodes}
 
 module _ (case : Case) (fault : FaultCase) (changes : Changes) (stuck : List (List ℕ)) (sound : IsSound case.structure)
     (shows : Shows (levels case.structure) case.states changes (levels_after case.structure fault.out (levels case.structure)) (rows_after case.structure fault.out case.states)) (known : Knows stuck fault.stuck) where
@@ -51,18 +54,16 @@ module _ (case : Case) (fault : FaultCase) (changes : Changes) (stuck : List (Li
   }
 
 -- the network before the fault
-pub past : (case : Case) (fault : FaultCase) (g : Ground) (sound : IsSound case.structure) (is : IsScene case fault g) (rows : length g.opened ≡ length (levels case.structure))
-    (flags : (k : ℕ) (l : VoltageLevel) → slice_get (levels case.structure) k ≡ Some l → length (row_at g.opened k) ≡ length l.switches) (retained : List (List Bool))
-    → (b : IsGround g) × IsPast g b (before_fault (state_in case retained) fault).structure fault.stuck
+pub past : (case : Case) (fault : FaultCase) (g : Ground) → IsGround g → IsScene case fault g → (retained : List (List Bool)) → (b : IsGround g) × IsPast g b (before_fault (state_in case retained) fault).structure fault.stuck
 unfolding before_fault
-past case fault g sound is rows flags retained =
-    let o = outcome (state_in case retained) fault.out sound in
+past case fault g own is retained =
+    let o = outcome (state_in case retained) fault.out (subst IsSound is.net_is own.sound) in
     let b : IsGround g = record {
-      sound = subst IsSound (sym is.net_is) sound;
+      sound = own.sound;
       removed = o.removed;
       left = is.levels_are retained ∙ o.out.levels_left ∙ ap (λ (z : Network). map (level_without o.removed) (levels z)) (sym is.net_is);
-      rows = rows ∙ ap (λ (z : Network). length (levels z)) (sym is.net_is);
-      flags = subst (λ (z : Network). (k : ℕ) (l : VoltageLevel) → slice_get (levels z) k ≡ Some l → length (row_at g.opened k) ≡ length l.switches) (sym is.net_is) flags;
+      rows = own.rows;
+      flags = own.flags;
     } in
     (b, record {
       sound = o.out.sound;
@@ -70,3 +71,15 @@ past case fault g sound is rows flags retained =
       branches_are = o.out.branches_left ∙ ap (λ (z : Network). branches_without o.removed (branches z)) (sym is.net_is);
       known = λ q. sym (is.stuck_are q);
     })
+
+-- what a walk from the sites that are hit leads to is the zone
+pub zone_found : (case : Case) (fault : FaultCase) (g : Ground) → IsGround g → IsScene case fault g → (touched : Touches) (zone : List Site)
+    → IsSettled g (flat_map (sites_of g.net) fault.fault) touched → zone ≡ filter (hits touched) (network_sites g.net) → IsZone case fault zone
+unfolding zone_of zone_from
+zone_found case fault g own is touched zone settled listed retained =
+    let p = past case fault g own is retained in
+    let before = before_fault (state_in case retained) fault in
+    let starts = flat_map (sites_of g.net) fault.fault in
+    listed ∙ zone_is g p.0 before.structure fault.stuck p.1 starts (starts_are_nodes g.net fault.fault own.sound) touched settled
+    ∙ ap (λ (z : Network). zone_over z (fault_ties before.structure g.opened fault.stuck) (flat_map (sites_of z) fault.fault)) is.net_is
+    ∙ ap (λ z. zone_over case.structure (fault_ties before.structure z fault.stuck) (flat_map (sites_of case.structure) fault.fault)) (is.opened_are retained)

@@ -49,11 +49,13 @@ fn list_hit(
     requires { AreTouched scene.now touched.now }
     ensures { IfOk result (λ zone. zone ≡ filter (hits touched.now) (network_sites scene.now.net)) }
 {
+    scene.keeps();
     let mut zone = Zone::empty(alloc);
-    for (place, touched) in touched.iter().enumerate() {
-        if let Some(touched) = touched {
-            push_hit(&mut zone, place as u32, touched)?;
-        }
+    for place in 0..scene.structure().level_count() {
+        let Some(here) = &touched[place as usize] else {
+            continue;
+        };
+        push_hit(&mut zone, place, here)?;
     }
     Ok(zone)
 }
@@ -68,6 +70,7 @@ pub fn zone(alloc: Global, case: &Case, fault: &FaultCase) -> Result<Zone, Memor
     ensures { IfOk result (IsZone case.now fault.now) }
 {
     let scene = Scene::before_fault(alloc, case, fault)?;
+    scene.keeps();
     let walk = walk_from(alloc, &scene, fault.fault.slice())?;
     list_hit(alloc, &scene, &walk.touched)
 }
