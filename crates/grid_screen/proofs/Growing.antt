@@ -156,9 +156,9 @@ module _ (g : Ground) (old new : Walk) (s : Site) (t : Touched) (m : VoltageLeve
           let j = eqb-true q.level s.level e in
           elim (hit_cases t s.node box.value is below q.node (sym (new_at q j) ∙ hit)) [
             | inl label ↦
-              ap (λ z. set (site_at z q.node)) j
-              ∙ sym (passed.same_set t.level.now flags t.labels.items touched.keeps touched.labels (λ n. set (site_at s.level n)) (closed set edges) s.node q.node (among_here s refl is_node) (among_here q j h) label)
-              ∙ starts 0 s refl
+                ap (λ z. set (site_at z q.node)) j
+                ∙ sym (passed.same_set t.level.now flags t.labels.items touched.keeps touched.labels (λ n. set (site_at s.level n)) (closed set edges) s.node q.node (among_here s refl is_node) (among_here q j h) label)
+                ∙ starts 0 s refl
             | inr was ↦ before q h (old_at q j ∙ was)
           ]
       by false e = before q h (sym (stays q (unlike q.level s.level e)) ∙ hit)
@@ -243,8 +243,8 @@ grows_both g a b c first second u v = record {
   ];
   kept = λ s h. v.kept s (u.kept s h);
   least = λ set edges starts before s node hit.
-    v.least set edges (λ i q e. let got = got_among q (first ++ second) (among_right q first second (among_got second i q e)) in starts got.0 q got.1)
-    (u.least set edges (λ i q e. let got = got_among q (first ++ second) (among_left q first second (among_got first i q e)) in starts got.0 q got.1) before) s node hit;
+      v.least set edges (λ i q e. let got = got_among q (first ++ second) (among_right q first second (among_got second i q e)) in starts got.0 q got.1)
+      (u.least set edges (λ i q e. let got = got_among q (first ++ second) (among_left q first second (among_got first i q e)) in starts got.0 q got.1) before) s node hit;
   ends = λ s p e h. elim (v.ends s p e h) [
     | inl was ↦ elim (u.ends s p e was) [ inl first_was ↦ inl first_was | inr waits ↦ inr (v.waits p.terminal.equipment waits) ]
     | inr waits ↦ inr waits

@@ -47,13 +47,13 @@ module _ (sites : List Site) (ties : List (Site × Site)) (starts : List Site) (
   unfolding pairs pair_number
   holds = record {
     across = λ a c near.
-      let pair = next_among (map pair_number ties) a c near in
-      let tie = map_among pair_number pair.0 ties pair.1 in
-      let ends = fit.ends tie.0 tie.1 in
-      elim pair.2 [
-        | inl e ↦ subst (λ (z : ℕ). In z numbers) (sym (e.1 ∙ ap (λ (z : ℕ × ℕ). z.1) tie.2)) (numbered tie.0.1 ends.1)
-        | inr e ↦ subst (λ (z : ℕ). In z numbers) (sym (e.1 ∙ ap (λ (z : ℕ × ℕ). z.0) tie.2)) (numbered tie.0.0 ends.0)
-      ];
+        let pair = next_among (map pair_number ties) a c near in
+        let tie = map_among pair_number pair.0 ties pair.1 in
+        let ends = fit.ends tie.0 tie.1 in
+        elim pair.2 [
+          | inl e ↦ subst (λ (z : ℕ). In z numbers) (sym (e.1 ∙ ap (λ (z : ℕ × ℕ). z.1) tie.2)) (numbered tie.0.1 ends.1)
+          | inr e ↦ subst (λ (z : ℕ). In z numbers) (sym (e.1 ∙ ap (λ (z : ℕ × ℕ). z.0) tie.2)) (numbered tie.0.0 ends.0)
+        ];
   }
 
   pub hit_start : (s : Site) → Among s starts → is_hit sites ties starts s ≡ true

@@ -132,9 +132,9 @@ unfolding hit_sites hits
 level_more g touched k here old new each at was is =
     let h = subst (IsTouchedBy g k) at (each.each k) in
     let alike = filter_agrees (λ (s : Site). hits_in here.value s.node) (hits touched) (map (site_at k) (nodes here.value.level.now))
-        (λ s i. let n = map_among (site_at k) s (nodes here.value.level.now) i in
-        let level : s.level ≡ k = ap (λ (z : Site). z.level) n.2 in
-        sym (ap (λ z. hits_by (touched_at touched z) s.node) level ∙ ap (λ z. hits_by z s.node) at)) in
+    (λ s i. let n = map_among (site_at k) s (nodes here.value.level.now) i in
+    let level : s.level ≡ k = ap (λ (z : Site). z.level) n.2 in
+    sym (ap (λ z. hits_by (touched_at touched z) s.node) level ∙ ap (λ z. hits_by z s.node) at)) in
     is ∙ ap (λ z. z ++ filter (λ (s : Site). hits_in here.value s.node) (map (site_at k) (nodes here.value.level.now))) was
     ∙ ap (λ z. zone_before g.net touched k ++ z) alike ∙ sym (level_step g.net touched k here.value.level.now h.at)
 
@@ -143,9 +143,9 @@ unfolding hits
 level_skipped net touched k old lt at was =
     let l = some_got (levels net) k lt in
     let none = filter_agrees (hits touched) (λ (s : Site). false) (map (site_at k) (nodes l.0))
-        (λ s i. let n = map_among (site_at k) s (nodes l.0) i in
-        let level : s.level ≡ k = ap (λ (z : Site). z.level) n.2 in
-        ap (λ z. hits_by (touched_at touched z) s.node) level ∙ ap (λ z. hits_by z s.node) at) ∙ none_pass (map (site_at k) (nodes l.0)) in
+    (λ s i. let n = map_among (site_at k) s (nodes l.0) i in
+    let level : s.level ≡ k = ap (λ (z : Site). z.level) n.2 in
+    ap (λ z. hits_by (touched_at touched z) s.node) level ∙ ap (λ z. hits_by z s.node) at) ∙ none_pass (map (site_at k) (nodes l.0)) in
     was ∙ sym (level_step net touched k l.0 l.1 ∙ ap (λ z. zone_before net touched k ++ z) none ∙ append-nil (zone_before net touched k))
 
 pub zone_all : (net : Network) (touched : Touches) (k : ℕ) (now : List Site) → length (levels net) ≤ k → now ≡ zone_before net touched k → now ≡ filter (hits touched) (network_sites net)

@@ -114,10 +114,10 @@ module _ (g : Ground) (ground : IsGround g) (old mid new : Walk) (id : List ℕ)
   reaches_more first r = record {
     kept = λ s h. kept s (r.kept s h);
     least = λ set edges ends before s node hit.
-      let was = λ (q : Site) (n : IsNode g.net q) (h : hits old.touched.items q ≡ true). r.least set edges ends before q n h in
-      let why = is_open.reasons id (id_waits mid.work id old.work work) in
-      grows.least set edges (subst (λ (z : List ℕ). HasSites set (sites_of_equipment g.net z)) why.4 (ends why.0 why.1 why.2 (was why.0 (end_is_node g ground why.0 why.1 why.2) why.3)))
-      (λ q n h. was q n (ap (λ z. hits z.items q) (sym same) ∙ h)) s node hit;
+        let was = λ (q : Site) (n : IsNode g.net q) (h : hits old.touched.items q ≡ true). r.least set edges ends before q n h in
+        let why = is_open.reasons id (id_waits mid.work id old.work work) in
+        grows.least set edges (subst (λ (z : List ℕ). HasSites set (sites_of_equipment g.net z)) why.4 (ends why.0 why.1 why.2 (was why.0 (end_is_node g ground why.0 why.1 why.2) why.3)))
+        (λ q n h. was q n (ap (λ z. hits z.items q) (sym same) ∙ h)) s node hit;
   }
 
 pub nothing_left : {X : Type 0} (xs : List X) → (0 < length xs → ⊥) → xs ≡ []

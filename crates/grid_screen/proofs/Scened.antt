@@ -64,13 +64,15 @@ past case fault g own is retained =
       left = is.levels_are retained ∙ o.out.levels_left ∙ ap (λ (z : Network). map (level_without o.removed) (levels z)) (sym is.net_is);
       rows = own.rows;
       flags = own.flags;
-    } in
-    (b, record {
-      sound = o.out.sound;
-      levels_are = sym (is.levels_are retained);
-      branches_are = o.out.branches_left ∙ ap (λ (z : Network). branches_without o.removed (branches z)) (sym is.net_is);
-      known = λ q. sym (is.stuck_are q);
-    })
+    } in (
+      b,
+      record {
+        sound = o.out.sound;
+        levels_are = sym (is.levels_are retained);
+        branches_are = o.out.branches_left ∙ ap (λ (z : Network). branches_without o.removed (branches z)) (sym is.net_is);
+        known = λ q. sym (is.stuck_are q);
+      },
+    )
 
 -- what a walk from the sites that are hit leads to is the zone
 pub zone_found : (case : Case) (fault : FaultCase) (g : Ground) → IsGround g → IsScene case fault g → (touched : Touches) (zone : List Site)

@@ -315,7 +315,7 @@ module _ (g : Ground) (b : IsGround g) (past : Network) (stuck : List (List ℕ)
       over x s t i j k h =
           let p = end_there x s i j in
           let got = got_among t (sites_of_equipment g.net p.0.terminal.equipment)
-              (subst (λ (z : List ℕ). Among t (sites_of_equipment g.net z)) (sym p.2) (subst (Among t) (branch_sites_same x i) k)) in
+          (subst (λ (z : List ℕ). Among t (sites_of_equipment g.net z)) (sym p.2) (subst (Among t) (branch_sites_same x i) k)) in
           ends s p.0 p.1 h got.0 t got.1
 
   module _ (starts : List Site) (begun : (s : Site) → Among s starts → IsNode g.net s) where
@@ -341,9 +341,10 @@ module _ (g : Ground) (b : IsGround g) (past : Network) (stuck : List (List ℕ)
             let passes = subst (Among e.pair) (passed.fault_passing g.stuck e.level row (b.flags e.place e.level e.at)) (among_got (passing_fault g.stuck (positioned e.level row)) e.index e.pair e.passes) in
             let both = passed.pair_nodes e.level (fault_flags g.stuck e.level.switches row) _ keeps refl e.pair passes in
             let first : IsNode g.net (site_at e.place e.pair.0) = record { level = e.level; at = e.at; node = both.0 } in
-            let second : IsNode g.net (site_at e.place e.pair.1) = record { level = e.level; at = e.at; node = both.1 } in
-            (subst (λ (z : Site × Site). Among z.0 (network_sites g.net)) (sym e.is) (node_among g.net (site_at e.place e.pair.0) first),
-            subst (λ (z : Site × Site). Among z.1 (network_sites g.net)) (sym e.is) (node_among g.net (site_at e.place e.pair.1) second))
+            let second : IsNode g.net (site_at e.place e.pair.1) = record { level = e.level; at = e.at; node = both.1 } in (
+              subst (λ (z : Site × Site). Among z.0 (network_sites g.net)) (sym e.is) (node_among g.net (site_at e.place e.pair.0) first),
+              subst (λ (z : Site × Site). Among z.1 (network_sites g.net)) (sym e.is) (node_among g.net (site_at e.place e.pair.1) second),
+            )
 
     zone : Site → Bool
     zone = is_hit (network_sites g.net) ties starts

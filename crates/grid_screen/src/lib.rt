@@ -9,6 +9,7 @@ mod counting;
 pub mod faults;
 pub mod find;
 pub mod laws;
+pub mod made;
 mod outage;
 mod parallel;
 mod present;

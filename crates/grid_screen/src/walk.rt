@@ -69,11 +69,13 @@ fn fault_flags(
     ensures { IfOk result (λ flags. flags.items
         ≡ grounds.fault_flags stuck.now switches.now opened.now) }
 {
-    Ok(switches
-        .iter()
-        .zip(opened)
-        .map(|(switch, opened)| passes_fault(switch, *opened, stuck))
-        .collect(alloc)?)
+    Ok(
+        switches
+            .iter()
+            .zip(opened)
+            .map(|(switch, opened)| passes_fault(switch, *opened, stuck))
+            .collect(alloc)?,
+    )
 }
 
 // A level with these labels, of which nothing is hit.
@@ -173,12 +175,7 @@ fn is_end_at(touched: &Touched, placed: &Placed, label: u32) -> bool
 }
 
 // Puts the equipment of the branch ends at nodes with a label last.
-fn push_ends(
-    work: &mut Ids,
-    touched: &Touched,
-    placed: &[Placed],
-    label: u32,
-) -> Result<(), Memory>
+fn push_ends(work: &mut Ids, touched: &Touched, placed: &[Placed], label: u32) -> Result<(), Memory>
     requires nodes { IsTrue (list_all (λ p. among (nodes touched.now.level.now) p.node) placed.now) }
     requires long { length touched.now.labels.items ≡ length (nodes touched.now.level.now) }
     ensures { OnOk result (work.new ≡ work.old ++ ends_at touched.now placed.now label) }
@@ -215,12 +212,7 @@ fn hit_in<'a>(
 }
 
 // Hits a site.
-fn hit<'a>(
-    alloc: Global,
-    scene: &Scene<'a>,
-    walk: &mut Walk<'a>,
-    site: Site,
-) -> Result<(), Memory>
+fn hit<'a>(alloc: Global, scene: &Scene<'a>, walk: &mut Walk<'a>, site: Site) -> Result<(), Memory>
     requires touched { AreTouched scene.now walk.old.touched.items }
     requires site { IsNode scene.now.net site }
     ensures { OnOk result (Grows scene.now walk.old walk.new (site ∷ [])) }
@@ -287,12 +279,7 @@ fn hit_switch<'a>(
 
 // Hits the sites of the switch or of the equipment of an id.
 #[tactic(auto, unfolding(crate::specs::Zones::sites_of))]
-fn hit_id<'a>(
-    alloc: Global,
-    scene: &Scene<'a>,
-    walk: &mut Walk<'a>,
-    id: &Id,
-) -> Result<(), Memory>
+fn hit_id<'a>(alloc: Global, scene: &Scene<'a>, walk: &mut Walk<'a>, id: &Id) -> Result<(), Memory>
     requires { AreTouched scene.now walk.old.touched.items }
     ensures { OnOk result (Grows scene.now walk.old walk.new (sites_of scene.now.net id.now)) }
 {

@@ -41,11 +41,7 @@ fn push_hit(zone: &mut Zone, place: u32, touched: &Touched) -> Result<(), Memory
 }
 
 // The sites that are hit.
-fn list_hit(
-    alloc: Global,
-    scene: &Scene,
-    touched: &[Option<Box<Touched>>],
-) -> Result<Zone, Memory>
+fn list_hit(alloc: Global, scene: &Scene, touched: &[Option<Box<Touched>>]) -> Result<Zone, Memory>
     requires { AreTouched scene.now touched.now }
     ensures { IfOk result (λ zone. zone ≡ filter (hits touched.now) (network_sites scene.now.net)) }
 {

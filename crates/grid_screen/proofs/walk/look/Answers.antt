@@ -25,7 +25,7 @@ returns-clause-touched c =
     let l = c.level-level.result.now in
     let at = ap (λ (z : Network). slice_get (levels z) c.args.place) (sym c.structure.ensures) ∙ c.level-level.ensures in
     let flags = c.deref.ensures.value ∙ c.in_ok-flags.ensures
-        ∙ ap (λ z. fault_flags z c.switches.result.now c.opened.result.now) c.stuck.ensures ∙ ap (λ z. fault_flags g.stuck z c.opened.result.now) c.switches.ensures ∙ ap (fault_flags g.stuck l.switches) c.opened.ensures in
+    ∙ ap (λ z. fault_flags z c.switches.result.now c.opened.result.now) c.stuck.ensures ∙ ap (λ z. fault_flags g.stuck z c.opened.result.now) c.switches.ensures ∙ ap (fault_flags g.stuck l.switches) c.opened.ensures in
     let labelled = c.in_ok-labels.ensures ∙ ap (labels_where l) flags in
     IfOk-weaker c.untouched.result (λ t. IsUntouched l c.in_ok-labels.labels.items t.value) (λ t. IsTouched g c.args.place t.value)
     (λ t u. looked g c.args.place l c.in_ok-labels.labels.items t.value at c.keeps-2.ensures labelled u) c.untouched.ensures
