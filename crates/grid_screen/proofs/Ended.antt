@@ -1,9 +1,8 @@
 -- The ends of branches in a sound network: each stands at the site of its side, and what stands at such a site is one.
-use Rattle.std.proofs.Common.{◌≡◌, refl, sym, ap, ◌∙◌, subst, ℕ, pos, zero, suc, ◌+◌, ◌≤◌, Bool, true, false, cond, not, ◌&&◌, List, [], ◌∷◌, ◌++◌, map, arith, inl, inr, Some}
+use Rattle.std.proofs.Common.{◌≡◌, refl, sym, ap, ◌∙◌, subst, ℕ, pos, zero, suc, ◌≤◌, Bool, true, false, cond, not, ◌&&◌, List, [], ◌∷◌, map, arith, inl, inr, Some}
 use Rattle.std.specs.Prelude.{filter, position, slice_get, ◌==◌}
 use Rattle.std.specs.Option.{option_map}
-use Rattle.std.specs.List.{list_any}
-use Rattle.std.proofs.lemmas.Bool.{or_cases, and_from, eq-eqb, false≢true, true≢false}
+use Rattle.std.proofs.lemmas.Bool.{or_cases, and_from, eq-eqb, false≢true}
 use Rattle.grid_lemmas.proofs.Lists.{some_got}
 use Rattle.grid_lemmas.proofs.Options.{some_value}
 use Rattle.grid_ids.specs.Name.{same_id, has_id}

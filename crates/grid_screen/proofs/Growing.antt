@@ -1,9 +1,9 @@
 -- What a walk has hit after more sites: just what edges join to them, and the equipment of new branch ends waits.
 use Rattle.std.proofs.Common.{◌≡◌, refl, sym, ap, ◌∙◌, subst, ℕ, zero, suc, ◌<◌, ◌≢◌, Bool, true, false, cond, List, [], ◌∷◌, ◌++◌, length, get_or, take, ◌+◌, inl, inr, ◌⊎◌, arith, Some, None, Option, get_or-set_same, get_or-set_other}
-use Rattle.std.specs.Prelude.{slice_get, slice_set, ◌==◌, Box, ◌||◌, filter, map}
+use Rattle.std.specs.Prelude.{slice_get, slice_set, ◌==◌, Box, filter, map}
 use Rattle.std.specs.declared.alloc.Global.{Global}
-use Rattle.std.specs.List.{list_any, flat_map}
-use Rattle.std.proofs.lemmas.Bool.{and_parts, and_from, or_cases, or_left, or_right, eqb-true, eq-eqb, true≢false, false≢true}
+use Rattle.std.specs.List.{flat_map}
+use Rattle.std.proofs.lemmas.Bool.{and_parts, and_from, or_cases, or_left, or_right, eqb-true, eq-eqb, true≢false}
 use Rattle.std.proofs.lemmas.List.{length-set, append-nil}
 use Rattle.std.proofs.lemmas.Grind.{flat_map-append}
 use Rattle.grid_lemmas.proofs.Lists.{take_next}
@@ -16,7 +16,6 @@ use Rattle.grid_level.specs.Passing.{nodes, positioned, is_branch_end}
 use Rattle.grid_groups.specs.Labels.{passing_where, labels_where}
 use Rattle.grid_states.specs.Rows.{row_at}
 use Rattle.grid_structure.specs.declared.Site.{Site}
-use Rattle.grid_structure.specs.Network.{Network}
 use Rattle.grid_structure.specs.Sites.{levels}
 use Rattle.grid_screen.specs.declared.walk.Touched.{Touched}
 use Rattle.grid_screen.specs.declared.walk.Walk.{Walk}

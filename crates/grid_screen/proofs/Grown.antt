@@ -1,32 +1,23 @@
 -- What a walk has hit after one more site.
-use Rattle.std.proofs.Common.{◌≡◌, refl, sym, ap, ◌∙◌, subst, ℕ, zero, suc, ◌+◌, ◌<◌, ◌≢◌, Bool, true, false, cond, not, ◌&&◌, ◌||◌, List, [], ◌∷◌, ◌++◌, take, map, length, get_or, inl, inr, ◌⊎◌, arith, Some, None, Option, append_assoc, get_or-set_same, get_or-set_other}
-use Rattle.std.specs.Prelude.{filter, slice_get, slice_set, eqb, ◌==◌, IsTrue, Box, if◌then◌else◌}
-use Rattle.std.specs.declared.alloc.Global.{Global}
-use Rattle.std.specs.List.{list_all, list_any, slice_index_or}
-use Rattle.std.proofs.lemmas.Bool.{and_parts, and_from, or_cases, or_left, or_right, eqb-true, eq-eqb, true≢false, false≢true}
-use Rattle.std.proofs.lemmas.List.{take_more, length-set}
-use Rattle.grid_ids.specs.Name.{same_id, has_id}
-use Rattle.grid_ids.proofs.Alike.{has_join, same_is, same_itself}
+use Rattle.std.proofs.Common.{◌≡◌, refl, sym, ap, ◌∙◌, subst, ℕ, zero, suc, ◌+◌, ◌<◌, ◌≢◌, Bool, true, false, cond, not, List, [], ◌∷◌, ◌++◌, take, map, length, get_or, inl, inr, ◌⊎◌, Some, Option, append_assoc, get_or-set_same, get_or-set_other}
+use Rattle.std.specs.Prelude.{filter, slice_get, slice_set, ◌==◌, IsTrue}
+use Rattle.std.specs.List.{list_all}
+use Rattle.std.proofs.lemmas.Bool.{and_parts, and_from, eqb-true, eq-eqb, true≢false, false≢true}
+use Rattle.grid_ids.specs.Name.{has_id}
 use Rattle.grid_lemmas.proofs.Lists.{map_got}
 use Rattle.grid_groups.proofs.Steps.{all_at, passed_next, skipped_next}
 use Rattle.std.proofs.lemmas.List.{append-nil}
 use Rattle.grid_level.specs.declared.Placed.{Placed}
 use Rattle.grid_level.specs.VoltageLevel.{VoltageLevel}
 use Rattle.grid_level.specs.Kept.{KeepsLimits, among}
-use Rattle.grid_level.specs.Passing.{nodes, positioned, is_branch_end}
-use Rattle.grid_groups.specs.Labels.{label_of, labels_where, passing_where}
+use Rattle.grid_level.specs.Passing.{nodes}
+use Rattle.grid_groups.specs.Labels.{label_of, labels_where}
 use Rattle.grid_states.specs.Rows.{row_at}
-use Rattle.grid_structure.specs.declared.Site.{Site}
-use Rattle.grid_structure.specs.Network.{Network}
 use Rattle.grid_structure.specs.Sites.{levels}
 use Rattle.grid_screen.specs.declared.walk.Touched.{Touched}
-use Rattle.grid_screen.specs.declared.walk.Walk.{Walk}
 use Rattle.grid_screen.specs.Grounds.{Ground, IsGround, fault_flags}
 use Rattle.grid_screen.specs.Screened.{level_without}
-use Rattle.grid_screen.specs.Zones.{site_at, passing_fault}
-use Rattle.grid_screen.specs.Walks.{Touches, touched_at, label_in, hits_in, hits_by, hits, IsNode, IsTouched, IsTouchedBy, AreTouched, IsUntouched, CanHit, IsHitIn, is_end_at, ends_at, new_ends, HasEdges, HasSites, IsEnd, Grows}
-use Rattle.grid_screen.proofs.Members.{Among, among_got, got_among, among_map, map_among, among_filter, filter_among, any_among, any_found}
-use Rattle.grid_screen.proofs.Closed.{IsClosed}
+use Rattle.grid_screen.specs.Walks.{label_in, hits_in, IsTouched, IsUntouched, CanHit, IsHitIn, is_end_at, ends_at}
 use Rattle.grid_screen.proofs.Passed as passed
 
 -- ---- a level that was looked at

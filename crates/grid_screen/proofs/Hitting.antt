@@ -1,6 +1,5 @@
 -- Which sites are joined to a start: the least set that holds the starts and of each link both ends or neither.
-use Rattle.std.proofs.Common.{◌≡◌, refl, sym, ap, ◌∙◌, subst, ℕ, ◌+◌, ◌*◌, ◌/◌, ◌%◌, ◌<◌, Bool, true, List, [], ◌∷◌, map, length, inl, inr, arith}
-use Rattle.std.specs.List.{list_any}
+use Rattle.std.proofs.Common.{◌≡◌, refl, sym, ap, ◌∙◌, subst, ℕ, ◌+◌, ◌*◌, ◌/◌, ◌%◌, ◌<◌, Bool, true, List, map, length, inl, inr, arith}
 use Rattle.grid_lemmas.proofs.Bools.{same_test}
 use Rattle.grid_graph.specs.Joined.{joined, neighbours}
 use Rattle.grid_graph.proofs.Reach.{In, Holds, joined_refl}

@@ -9,7 +9,7 @@ use Rattle.std.proofs.lemmas.List.FromFn.{length-enumerate_from}
 use Rattle.std.proofs.lemmas.Grind.{flat_map-append}
 use Rattle.grid_lemmas.proofs.Lists.{map_one_more, take_got, some_got}
 use Rattle.grid_level.specs.VoltageLevel.{VoltageLevel}
-use Rattle.grid_level.specs.Passing.{nodes, is_rising}
+use Rattle.grid_level.specs.Passing.{nodes}
 use Rattle.grid_groups.specs.Labels.{label_of, index_in}
 use Rattle.grid_groups.proofs.Indices.{index_at}
 use Rattle.grid_states.specs.Rows.{row_at}
@@ -19,9 +19,9 @@ use Rattle.grid_structure.specs.Sites.{levels}
 use Rattle.grid_screen.specs.declared.walk.Touched.{Touched}
 use Rattle.grid_screen.specs.Grounds.{Ground, fault_flags}
 use Rattle.grid_screen.specs.Listing.{is_hit, Fits, hit_sites}
-use Rattle.grid_screen.specs.Walks.{Touches, touched_at, label_in, hits_in, hits_by, hits, IsTouched, IsTouchedBy, AreTouched}
+use Rattle.grid_screen.specs.Walks.{Touches, touched_at, hits_in, hits_by, hits, IsTouched, IsTouchedBy, AreTouched}
 use Rattle.grid_screen.specs.Zones.{site_at, network_sites}
-use Rattle.grid_screen.proofs.Members.{Among, map_among, filter_agrees}
+use Rattle.grid_screen.proofs.Members.{map_among, filter_agrees}
 use Rattle.grid_screen.proofs.Growing.{got_below}
 use Rattle.grid_screen.proofs.Passed as passed
 

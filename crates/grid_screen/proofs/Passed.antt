@@ -1,5 +1,5 @@
 -- The edges of a level over which a fault passes, by their flags; and which nodes have one label then.
-use Rattle.std.proofs.Common.{◌≡◌, refl, sym, ap, ◌∙◌, subst, ℕ, zero, suc, ◌<◌, Bool, true, false, cond, List, [], ◌∷◌, ◌++◌, map, length, get_or, inl, inr, arith}
+use Rattle.std.proofs.Common.{◌≡◌, refl, sym, ap, ◌∙◌, subst, ℕ, suc, ◌<◌, Bool, true, false, cond, List, [], ◌∷◌, ◌++◌, map, length, get_or, inl, inr, arith}
 use Rattle.std.specs.Prelude.{filter, eqb}
 use Rattle.std.specs.List.{zip}
 use Rattle.std.proofs.lemmas.Bool.{eqb-true, eq-eqb}
@@ -20,7 +20,7 @@ use Rattle.grid_groups.proofs.Bridge as bridge
 use Rattle.grid_groups.proofs.Indices.{among_In, In_among, index_below, at_index}
 use Rattle.grid_groups.proofs.Standing.{marked, passing_ends}
 use Rattle.grid_screen.specs.Zones.{passes_fault, passing_fault}
-use Rattle.grid_screen.specs.Grounds.{with_flag_of, fault_flags}
+use Rattle.grid_screen.specs.Grounds.{fault_flags}
 use Rattle.grid_screen.proofs.Members.{Among}
 use Rattle.grid_screen.proofs.Closed.{IsClosed, within_alike, next_first}
 

@@ -1,10 +1,9 @@
 -- A walk that goes on until nothing waits has hit just what edges and branches join to the starts.
-use Rattle.std.proofs.Common.{◌≡◌, refl, sym, ap, ◌∙◌, subst, ℕ, zero, suc, ◌+◌, ◌<◌, Bool, true, false, List, [], ◌∷◌, ◌++◌, length, get_or, inl, inr, ◌⊎◌, arith, Some, None, Option}
+use Rattle.std.proofs.Common.{◌≡◌, refl, sym, ap, ◌∙◌, subst, ℕ, zero, suc, ◌<◌, Bool, true, false, List, [], ◌∷◌, ◌++◌, length, get_or, inl, inr, ◌⊎◌, arith, Some, None, Option}
 use Rattle.std.specs.Prelude.{slice_get, filter, map, not}
-use Rattle.std.specs.Option.{option_to_list}
-use Rattle.std.proofs.lemmas.Bool.{or_cases, or_left, or_right, true≢false, false≢true}
-use Rattle.grid_ids.specs.Name.{same_id, has_id}
-use Rattle.grid_ids.proofs.Alike.{has_join, same_is}
+use Rattle.std.proofs.lemmas.Bool.{or_cases, or_left, or_right, false≢true}
+use Rattle.grid_ids.specs.Name.{has_id}
+use Rattle.grid_ids.proofs.Alike.{has_join}
 use Rattle.grid_level.specs.declared.Placed.{Placed}
 use Rattle.grid_level.specs.VoltageLevel.{VoltageLevel}
 use Rattle.grid_level.specs.Kept.{among}
@@ -20,8 +19,8 @@ use Rattle.std.specs.declared.alloc.Global.{Global}
 use Rattle.grid_screen.specs.declared.walk.Touched.{Touched}
 use Rattle.grid_screen.specs.declared.walk.Walk.{Walk}
 use Rattle.grid_screen.specs.Grounds.{Ground, IsGround, fault_flags}
-use Rattle.grid_screen.specs.Zones.{site_at, passing_fault, sites_of_equipment}
-use Rattle.grid_screen.specs.Walks.{Touches, touched_at, label_in, hits_in, hits_by, hits, IsNode, IsTouched, IsTouchedBy, AreTouched, HasEdges, HasEnds, HasSites, IsEnd, Grows, IsOpen, Reaches, Runs, IsSettled}
+use Rattle.grid_screen.specs.Zones.{passing_fault, sites_of_equipment}
+use Rattle.grid_screen.specs.Walks.{Touches, touched_at, hits_by, hits, IsNode, IsTouchedBy, AreTouched, HasEdges, HasEnds, HasSites, IsEnd, Grows, IsOpen, Reaches, Runs, IsSettled}
 use Rattle.grid_screen.proofs.Members.{Among, among_got, got_among, filter_among}
 use Rattle.grid_screen.proofs.Growing.{had, has_some}
 use Rattle.grid_screen.proofs.Passed as passed

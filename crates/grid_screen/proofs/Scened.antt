@@ -1,13 +1,11 @@
 -- The levels and flags before a fault.
 use Rattle.std.proofs.Common.{◌≡◌, refl, sym, ap, ◌∙◌, subst, ℕ, Bool, List, [], map, length}
 use Rattle.std.specs.Prelude.{filter, flat_map}
-use Rattle.grid_level.specs.VoltageLevel.{VoltageLevel}
 use Rattle.grid_states.specs.Rows.{row_at}
 use Rattle.grid_structure.specs.Network.{Network}
 use Rattle.grid_structure.specs.Sites.{levels, branches}
 use Rattle.grid_structure.specs.Soundness.{IsSound}
 use Rattle.grid_core.specs.declared.case.Case.{Case}
-use Rattle.grid_core.specs.Solo.{State}
 use Rattle.grid_json.specs.Seen.{Knows}
 use Rattle.grid_screen.specs.declared.faults.FaultCase.{FaultCase}
 use Rattle.grid_structure.specs.declared.Site.{Site}
@@ -20,9 +18,8 @@ use Rattle.grid_screen.specs.Walks.{Touches, hits, IsSettled}
 use Rattle.grid_screen.specs.Zones.{network_sites, sites_of, fault_ties, zone_over}
 use Rattle.grid_screen.specs.Steps.{Shows, levels_after, rows_after}
 use Rattle.grid_screen.proofs.Outcomes.{outcome}
-use Rattle.grid_screen.proofs.Running.{map_back}
 use Rattle.grid_screen.proofs.Shown.{length-shown_rows}
-use Rattle.grid_screen.proofs.Stepped.{Outcome, Out}
+use Rattle.grid_screen.proofs.Stepped.{Outcome}
 use Rattle.grid_screen.proofs.Zoned.{IsPast, zone_is, starts_are_nodes}
 
 module _ (case : Case) (fault : FaultCase) (changes : Changes) (stuck : List (List ℕ)) (sound : IsSound case.structure)

@@ -1,8 +1,8 @@
 -- What a walk has hit is the zone.
 use Rattle.std.proofs.Common.{◌≡◌, refl, sym, ap, ◌∙◌, subst, ℕ, zero, suc, ◌+◌, ◌<◌, ◌≤◌, Bool, true, false, cond, not, ◌&&◌, List, [], ◌∷◌, ◌++◌, map, length, inl, inr, ◌⊎◌, arith, Some, None, Option}
-use Rattle.std.specs.Prelude.{slice_get, filter, find, position, ◌==◌, nat_le, IsTrue}
+use Rattle.std.specs.Prelude.{slice_get, filter, find, ◌==◌, nat_le}
 use Rattle.std.specs.Option.{option_map, option_to_list}
-use Rattle.std.specs.List.{list_any, flat_map, enumerate_from}
+use Rattle.std.specs.List.{flat_map, enumerate_from}
 use Rattle.std.proofs.lemmas.Bool.{and_parts, eqb-true, eq-eqb, leb-true, true≢false, false≢true}
 use Rattle.grid_lemmas.proofs.Bools.{same_test}
 use Rattle.grid_lemmas.proofs.Lists.{all_at, map_got}
@@ -13,7 +13,7 @@ use Rattle.grid_level.specs.declared.Switch.{Switch}
 use Rattle.grid_level.specs.VoltageLevel.{VoltageLevel}
 use Rattle.grid_level.specs.Kept.{KeepsLimits, among}
 use Rattle.grid_level.specs.LevelEdits.{max_node}
-use Rattle.grid_level.specs.Passing.{switch_edge, internal_edge, ends, nodes, with_opened, positioned, is_branch_end}
+use Rattle.grid_level.specs.Passing.{switch_edge, internal_edge, ends, nodes, with_opened, positioned}
 use Rattle.grid_level.specs.Sound.{level_passes}
 use Rattle.grid_states.specs.Rows.{row_at}
 use Rattle.grid_structure.specs.declared.NamedBranch.{NamedBranch}
@@ -24,9 +24,9 @@ use Rattle.grid_structure.specs.Sites.{levels, branches, site, find_switch, firs
 use Rattle.grid_structure.specs.Soundness.{IsSound}
 use Rattle.grid_screen.specs.Screened.{level_without, branches_without}
 use Rattle.grid_screen.specs.Grounds.{Ground, IsGround, fault_flags}
-use Rattle.grid_screen.specs.Zones.{site_at, sites_at, network_sites, sites_of, sites_by, sites_of_switch, sites_of_ends, sites_of_equipment, passes_fault, passing_fault, level_ties, each_two, branch_ties, fault_ties, is_hit, zone_over}
-use Rattle.grid_screen.specs.Walks.{Touches, hits, IsNode, HasEdges, HasEnds, HasSites, IsEnd, IsSettled, site_of_side, IsSwitchOf, switch_place}
-use Rattle.grid_screen.proofs.Members.{Among, among_got, got_among, among_left, among_right, among_parts, among_map, map_among, among_filter, filter_among, among_flat, flat_among, among_enumerate, enumerate_among, any_among, any_found, filter_agrees}
+use Rattle.grid_screen.specs.Zones.{site_at, sites_at, network_sites, sites_of, sites_by, sites_of_equipment, passes_fault, passing_fault, level_ties, each_two, branch_ties, fault_ties, is_hit, zone_over}
+use Rattle.grid_screen.specs.Walks.{Touches, hits, IsNode, HasEdges, HasEnds, IsEnd, IsSettled, site_of_side}
+use Rattle.grid_screen.proofs.Members.{Among, among_got, got_among, among_left, among_right, among_parts, among_map, map_among, filter_among, among_flat, flat_among, among_enumerate, enumerate_among, any_among, any_found, filter_agrees}
 use Rattle.grid_screen.proofs.Hitting.{AreAmong, hit_start, hit_tie, hit_least}
 use Rattle.grid_screen.proofs.Passed as passed
 use Rattle.grid_screen.proofs.Sitings.{standing_at, site_is_node, three_sides, first_is_node, second_is_node, two_sites, switch_there}

@@ -1,5 +1,5 @@
 -- What the state before a fault is of a case.
-use Rattle.std.specs.Prelude.{◌≡◌, ℕ, Bool, List}
+use Rattle.std.specs.Prelude.{◌≡◌, Bool, List}
 use Rattle.grid_structure.specs.Sites.{levels}
 use Rattle.grid_core.specs.declared.case.Case.{Case}
 use Rattle.grid_json.specs.Seen.{Knows}

@@ -1,5 +1,5 @@
 -- A walk over what a fault hits: the levels that it has looked at, and the equipment whose terminals it has not gone to yet.
-use Rattle.std.specs.Prelude.{◌≡◌, ◌⊎◌, IsTrue, ℕ, Bool, true, false, not, ◌&&◌, ◌==◌, ◌<◌, if◌then◌else◌, Option, Some, None, List, [], ◌++◌, length, map, filter, slice_get, slice_set, slice_index}
+use Rattle.std.specs.Prelude.{◌≡◌, ◌⊎◌, IsTrue, ℕ, Bool, true, false, ◌&&◌, ◌==◌, ◌<◌, if◌then◌else◌, Option, Some, None, List, [], length, map, filter, slice_get, slice_set}
 use Rattle.std.specs.List.{slice_index_or, list_all}
 use Rattle.std.specs.declared.alloc.Global.{Global}
 use Rattle.std.specs.Prelude.{Box}

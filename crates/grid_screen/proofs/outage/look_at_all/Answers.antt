@@ -1,7 +1,6 @@
-use Rattle.std.proofs.Common.{◌≡◌, sym, ap, ◌∙◌, ◌<◌, length, arith, Some, None}
+use Rattle.std.proofs.Common.{sym, ap, ◌∙◌, ◌<◌, length, arith, Some, None}
 use Rattle.std.specs.Prelude.{slice_set}
 use Rattle.grid_structure.proofs.Places.{length-slice_set}
-use Rattle.grid_screen.specs.Screened.{change_at}
 use Rattle.grid_screen.proofs.Shown.{at_first, at_last, over_none, over_some, fits_here}
 use Rattle.grid_screen.proofs.outage.look_at_all.Goals as goal
 

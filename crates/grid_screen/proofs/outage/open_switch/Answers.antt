@@ -1,4 +1,4 @@
-use Rattle.std.proofs.Common.{sym, ap, ◌∙◌, length, arith, Some, None}
+use Rattle.std.proofs.Common.{ap, ◌∙◌, length, arith, Some, None}
 use Rattle.std.specs.Prelude.{slice_set}
 use Rattle.grid_structure.specs.Sites.{levels}
 use Rattle.grid_structure.proofs.Places.{length-slice_set}

@@ -1,4 +1,4 @@
-use Rattle.std.proofs.Common.{◌≡◌, sym, ap, ◌∙◌, subst, length, arith, None, Some, ◌++◌, List}
+use Rattle.std.proofs.Common.{sym, ap, ◌∙◌, subst, length, arith, None, Some, ◌++◌, List}
 use Rattle.std.specs.Prelude.{slice_set}
 use Rattle.std.proofs.lemmas.List.{length-set}
 use Rattle.grid_level.specs.declared.Placed.{Placed}

@@ -1,4 +1,4 @@
-use Rattle.std.proofs.Common.{◌≡◌, ap, ◌∙◌, get_or, arith}
+use Rattle.std.proofs.Common.{ap, ◌∙◌, get_or, arith}
 use Rattle.std.proofs.lemmas.List.{get_or_read}
 use Rattle.grid_level.specs.Passing.{nodes}
 use Rattle.grid_groups.specs.Labels.{label_of}

@@ -1,4 +1,4 @@
-use Rattle.std.proofs.Common.{sym, subst, ap, ◌∙◌, length}
+use Rattle.std.proofs.Common.{ap, ◌∙◌, length}
 use Rattle.grid_structure.specs.Network.{Network}
 use Rattle.grid_structure.specs.Sites.{levels}
 use Rattle.grid_screen.specs.declared.walk.Walk.{Walk}

@@ -1,4 +1,4 @@
-use Rattle.std.proofs.Common.{◌≡◌, sym, ap, ◌∙◌, length, arith}
+use Rattle.std.proofs.Common.{sym, ◌∙◌, arith}
 use Rattle.std.proofs.lemmas.List.{append-nil}
 use Rattle.grid_screen.proofs.Listed.{hit_more, hit_skipped, hit_all}
 use Rattle.grid_screen.proofs.zone.push_hit.Goals as goal

@@ -1,4 +1,4 @@
-use Rattle.std.proofs.Common.{◌≡◌, ◌<◌, sym, ap, ◌∙◌, length, arith, Some}
+use Rattle.std.proofs.Common.{◌<◌, sym, ap, ◌∙◌, length, arith, Some}
 use Rattle.std.specs.Prelude.{slice_get}
 use Rattle.grid_structure.specs.Sites.{levels}
 use Rattle.grid_level.specs.VoltageLevel.{VoltageLevel}

@@ -1,4 +1,4 @@
-use Rattle.std.proofs.Common.{◌≡◌, ◌<◌, sym, ap, ◌∙◌, length, arith}
+use Rattle.std.proofs.Common.{sym, ap, ◌∙◌, length, arith}
 use Rattle.grid_structure.specs.Sites.{levels}
 use Rattle.grid_states.specs.Rows.{row_at}
 use Rattle.grid_screen.specs.declared.outage.Changed.{Changed}
