@@ -10,6 +10,7 @@ pub mod Grouped
 pub mod Growing
 pub mod Grown
 pub mod Hitting
+pub mod Leasts
 pub mod Likeness
 pub mod Linked
 pub mod Listed

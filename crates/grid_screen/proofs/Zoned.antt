@@ -373,3 +373,11 @@ module _ (g : Ground) (b : IsGround g) (past : Network) (stuck : List (List ℕ)
         both s i = same_test (hits touched s) (is_hit (network_sites g.net) ties starts s)
             (done.least zone zone_edges zone_ends (λ j q e. hit_start (network_sites g.net) ties starts fit q (among_got starts j q e)) s (among_node g.net s i))
             (hit_least (network_sites g.net) ties starts fit (hits touched) (ties_held (hits touched) done.edges done.ends) (λ q j. let got = got_among q starts j in done.here got.0 q got.1) s i)
+
+    -- each set with the starts, and with both ends of each link or neither, has the zone
+    pub zone_least : (set : Site → Bool) → ((tie : Site × Site) → Among tie (fault_ties past g.opened stuck) → set tie.0 ≡ set tie.1) → ((s : Site) → Among s starts → set s ≡ true)
+        → (s : Site) → Among s (zone_over g.net (fault_ties past g.opened stuck) starts) → set s ≡ true
+    unfolding ties zone_over
+    zone_least set both has_starts s i =
+        let inside = filter_among (is_hit (network_sites g.net) (fault_ties past g.opened stuck) starts) s (network_sites g.net) i in
+        hit_least (network_sites g.net) (fault_ties past g.opened stuck) starts fit set both has_starts s inside.0 inside.1

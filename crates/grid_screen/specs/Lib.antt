@@ -17,3 +17,4 @@ pub mod Faults
 pub mod Listing
 pub mod Scenes
 pub mod Made
+pub mod FaultLaws

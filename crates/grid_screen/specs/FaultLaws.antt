@@ -1,0 +1,20 @@
+-- Laws of zones.
+use Rattle.std.specs.Prelude.{◌≡◌, ℕ, Bool, Some, List, flat_map, slice_get}
+use Rattle.grid_structure.specs.declared.Site.{Site}
+use Rattle.grid_structure.specs.Soundness.{IsSound}
+use Rattle.grid_core.specs.declared.case.Case.{Case}
+use Rattle.grid_screen.specs.declared.faults.FaultCase.{FaultCase}
+use Rattle.grid_screen.specs.Faults.{before_fault, zone_of}
+use Rattle.grid_screen.specs.Findings.{CaseFits, state_in}
+use Rattle.grid_screen.specs.Walks.{HasSites}
+use Rattle.grid_screen.specs.Zones.{sites_of, fault_ties}
+
+-- a set of sites has both ends of each link before the fault or neither
+abbrev pub HasTies : Case → FaultCase → List (List Bool) → (Site → Bool) → Type 0
+HasTies case fault retained set = (i : ℕ) (tie : Site × Site)
+    → slice_get (fault_ties (before_fault (state_in case retained) fault).structure (before_fault (state_in case retained) fault).opened fault.stuck) i ≡ Some tie → set tie.0 ≡ set tie.1
+
+-- each set that has the sites of what is hit, and of each link both ends or neither, has the zone
+abbrev pub ZoneIsLeast : Type 0
+ZoneIsLeast = (case : Case) (fault : FaultCase) (retained : List (List Bool)) (set : Site → Bool) → IsSound case.structure → CaseFits case
+    → HasTies case fault retained set → HasSites set (flat_map (sites_of case.structure) fault.fault) → HasSites set (zone_of (state_in case retained) fault)
