@@ -381,3 +381,11 @@ module _ (g : Ground) (b : IsGround g) (past : Network) (stuck : List (List ℕ)
     zone_least set both has_starts s i =
         let inside = filter_among (is_hit (network_sites g.net) (fault_ties past g.opened stuck) starts) s (network_sites g.net) i in
         hit_least (network_sites g.net) (fault_ties past g.opened stuck) starts fit set both has_starts s inside.0 inside.1
+
+    pub zone_held : (tie : Site × Site) → Among tie (fault_ties past g.opened stuck) → is_hit (network_sites g.net) (fault_ties past g.opened stuck) starts tie.0 ≡ is_hit (network_sites g.net) (fault_ties past g.opened stuck) starts tie.1
+    unfolding ties
+    zone_held tie i = hit_tie (network_sites g.net) (fault_ties past g.opened stuck) starts fit tie i
+
+    pub zone_begun : (s : Site) → Among s starts → is_hit (network_sites g.net) (fault_ties past g.opened stuck) starts s ≡ true
+    unfolding ties
+    zone_begun s i = hit_start (network_sites g.net) (fault_ties past g.opened stuck) starts fit s i

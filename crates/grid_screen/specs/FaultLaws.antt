@@ -1,5 +1,6 @@
 -- Laws of zones.
-use Rattle.std.specs.Prelude.{◌≡◌, ℕ, Bool, Some, List, flat_map, slice_get}
+use Rattle.std.specs.Prelude.{◌≡◌, ℕ, Bool, true, Some, List, flat_map, slice_get}
+use Rattle.grid_ids.specs.Name.{has_id}
 use Rattle.grid_structure.specs.declared.Site.{Site}
 use Rattle.grid_structure.specs.Soundness.{IsSound}
 use Rattle.grid_core.specs.declared.case.Case.{Case}
@@ -18,3 +19,12 @@ HasTies case fault retained set = (i : ℕ) (tie : Site × Site)
 abbrev pub ZoneIsLeast : Type 0
 ZoneIsLeast = (case : Case) (fault : FaultCase) (retained : List (List Bool)) (set : Site → Bool) → IsSound case.structure → CaseFits case
     → HasTies case fault retained set → HasSites set (flat_map (sites_of case.structure) fault.fault) → HasSites set (zone_of (state_in case retained) fault)
+
+abbrev pub with_stuck : FaultCase → List (List ℕ) → FaultCase
+with_stuck fault ids = record { out = fault.out; fault = fault.fault; stuck = ids }
+
+-- with more breakers that fail, the zone has all sites that it had
+abbrev pub FailureSpreads : Type 0
+FailureSpreads = (case : Case) (fault : FaultCase) (ids : List (List ℕ)) (retained : List (List Bool)) → IsSound case.structure → CaseFits case
+    → ((q : List ℕ) → has_id fault.stuck q ≡ true → has_id ids q ≡ true)
+    → (i : ℕ) (s : Site) → slice_get (zone_of (state_in case retained) fault) i ≡ Some s → (j : ℕ) × (slice_get (zone_of (state_in case retained) (with_stuck fault ids)) j ≡ Some s)
