@@ -1,6 +1,6 @@
 -- The zone is the least set of its kind.
-use Rattle.std.proofs.Common.{◌≡◌, refl, sym, ap, ◌∙◌, subst, ℕ, zero, suc, Bool, true, not, ◌&&◌, ◌||◌, List, [], ◌∷◌, map, length, get_or, Option, Some, None, inl, inr}
-use Rattle.std.specs.Prelude.{filter, flat_map, fold, slice_get, slice_set}
+use Rattle.std.proofs.Common.{◌≡◌, refl, sym, ap, ◌∙◌, subst, ℕ, zero, suc, Bool, true, not, ◌||◌, List, [], ◌∷◌, map, length, get_or, Option, Some, None, inl, inr}
+use Rattle.std.specs.Prelude.{filter, flat_map, fold, slice_set}
 use Rattle.std.specs.List.{enumerate_from}
 use Rattle.std.proofs.lemmas.Bool.{and_parts, and_from, or_cases, or_left, or_right}
 use Rattle.std.proofs.lemmas.List.{length-set}
