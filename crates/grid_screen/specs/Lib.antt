@@ -16,5 +16,4 @@ pub mod Zones
 pub mod Faults
 pub mod Listing
 pub mod Scenes
-pub mod Made
 pub mod FaultLaws

@@ -1,7 +1,7 @@
-//! Faults and how protection clears them.
+//! Faults, and the sites that they are at.
 
 use grid_ids::{Ids, Seq};
-use grid_structure::{Site, SwitchAt};
+use grid_structure::Site;
 
 /// A fault that comes when some ids are out: what it hits, and the breakers that fail to open. Several ids that are hit
 /// are one event. The rules are this project's own.
@@ -17,6 +17,3 @@ pub struct FaultCase {
 
 /// The sites that a fault is at, by place of level, then by rising node.
 pub type Zone = Seq<Site>;
-
-/// The places of breakers, by place of level, then by place there.
-pub type Breakers = Seq<SwitchAt>;

@@ -9,7 +9,6 @@ mod counting;
 pub mod faults;
 pub mod find;
 pub mod laws;
-pub mod made;
 mod outage;
 mod parallel;
 mod present;
