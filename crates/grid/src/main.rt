@@ -3,11 +3,11 @@
 
 use grid_cli::grid;
 use grid_forms::Status;
-use grid_lines::{Fault, ending, usage_text};
+use grid_lines::{Around, Fault, ending, usage_text};
 use grid_manager::Idle;
 use grid_source::{KeepingSource, StdSink, StdSource};
 use std::process::ExitCode;
-use std::{env, io};
+use std::{env, fs, io};
 
 /// The words behind the program's name; Usage where one is no UTF-8, so that they are no form.
 fn words_of(rt: &HostRuntime) -> Result<Vec<String>, Status> {
@@ -36,9 +36,35 @@ fn tell(rt: &HostRuntime, fault: &Fault) {
     }
 }
 
+/// Whether the second word is the name of a file or a directory that is there.
+fn names_file(rt: &HostRuntime, words: Option<&[String]>) -> bool {
+    match words.and_then(|words| words.get(1)) {
+        Some(word) => fs::exists(rt, word.as_str()).unwrap_or(false),
+        None => false,
+    }
+}
+
+/// Whether standard input is a directory.
+fn reads_directory(rt: &HostRuntime) -> bool {
+    let mut byte = [0u8];
+    match rt.reader().read(&mut byte) {
+        Ok(_) => false,
+        Err(error) => error.kind() == io::ErrorKind::IsADirectory,
+    }
+}
+
+/// What the system tells beside a status, which is asked where a line tells it.
+fn around(rt: &HostRuntime, words: Option<&[String]>, status: &Status) -> Around {
+    Around {
+        names_file: matches!(status, Status::Usage) && names_file(rt, words),
+        reads_directory: matches!(status, Status::ReadFault) && reads_directory(rt),
+    }
+}
+
 /// Tells what a status of these words, if they are texts, and of this input has to tell, and gives its number.
 fn exit_with(rt: &HostRuntime, words: Option<&[String]>, status: Status, input: &[u8]) -> ExitCode {
-    let (code, fault) = ending(rt.alloc(), words, status, input);
+    let around = around(rt, words, &status);
+    let (code, fault) = ending(rt.alloc(), words, around, status, input);
     if let Some(fault) = fault {
         tell(rt, &fault);
     }

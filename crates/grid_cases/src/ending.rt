@@ -2,7 +2,7 @@
 use crate::words::words_of;
 use grid_cli::grid;
 use grid_forms::Status;
-use grid_lines::ending;
+use grid_lines::{Around, ending};
 use grid_manager::Idle;
 use grid_source::{KeepingSource, SureSink, SureSource};
 use std::alloc::Global;
@@ -40,7 +40,11 @@ pub(crate) fn told(
     status: Status,
     job: &[u8],
 ) -> io::Result<(u8, String)> {
-    let (number, fault) = ending(alloc, Some(words), status, job);
+    let around = Around {
+        names_file: false,
+        reads_directory: false,
+    };
+    let (number, fault) = ending(alloc, Some(words), around, status, job);
     match fault {
         Some(fault) => Ok((number, format!(in alloc; "{fault}")?)),
         None => Ok((number, String::new(alloc))),

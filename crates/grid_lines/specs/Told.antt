@@ -6,7 +6,7 @@ use Rattle.grid_lines.specs.declared.fault.Fault.TheVariants.{Usage, ReadFault, 
 -- the exit status of the program that tells a line
 abbrev pub told_number : Fault → ℕ
 told_number (Usage why hint) = 2
-told_number ReadFault = 3
+told_number (ReadFault is_directory) = 3
 told_number TooLong = 4
 told_number (BadJson why) = 5
 told_number (BadJob place owner why) = 6

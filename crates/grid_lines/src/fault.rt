@@ -24,8 +24,10 @@ pub enum Fault {
         hint: String,
     },
     /// The source failed.
-    #[error("grid: standard input could not be read to its end; nothing was written")]
-    ReadFault,
+    #[error("grid: standard input {}; nothing was written", read_text(.is_directory))]
+    ReadFault {
+        is_directory: bool,
+    },
     /// The input is too long.
     #[error("grid: the input is longer than 33,554,432 bytes; nothing was written")]
     TooLong,
@@ -48,6 +50,24 @@ pub enum Fault {
     /// Memory is wanting.
     #[error("grid: memory ran out; the output is cut off or missing")]
     NoMemory,
+}
+
+/// What the system tells of a call beside its status, for the line alone.
+#[derive(Clone, Copy, Debug)]
+pub struct Around {
+    /// The second word is the name of a file or a directory that is there.
+    pub names_file: bool,
+    /// Standard input is a directory.
+    pub reads_directory: bool,
+}
+
+/// What became of reading standard input.
+fn read_text(is_directory: &bool) -> &'static str {
+    if *is_directory {
+        "is a directory, and a job in JSON is wanted"
+    } else {
+        "could not be read to its end"
+    }
 }
 
 /// Where a fault stands. The place of the whole job is empty.
@@ -132,17 +152,25 @@ fn bad_job(alloc: Global, form: Option<Form>, place: Place, reason: Reason, inpu
 }
 
 /// What is told of a status on standard error; nothing exactly where the output was written whole.
-fn fault_of(alloc: Global, words: Option<&[String]>, status: Status, input: &[u8]) -> Option<Fault>
+fn fault_of(
+    alloc: Global,
+    words: Option<&[String]>,
+    around: Around,
+    status: Status,
+    input: &[u8],
+) -> Option<Fault>
     ensures { MatchOption result (status ≡ Status.Done) (λ fault. told_number fault ≡ exit_number status) }
 {
     match status {
         Status::Done => None,
         Status::Usage => {
-            let why = wrong_words(alloc, words);
+            let why = wrong_words(alloc, words, around.names_file);
             let hint = file_hint(alloc, &why);
             Some(Fault::Usage { why, hint })
         }
-        Status::ReadFault => Some(Fault::ReadFault),
+        Status::ReadFault => Some(Fault::ReadFault {
+            is_directory: around.reads_directory,
+        }),
         Status::TooLong => Some(Fault::TooLong),
         Status::BadJson => Some(Fault::BadJson {
             why: not_json(alloc, input),
@@ -157,11 +185,12 @@ fn fault_of(alloc: Global, words: Option<&[String]>, status: Status, input: &[u8
 }
 
 /// The exit status, and what is told of it on standard error. Words and input are those of the call; they are looked
-/// at again for what the line names, and an empty input makes it tell less. The words are None where one of them is
-/// no UTF-8. The numbers and the texts are this project's own.
+/// at again for what the line names, and an empty input makes it tell less. What is around them moves the
+/// wording of a line alone. The words are None where one of them is no UTF-8. The numbers and the texts are this project's own.
 pub fn ending(
     alloc: Global,
     words: Option<&[String]>,
+    around: Around,
     status: Status,
     input: &[u8],
 ) -> (u8, Option<Fault>)
@@ -170,5 +199,5 @@ pub fn ending(
         (λ fault. told_number fault ≡ exit_number status) }
 {
     let number = status.number();
-    (number, fault_of(alloc, words, status, input))
+    (number, fault_of(alloc, words, around, status, input))
 }

@@ -15,7 +15,7 @@ mod walk;
 mod why;
 mod wrong_words;
 
-pub use fault::{Fault, ending};
+pub use fault::{Around, Fault, ending};
 pub use not_json::NotJson;
 pub use usage::usage_text;
 pub use why::Why;

@@ -16,7 +16,7 @@ pub enum WrongWords {
     NoForm { word: String },
     #[error("`{form}` takes no further words, and `{word}` is one")]
     Further { form: String, word: String },
-    /// A form that reads a job, and a further word that looks like the name of a file.
+    /// A form that reads a job, and a further word that names a file, or looks as if it did.
     #[error("`{form}` takes no further words, and `{word}` is one")]
     File { form: String, word: String },
     #[error("`{form}` wants a SEED and a SIZE")]
@@ -62,9 +62,14 @@ fn wrong_numbers(alloc: Global, form: &str, rest: &[String]) -> Result<WrongWord
 }
 
 /// What is wrong with a word behind that of a form that reads a job.
-fn further(alloc: Global, form: String, word: &str) -> Result<WrongWords, AllocError> {
+fn further(
+    alloc: Global,
+    form: String,
+    word: &str,
+    names_file: bool,
+) -> Result<WrongWords, AllocError> {
     let shown = shown(alloc, word)?;
-    Ok(if word.ends_with(".json") {
+    Ok(if names_file || word.ends_with(".json") {
         WrongWords::File { form, word: shown }
     } else {
         WrongWords::Further { form, word: shown }
@@ -72,7 +77,7 @@ fn further(alloc: Global, form: String, word: &str) -> Result<WrongWords, AllocE
 }
 
 /// What is wrong with words that are no form.
-fn wrong(alloc: Global, words: &[String]) -> Result<WrongWords, AllocError> {
+fn wrong(alloc: Global, words: &[String], names_file: bool) -> Result<WrongWords, AllocError> {
     let Some((form, rest)) = words.split_first() else {
         return Ok(WrongWords::None);
     };
@@ -83,17 +88,18 @@ fn wrong(alloc: Global, words: &[String]) -> Result<WrongWords, AllocError> {
     let is_form = form_of(alloc, &[form])?.is_some();
     let form = shown(alloc, form)?;
     match rest.first() {
-        Some(word) if is_form => further(alloc, form, word.as_str()),
+        Some(word) if is_form => further(alloc, form, word.as_str(), names_file),
         _ => Ok(WrongWords::NoForm { word: form }),
     }
 }
 
-/// Which of the words, which are no form, is wrong. None stands for words of which one is no UTF-8.
-pub(crate) fn wrong_words(alloc: Global, words: Option<&[String]>) -> WrongWords {
+/// Which of the words, which are no form, is wrong. None stands for words of which one is no UTF-8. The second one may name
+/// a file.
+pub(crate) fn wrong_words(alloc: Global, words: Option<&[String]>, names_file: bool) -> WrongWords {
     let Some(words) = words else {
         return WrongWords::NoText;
     };
-    match wrong(alloc, words) {
+    match wrong(alloc, words, names_file) {
         Ok(wrong) => wrong,
         Err(_) => WrongWords::Unknown,
     }
