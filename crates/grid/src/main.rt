@@ -6,6 +6,7 @@ use grid_forms::Status;
 use grid_lines::{Around, Fault, ending, usage_text};
 use grid_manager::Idle;
 use grid_source::{KeepingSource, StdSink, StdSource};
+use std::io::Read;
 use std::process::ExitCode;
 use std::{env, fs, io};
 
