@@ -1,0 +1,7 @@
+use Rattle.grid_jsonl.proofs.Objects.{begun, line_ends, more}
+use Rattle.grid_jsonl.specs.Outcomes.{order_object}
+use Rattle.grid_jsonl.proofs.line.put_order.Goals as goal
+
+pub returns-clause-ok : goal.returns-clause-ok
+unfolding order_object
+returns-clause-ok c = line_ends c.put.result _ (more _ _ (begun _ _ _ c.in_ok-open_with.ensures.ok) c.in_ok-put_order_member.ensures.ok) c.put.ensures.ok

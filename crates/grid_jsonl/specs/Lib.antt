@@ -1,0 +1,9 @@
+pub mod Trees
+pub mod Commands
+pub mod Refusals
+pub mod Parts
+pub mod Replies
+pub mod Steps
+pub mod Borrowed
+pub mod Outcomes
+pub mod Lines

@@ -1,0 +1,137 @@
+// Arrays.
+ghost use Rattle.std.specs.Prelude.{◌≡◌, ◌++◌, ◌∷◌, ℕ, List as Seq, OnOk, OnErr, [], true};
+ghost use Rattle.std.specs.List.{flat_map};
+ghost use Rattle.serde_json.specs.Data.{Data, string};
+ghost use Rattle.serde_json.specs.Written.{compact_text};
+ghost use Rattle.grid_print.specs.Objects.{array_of, natural};
+ghost use Rattle.grid_jsonl.specs.Trees.{field_text};
+
+use crate::member::put_name;
+use crate::string::put_string;
+use grid_ids::{Id, Memory};
+use grid_report::Text;
+
+/// What is put as a value of JSON.
+pub trait Written {
+    // The value.
+    ghost written: { Self → Data };
+
+    /// Puts the text of the value last. Where memory is wanting, the text is empty.
+    fn put(&self, out: &mut Text) -> Result<(), Memory>
+        ensures ok { OnOk result (out.new ≡ out.old ++ compact_text (written self.now)) }
+        ensures err { OnErr result (out.new ≡ []) };
+}
+
+/// What is put as a value of JSON that names the buses of a level by the level's id.
+pub trait WrittenIn {
+    // The value in the level with an id.
+    ghost written_in: { Seq ℕ → Self → Data };
+
+    /// Puts the text of the value in a level last. Where memory is wanting, the text is empty.
+    fn put_in(&self, out: &mut Text, level: &Id) -> Result<(), Memory>
+        ensures ok { OnOk result (out.new
+            ≡ out.old ++ compact_text (written_in level.now self.now)) }
+        ensures err { OnErr result (out.new ≡ []) };
+}
+
+impl Written for Id {
+    ghost written = { string };
+
+    fn put(&self, out: &mut Text) -> Result<(), Memory> {
+        put_string(out, self.text())
+    }
+}
+
+impl Written for u16 {
+    ghost written = { natural };
+
+    fn put(&self, out: &mut Text) -> Result<(), Memory> {
+        out.put_unsigned(u64::from(*self))
+    }
+}
+
+/// Puts each item behind a comma.
+fn put_others<T: Written>(out: &mut Text, items: &[T]) -> Result<(), Memory>
+    ensures ok { OnOk result (out.new
+        ≡ out.old ++ flat_map (λ x. 44 ∷ compact_text (T.written x)) items.now) }
+    ensures err { OnErr result (out.new ≡ []) }
+{
+    for item in items {
+        out.put(",")?;
+        item.put(out)?;
+    }
+    Ok(())
+}
+
+/// Puts an array last. Where memory is wanting, the text is empty.
+pub fn put_items<T: Written>(out: &mut Text, items: &[T]) -> Result<(), Memory>
+    ensures ok { OnOk result (out.new ≡ out.old ++ compact_text (array_of T.written items.now)) }
+    ensures err { OnErr result (out.new ≡ []) }
+{
+    match items {
+        [] => out.put("[]"),
+        [first, others @ ..] => {
+            out.put("[")?;
+            first.put(out)?;
+            put_others(out, others)?;
+            out.put("]")
+        }
+    }
+}
+
+/// Puts each item of a level behind a comma.
+fn put_others_in<T: WrittenIn>(out: &mut Text, level: &Id, items: &[T]) -> Result<(), Memory>
+    ensures ok { OnOk result (out.new
+        ≡ out.old ++ flat_map (λ x. 44 ∷ compact_text (T.written_in level.now x)) items.now) }
+    ensures err { OnErr result (out.new ≡ []) }
+{
+    for item in items {
+        out.put(",")?;
+        item.put_in(out, level)?;
+    }
+    Ok(())
+}
+
+/// Puts an array of items of a level last. Where memory is wanting, the text is empty.
+pub fn put_items_in<T: WrittenIn>(out: &mut Text, level: &Id, items: &[T]) -> Result<(), Memory>
+    ensures ok { OnOk result (out.new
+        ≡ out.old ++ compact_text (array_of (T.written_in level.now) items.now)) }
+    ensures err { OnErr result (out.new ≡ []) }
+{
+    match items {
+        [] => out.put("[]"),
+        [first, others @ ..] => {
+            out.put("[")?;
+            first.put_in(out, level)?;
+            put_others_in(out, level, others)?;
+            out.put("]")
+        }
+    }
+}
+
+/// Puts a member that is an array, behind a comma. Where memory is wanting, the text is empty.
+#[tactic(auto, unfolding(crate::specs::Trees::field_text))]
+pub fn put_array<T: Written>(out: &mut Text, name: &str, items: &[T]) -> Result<(), Memory>
+    ensures ok { OnOk result (out.new
+        ≡ out.old ++ field_text true (name.now, array_of T.written items.now)) }
+    ensures err { OnErr result (out.new ≡ []) }
+{
+    put_name(out, name)?;
+    put_items(out, items)
+}
+
+/// Puts a member that is an array of items of a level, behind a comma. Where memory is wanting, the text is empty.
+#[tactic(auto, unfolding(crate::specs::Trees::field_text))]
+pub fn put_array_in<T: WrittenIn>(
+    out: &mut Text,
+    name: &str,
+    level: &Id,
+    items: &[T],
+) -> Result<(), Memory>
+    ensures ok { OnOk result (out.new
+        ≡ out.old ++ field_text true (name.now, array_of (T.written_in level.now) items.now)) }
+    ensures err { OnErr result (out.new ≡ []) }
+{
+    put_name(out, name)?;
+    put_items_in(out, level, items)
+}

@@ -1,0 +1,31 @@
+//! The outcome of a job as JSON Lines: an object on each line.
+#![tactic(auto)]
+
+mod branch;
+mod command;
+mod cursors;
+mod event;
+mod items;
+mod line;
+mod member;
+mod numbered;
+mod part;
+mod reply;
+mod step;
+mod string;
+mod sum;
+mod words;
+mod write;
+
+pub use command::put_command;
+pub use items::{Written, WrittenIn, put_array, put_array_in, put_items, put_items_in};
+pub use member::{
+    open_id, open_with, put_flag, put_given, put_id, put_name, put_number, put_sum_of, put_text,
+    put_whole,
+};
+pub use part::{open_bus, put_bus_id};
+pub use reply::put_reply;
+pub use step::{put_state, put_step, put_warning};
+pub use string::put_string;
+pub use sum::put_sum;
+pub use write::write_lines;

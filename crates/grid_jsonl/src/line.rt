@@ -1,0 +1,158 @@
+// The lines of an outcome, in order.
+ghost use Rattle.std.specs.Prelude.{◌≡◌, ◌++◌, ◌∷◌, OnOk, OnErr, [], true, codes, decimal};
+ghost use Rattle.std.specs.List.{flat_map};
+ghost use Rattle.serde_json.specs.Written.{compact_text};
+ghost use Rattle.grid_print.specs.Objects.{array_of, natural};
+ghost use Rattle.grid_jsonl.specs.Trees.{field_text};
+ghost use Rattle.grid_print.specs.Job.{line_of};
+ghost use Rattle.grid_jsonl.specs.Borrowed.{step_in};
+ghost use Rattle.grid_jsonl.specs.Outcomes.{command_object, end_object, event_object, level_object, order_object, variant_object};
+
+use crate::event::put_event;
+use crate::items::put_array_in;
+use crate::member::{open_with, put_id, put_name, put_number};
+use crate::step::{Step, put_step, refused_count};
+use grid_busview::BusView;
+use grid_core::Entry;
+use grid_events::Event;
+use grid_ids::{Id, Memory};
+use grid_report::{Outcome, Shown, Text};
+
+/// A line.
+#[derive(Clone, Copy)]
+pub(crate) enum Line<'a> {
+    /// The order of these steps.
+    Order(&'a [Entry]),
+    Command(Step<'a>),
+    Variant(&'a Id),
+    /// The view of a level in a variant.
+    Level(&'a Id, &'a BusView),
+    /// An event of a step that a listener heard.
+    Heard(u64, Step<'a>, &'a Event),
+    End(&'a Outcome),
+}
+
+impl Shown for Line<'_> {
+    ghost use Rattle.grid_jsonl.specs.Lines.{line_text};
+
+    ghost shown = { line_text };
+
+    #[tactic(auto, unfolding(crate::specs::Lines::line_object))]
+    fn show(&self, out: &mut Text) -> Result<(), Memory> {
+        match self {
+            Line::Order(journal) => put_order(out, journal),
+            Line::Command(step) => put_step_line(out, step),
+            Line::Variant(name) => put_variant(out, name),
+            Line::Level(name, view) => put_level(out, name, view),
+            Line::Heard(listener, step, event) => put_heard(out, *listener, step, event),
+            Line::End(outcome) => put_end(out, outcome),
+        }
+    }
+}
+
+fn put_workers(out: &mut Text, journal: &[Entry]) -> Result<(), Memory>
+    ensures ok { OnOk result (out.new
+        ≡ out.old ++ flat_map (λ e. 44 ∷ decimal e.worker) journal.now) }
+    ensures err { OnErr result (out.new ≡ []) }
+{
+    for entry in journal {
+        out.put(",")?;
+        out.put_unsigned(u64::from(entry.worker))?;
+    }
+    Ok(())
+}
+
+/// Puts the workers of the steps, as an array.
+fn put_order_array(out: &mut Text, journal: &[Entry]) -> Result<(), Memory>
+    ensures ok { OnOk result (out.new
+        ≡ out.old ++ compact_text (array_of (λ e. natural e.worker) journal.now)) }
+    ensures err { OnErr result (out.new ≡ []) }
+{
+    match journal {
+        [] => out.put("[]"),
+        [first, others @ ..] => {
+            out.put("[")?;
+            out.put_unsigned(u64::from(first.worker))?;
+            put_workers(out, others)?;
+            out.put("]")
+        }
+    }
+}
+
+#[tactic(auto, unfolding(crate::specs::Trees::field_text))]
+fn put_order_member(out: &mut Text, journal: &[Entry]) -> Result<(), Memory>
+    ensures ok { OnOk result (out.new
+        ≡ out.old ++ field_text true (codes "order", array_of (λ e. natural e.worker) journal.now)) }
+    ensures err { OnErr result (out.new ≡ []) }
+{
+    put_name(out, "order")?;
+    put_order_array(out, journal)
+}
+
+fn put_order(out: &mut Text, journal: &[Entry]) -> Result<(), Memory>
+    ensures ok { OnOk result (out.new ≡ out.old ++ line_of (order_object journal.now)) }
+    ensures err { OnErr result (out.new ≡ []) }
+{
+    open_with(out, "kind", "order")?;
+    put_order_member(out, journal)?;
+    out.put("}\n")
+}
+
+fn put_step_line(out: &mut Text, step: &Step<'_>) -> Result<(), Memory>
+    ensures ok { OnOk result (out.new
+        ≡ out.old ++ line_of (command_object (step_in step.now))) }
+    ensures err { OnErr result (out.new ≡ []) }
+{
+    open_with(out, "kind", "command")?;
+    out.put(",")?;
+    put_step(out, step.place, step.number, step.entry)?;
+    out.put("}\n")
+}
+
+fn put_variant(out: &mut Text, name: &Id) -> Result<(), Memory>
+    ensures ok { OnOk result (out.new ≡ out.old ++ line_of (variant_object name.now)) }
+    ensures err { OnErr result (out.new ≡ []) }
+{
+    open_with(out, "kind", "variant")?;
+    put_id(out, "variant", name)?;
+    out.put("}\n")
+}
+
+fn put_level(out: &mut Text, name: &Id, view: &BusView) -> Result<(), Memory>
+    ensures ok { OnOk result (out.new ≡ out.old ++ line_of (level_object name.now view.now)) }
+    ensures err { OnErr result (out.new ≡ []) }
+{
+    open_with(out, "kind", "level")?;
+    put_id(out, "variant", name)?;
+    put_id(out, "level", &view.level)?;
+    put_array_in(out, "buses", &view.level, view.buses.slice())?;
+    out.put("}\n")
+}
+
+fn put_heard(out: &mut Text, listener: u64, step: &Step<'_>, event: &Event) -> Result<(), Memory>
+    ensures ok { OnOk result (out.new
+        ≡ out.old ++ line_of (event_object listener (step_in step.now) event.now)) }
+    ensures err { OnErr result (out.new ≡ []) }
+{
+    open_with(out, "kind", "event")?;
+    put_number(out, "listener", listener)?;
+    put_number(out, "place", step.place)?;
+    put_number(out, "worker", u64::from(step.entry.worker))?;
+    put_number(out, "step", step.number)?;
+    put_event(out, event)?;
+    out.put("}\n")
+}
+
+fn put_end(out: &mut Text, outcome: &Outcome) -> Result<(), Memory>
+    ensures ok { OnOk result (out.new ≡ out.old ++ line_of (end_object outcome.now)) }
+    ensures err { OnErr result (out.new ≡ []) }
+{
+    let journal = outcome.journal.slice();
+    open_with(out, "kind", "end")?;
+    put_number(out, "workers", u64::from(outcome.workers))?;
+    put_number(out, "commands", journal.len() as u64)?;
+    put_number(out, "refused", refused_count(journal))?;
+    put_number(out, "variants", outcome.views.len() as u64)?;
+    put_number(out, "listeners", outcome.filters.len() as u64)?;
+    out.put("}\n")
+}
