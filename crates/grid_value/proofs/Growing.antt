@@ -9,8 +9,8 @@ use Rattle.serde_json.specs.Data.{Data, Items, Members, put}
 use Rattle.serde_json.specs.Find.{get_member}
 use Rattle.serde_json.proofs.Views.{get_member-put, get_member-put_other}
 use Rattle.grid_value.specs.declared.node.Node.{Node}
-use Rattle.grid_value.specs.View.{Listed, put_each, inside, data_of}
-use Rattle.grid_value.specs.Tree.{Grows, data_at}
+use Rattle.grid_value.specs.View.{Listed, put_each, inside, data_of, data_at}
+use Rattle.grid_value.specs.Tree.{Grows}
 
 pub unchanged : (r : Option (Items × List Token)) → r ≡ parse_map (λ ds. ds) r
 unchanged None = refl

@@ -1,14 +1,11 @@
 -- What nodes spell, a value at a time.
-use Rattle.std.proofs.Common.{◌≡◌, ℕ, zero, suc, ◌≤◌, List, [], ◌∷◌, ◌++◌, length, take, drop, refl, sym, ap, ap₂, ◌∙◌, arith, append_assoc, Option, Some, None}
-use Rattle.std.proofs.lemmas.List.{length-take, length-drop, take_at, drop_at, append-nil}
-use Rattle.serde_json.specs.Data.{Data, array, object, item, Items, no_items, no_members}
+use Rattle.std.proofs.Common.{◌≡◌, ℕ, zero, suc, ◌≤◌, ◌+◌, min, List, [], ◌∷◌, ◌++◌, length, take, drop, reverse, refl, sym, ap, ap₂, ◌∙◌, arith, append_assoc, length-append}
+use Rattle.std.proofs.lemmas.List.{length-take, length-drop, length-reverse, take_at, drop_at, take_min, drop_min, append-nil, reverse-append, reverse-reverse}
+use Rattle.serde_json.specs.Data.{array, object, item, Items, no_items, no_members}
 use Rattle.grid_value.specs.declared.node.Node.{Node}
 use Rattle.grid_value.specs.declared.node.Node.TheVariants as nodes
 use Rattle.grid_value.specs.declared.value.Value.{Value}
-use Rattle.grid_value.specs.declared.value.Items.{Items as ItemsLeft}
-use Rattle.grid_value.specs.declared.value.Members.{Members as MembersLeft}
-use Rattle.grid_value.specs.View.{First, view, Spelling, Listed, inside, name_of, data_by, data_of, items_view, spelling, items_of, listed_of, put_each}
-use Rattle.grid_value.specs.Passing.{PassesMember}
+use Rattle.grid_value.specs.View.{First, view, Spelling, inside, before, name_of, data_by, data_of, data_at, value_by, items_by, back_by, spelling, items_of, listed_of, put_each}
 
 -- ---- the bound on the turns does not matter
 
@@ -19,7 +16,7 @@ same_data s t (nodes.Number x) body is ms = refl
 same_data s t (nodes.Text x) body is ms = refl
 same_data s t (nodes.Array n) body is ms = ap array is
 same_data s t (nodes.Object n) body is ms = ap (λ all. object (put_each all no_members)) ms
-same_data s t (nodes.Name x) body is ms = refl
+same_data s t (nodes.Name count x) body is ms = refl
 
 abbrev Same : ℕ → ℕ → List Node → Type 0
 unfolding spelling
@@ -31,26 +28,45 @@ enough_taken i a ns le = omega (arith, length-take i ns)
 enough_left : (i a : ℕ) (ns : List Node) → length ns ≤ a → length (drop i ns) ≤ a
 enough_left i a ns le = omega (arith, length-drop i ns)
 
-same : (a b : ℕ) (ns : List Node) → length ns ≤ a → length ns ≤ b → Same a b ns
-unfolding spelling
+abbrev Agree : ℕ → ℕ → Type 0
+Agree a b = (ns : List Node) → length ns ≤ a → length ns ≤ b → Same a b ns
+
+same_value : (a b : ℕ) → Agree a b → (ns : List Node) → length ns ≤ a → length ns ≤ b → value_by (spelling a) ns ≡ value_by (spelling b) ns
+unfolding Same
+same_value a b agree [] p q = refl
+same_value a b agree (n ∷ ns) p q =
+    let inner = agree ns (omega (arith, p)) (omega (arith, q)) in
+    same_data (spelling a) (spelling b) n ns inner.0 inner.1
+
+same_items : (a b : ℕ) → Agree a b → (ns : List Node) → length ns ≤ suc a → length ns ≤ suc b → items_by (spelling a) ns ≡ items_by (spelling b) ns
+unfolding Same
+same_items a b agree [] p q = refl
+same_items a b agree (n ∷ ns) p q =
+    let value = agree (take (inside n) ns) (enough_taken (inside n) a ns (omega (arith, p))) (enough_taken (inside n) b ns (omega (arith, q))) in
+    let rest = agree (drop (inside n) ns) (enough_left (inside n) a ns (omega (arith, p))) (enough_left (inside n) b ns (omega (arith, q))) in
+    ap₂ item (same_data (spelling a) (spelling b) n (take (inside n) ns) value.0 value.1) rest.0
+
+turned : (a : ℕ) (ns : List Node) → length ns ≤ a → length (reverse ns) ≤ a
+turned a ns le = omega (arith, length-reverse ns)
+
+same_back : (a b : ℕ) → Agree a b → (ns : List Node) → length ns ≤ suc a → length ns ≤ suc b → back_by (spelling a) ns ≡ back_by (spelling b) ns
+unfolding Same
+same_back a b agree [] p q = refl
+same_back a b agree (k ∷ ns) p q =
+    let part = take (before k) ns in
+    let left = drop (before k) ns in
+    let value = same_value a b agree (reverse part) (turned a part (enough_taken (before k) a ns (omega (arith, p)))) (turned b part (enough_taken (before k) b ns (omega (arith, q)))) in
+    let rest = agree (reverse left) (turned a left (enough_left (before k) a ns (omega (arith, p)))) (turned b left (enough_left (before k) b ns (omega (arith, q)))) in
+    ap₂ (λ ms d. ms ++ (name_of k, d) ∷ []) rest.1 value
+
+same : (a b : ℕ) → Agree a b
+unfolding Same spelling
 same zero zero ns p q = (refl, refl)
 same zero (suc b) [] p q = (refl, refl)
 same zero (suc b) (n ∷ ns) p q = absurd (omega (arith, p))
 same (suc a) zero [] p q = (refl, refl)
 same (suc a) zero (n ∷ ns) p q = absurd (omega (arith, q))
-same (suc a) (suc b) [] p q = (refl, refl)
-same (suc a) (suc b) (n ∷ []) p q =
-    let value = same a b (take (inside n) []) (enough_taken (inside n) a [] (omega arith)) (enough_taken (inside n) b [] (omega arith)) in
-    let rest = same a b (drop (inside n) []) (enough_left (inside n) a [] (omega arith)) (enough_left (inside n) b [] (omega arith)) in
-    (ap₂ item (same_data (spelling a) (spelling b) n (take (inside n) []) value.0 value.1) rest.0, refl)
-same (suc a) (suc b) (k ∷ n ∷ ns) p q =
-    let first = same a b (take (inside k) (n ∷ ns)) (enough_taken (inside k) a (n ∷ ns) (omega (arith, p))) (enough_taken (inside k) b (n ∷ ns) (omega (arith, q))) in
-    let behind = same a b (drop (inside k) (n ∷ ns)) (enough_left (inside k) a (n ∷ ns) (omega (arith, p))) (enough_left (inside k) b (n ∷ ns) (omega (arith, q))) in
-    let value = same a b (take (inside n) ns) (enough_taken (inside n) a ns (omega (arith, p))) (enough_taken (inside n) b ns (omega (arith, q))) in
-    let rest = same a b (drop (inside n) ns) (enough_left (inside n) a ns (omega (arith, p))) (enough_left (inside n) b ns (omega (arith, q))) in (
-      ap₂ item (same_data (spelling a) (spelling b) k (take (inside k) (n ∷ ns)) first.0 first.1) behind.0,
-      ap₂ (λ d ms. (name_of k, d) ∷ ms) (same_data (spelling a) (spelling b) n (take (inside n) ns) value.0 value.1) rest.1,
-    )
+same (suc a) (suc b) ns p q = (same_items a b (same a b) ns p q, same_back a b (same a b) (reverse ns) (turned (suc a) ns p) (turned (suc b) ns q))
 
 -- ---- one value, and what follows it
 
@@ -63,14 +79,43 @@ items_first n ns =
     let rest = same (length ns) (length behind) behind (enough_left (inside n) (length ns) ns (omega arith)) (omega arith) in
     ap₂ item (same_data (spelling (length ns)) (items_of, listed_of) n body value.0 value.1) rest.0
 
-pub listed_first : (k n : Node) (ns : List Node) → listed_of (k ∷ n ∷ ns) ≡ (name_of k, data_of n (take (inside n) ns)) ∷ listed_of (drop (inside n) ns)
-unfolding items_of listed_of spelling
-listed_first k n ns =
-    let body = take (inside n) ns in
-    let value = same (suc (length ns)) (length body) body (omega (arith, enough_taken (inside n) (length ns) ns (omega arith))) (omega arith) in
-    let behind = drop (inside n) ns in
-    let rest = same (suc (length ns)) (length behind) behind (omega (arith, enough_left (inside n) (length ns) ns (omega arith))) (omega arith) in
-    ap₂ (λ d ms. (name_of k, d) ∷ ms) (same_data (spelling (suc (length ns))) (items_of, listed_of) n body value.0 value.1) rest.1
+-- with enough turns, nodes from the back spell what they spell in their order
+back_first : (a : ℕ) (k : Node) (ns : List Node) → length ns ≤ a
+    → back_by (spelling a) (k ∷ ns) ≡ listed_of (reverse (drop (before k) ns)) ++ (name_of k, data_at (reverse (take (before k) ns))) ∷ []
+unfolding Same items_of listed_of spelling
+back_first a k ns enough =
+    let part = reverse (take (before k) ns) in
+    let left = reverse (drop (before k) ns) in
+    let rest = same a (length left) left (turned a (drop (before k) ns) (enough_left (before k) a ns enough)) (omega arith) in
+    ap₂ (λ ms d. ms ++ (name_of k, d) ∷ []) rest.1 (value a part (turned a (take (before k) ns) (enough_taken (before k) a ns enough)))
+  where
+    value : (a : ℕ) (ns : List Node) → length ns ≤ a → value_by (spelling a) ns ≡ data_at ns
+    value a [] le = refl
+    value a (n ∷ ns) le =
+        let inner = same a (length ns) ns (omega (arith, le)) (omega arith) in
+        same_data (spelling a) (items_of, listed_of) n ns inner.0 inner.1
+
+-- nodes that end with a name
+listed_last : (k : Node) (ns : List Node) → listed_of (ns ++ k ∷ []) ≡ listed_of (reverse (drop (before k) (reverse ns))) ++ (name_of k, data_at (reverse (take (before k) (reverse ns)))) ∷ []
+unfolding listed_of spelling
+listed_last k ns =
+    let long : length (ns ++ k ∷ []) ≡ suc (length ns) = omega (arith, length-append ns (k ∷ [])) in
+    ap (λ turns. (spelling turns).1 (ns ++ k ∷ [])) long ∙ ap (back_by (spelling (length ns))) (reverse-append ns (k ∷ []))
+    ∙ back_first (length ns) k (reverse ns) (turned (length ns) ns (omega arith))
+
+-- the nodes of a value between those before it and its name
+pub listed_cut : (front part : List Node) (k : Node) → length part ≡ min (before k) (length front + length part) → listed_of (front ++ (part ++ k ∷ [])) ≡ listed_of front ++ (name_of k, data_at part) ∷ []
+listed_cut front part k whole =
+    let all = reverse part ++ reverse front in
+    let turn : reverse (front ++ part) ≡ all = reverse-append front part in
+    let long : length all ≡ length front + length part = omega (arith, length-append (reverse part) (reverse front), length-reverse part, length-reverse front) in
+    let here : length (reverse part) ≡ min (before k) (length all) = length-reverse part ∙ whole ∙ ap (min (before k)) (sym long) in
+    let one : take (before k) all ≡ reverse part = sym (take_min (before k) all) ∙ take_at (reverse part) (reverse front) (min (before k) (length all)) here in
+    let left : drop (before k) all ≡ reverse front = sym (drop_min (before k) all) ∙ drop_at (reverse part) (reverse front) (min (before k) (length all)) here in
+    ap listed_of (sym (append_assoc front part (k ∷ []))) ∙ listed_last k (front ++ part)
+    ∙ ap (λ ns. listed_of (reverse (drop (before k) ns)) ++ (name_of k, data_at (reverse (take (before k) ns))) ∷ []) turn
+    ∙ ap₂ (λ ns ms. listed_of (reverse ns) ++ (name_of k, data_at (reverse ms)) ∷ []) left one
+    ∙ ap₂ (λ ns ms. listed_of ns ++ (name_of k, data_at ms) ∷ []) (reverse-reverse front) (reverse-reverse part)
 
 -- ---- a value that was appended
 
@@ -78,11 +123,6 @@ pub items_at_front : (n : Node) (body rest : List Node) → inside n ≡ length 
 items_at_front n body rest whole =
     items_first n (body ++ rest)
     ∙ ap₂ (λ ns ms. item (data_of n ns) (items_of ms)) (take_at body rest (inside n) (sym whole)) (drop_at body rest (inside n) (sym whole))
-
-pub listed_at_front : (k n : Node) (body rest : List Node) → inside n ≡ length body → listed_of (k ∷ n ∷ (body ++ rest)) ≡ (name_of k, data_of n body) ∷ listed_of rest
-listed_at_front k n body rest whole =
-    listed_first k n (body ++ rest)
-    ∙ ap₂ (λ ns ms. (name_of k, data_of n ns) ∷ listed_of ms) (take_at body rest (inside n) (sym whole)) (drop_at body rest (inside n) (sym whole))
 
 -- ---- values that were appended one after the other
 
@@ -97,17 +137,8 @@ pub all_items : (body : List Node) (front : Items → Items) → SpellsItems bod
 unfolding items_of
 all_items body front spelled = sym (spelled []) ∙ ap items_of (append-nil body)
 
-abbrev pub SpellsMembers : List Node → Listed → Type 0
-SpellsMembers body front = (rest : List Node) → listed_of (body ++ rest) ≡ front ++ listed_of rest
-
-pub one_more_member : (body part : List Node) (front : Listed) (k n : Node) → inside n ≡ length part → SpellsMembers body front → SpellsMembers (body ++ k ∷ n ∷ part) (front ++ (name_of k, data_of n part) ∷ [])
-one_more_member body part front k n whole spelled rest =
-    ap listed_of (append_assoc body (k ∷ n ∷ part) rest) ∙ spelled (k ∷ n ∷ (part ++ rest)) ∙ ap (λ ms. front ++ ms) (listed_at_front k n part rest whole)
-    ∙ sym (append_assoc front ((name_of k, data_of n part) ∷ []) (listed_of rest))
-
-pub all_members : (body : List Node) (front : Listed) → SpellsMembers body front → front ≡ listed_of body
-unfolding listed_of
-all_members body front spelled = sym (append-nil front) ∙ sym (spelled []) ∙ ap listed_of (append-nil body)
+pub one_more_member : (body part : List Node) (k n : Node) → before k ≡ suc (length part) → listed_of (body ++ (n ∷ part ++ k ∷ [])) ≡ listed_of body ++ (name_of k, data_of n part) ∷ []
+one_more_member body part k n whole = listed_cut body (n ∷ part) k (omega (arith, whole))
 
 -- ---- one value after the other
 
@@ -119,33 +150,6 @@ pub items_next : (ns : List Node) (v : Value) (rest : List Node) → First ns v 
 items_next [] v rest cut = absurd cut
 items_next (n ∷ ns) v rest cut = items_first n ns ∙ ap₂ item (ap₂ data_of (sym cut.0) (sym cut.1)) (ap items_of (sym cut.2))
 
-pub listed_end : (ns : List Node) → length ns ≡ 0 → listed_of ns ≡ []
+pub listed_end : (ns : List Node) → ns ≡ [] → listed_of ns ≡ []
 unfolding listed_of
-listed_end [] none = refl
-listed_end (n ∷ ns) none = absurd (omega (arith, none))
-
-pub listed_alone : (k : Node) (ns : List Node) → ns ≡ [] → listed_of (k ∷ ns) ≡ []
-unfolding listed_of
-listed_alone k ns none = ap (λ ms. listed_of (k ∷ ms)) none
-
-pub listed_next : (k : Node) (ns : List Node) (v : Value) (rest : List Node) → First ns v rest → listed_of (k ∷ ns) ≡ (name_of k, view v) ∷ listed_of rest
-listed_next k [] v rest cut = absurd cut
-listed_next k (n ∷ ns) v rest cut = listed_first k n ns ∙ ap₂ (λ d ms. (name_of k, d) ∷ ms) (ap₂ data_of (sym cut.0) (sym cut.1)) (ap listed_of (sym cut.2))
-
--- ---- the first of some items
-
-abbrev pub first_item : Items → Option Data
-first_item no_items = None
-first_item (item d ds) = Some d
-
-abbrev pub first_found : Option ItemsLeft → Option Data
-first_found None = None
-first_found (Some front) = first_item (items_view front)
-
-pub passes : (old new : MembersLeft) (front : ItemsLeft) (k n : Node) (ns behind : List Node) → old.nodes.now ≡ k ∷ behind → behind ≡ n ∷ ns → front.nodes.now ≡ behind → new.nodes.now ≡ drop (inside n) ns → PassesMember old (name_of k) front new
-passes old new front k n ns behind cut first same rest = (
-  data_of n (take (inside n) ns),
-  items_of (drop (inside n) ns),
-  ap items_of (same ∙ first) ∙ items_first n ns,
-  ap listed_of (cut ∙ ap (λ all. k ∷ all) first) ∙ listed_first k n ns ∙ ap (λ all. (name_of k, data_of n (take (inside n) ns)) ∷ listed_of all) (sym rest),
-)
+listed_end ns none = ap listed_of none

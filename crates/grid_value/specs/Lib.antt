@@ -1,4 +1,3 @@
 pub mod Bytes
 pub mod View
 pub mod Tree
-pub mod Passing

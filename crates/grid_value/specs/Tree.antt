@@ -1,15 +1,10 @@
 -- Trees, and how their nodes grow while they are read.
-use Rattle.std.specs.Prelude.{◌≡◌, List, [], ◌∷◌, ◌++◌, length, Option, Some}
+use Rattle.std.specs.Prelude.{◌≡◌, List, ◌∷◌, ◌++◌, length, Option, Some}
 use Rattle.json.specs.Token.{Token}
-use Rattle.serde_json.specs.Data.{Data, null, Items, Members, no_members}
+use Rattle.serde_json.specs.Data.{Data, Items, Members, no_members}
 use Rattle.grid_value.specs.declared.node.Node.{Node}
 use Rattle.grid_value.specs.declared.read.Tree.{Tree}
-use Rattle.grid_value.specs.View.{inside, data_of, items_of, listed_of, put_each}
-
--- the data that nodes spell
-abbrev pub data_at : List Node → Data
-data_at [] = null
-data_at (n ∷ ns) = data_of n ns
+use Rattle.grid_value.specs.View.{inside, data_of, data_at, items_of, listed_of, put_each}
 
 abbrev pub tree_view : Tree → Data
 tree_view tree = data_at tree.nodes.items

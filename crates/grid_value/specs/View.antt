@@ -1,5 +1,5 @@
 -- The data that nodes stand for, as `serde_json` has it.
-use Rattle.std.specs.Prelude.{◌≡◌, ℕ, zero, suc, List, [], ◌∷◌, take, drop, length}
+use Rattle.std.specs.Prelude.{◌≡◌, ℕ, zero, suc, List, [], ◌∷◌, ◌++◌, take, drop, reverse, length}
 use Rattle.serde_json.specs.Data.{Num, unsigned, negative, float, Data, null, boolean, number, string, array, object, Items, no_items, item, Members, no_members, put}
 use Rattle.grid_value.specs.declared.number.Number.{Number}
 use Rattle.grid_value.specs.declared.number.Number.TheVariants as numbers
@@ -31,7 +31,7 @@ inside (nodes.Number x) = 0
 inside (nodes.Text s) = 0
 inside (nodes.Array n) = n
 inside (nodes.Object n) = n
-inside (nodes.Name s) = 0
+inside (nodes.Name count s) = 0
 
 -- the name that a node is
 abbrev pub name_of : Node → List ℕ
@@ -41,7 +41,17 @@ name_of (nodes.Number x) = []
 name_of (nodes.Text s) = []
 name_of (nodes.Array n) = []
 name_of (nodes.Object n) = []
-name_of (nodes.Name s) = s.now
+name_of (nodes.Name count s) = s.now
+
+-- how many nodes before a name are its value
+abbrev pub before : Node → ℕ
+before nodes.Null = 0
+before (nodes.Bool b) = 0
+before (nodes.Number x) = 0
+before (nodes.Text s) = 0
+before (nodes.Array n) = 0
+before (nodes.Object n) = 0
+before (nodes.Name count s) = count
 
 -- the items and the members that nodes spell one after the other
 abbrev pub Spelling : Type 0
@@ -55,16 +65,24 @@ data_by spelling (nodes.Number x) body = number (number_view x)
 data_by spelling (nodes.Text s) body = string s.now
 data_by spelling (nodes.Array n) body = array (spelling.0 body)
 data_by spelling (nodes.Object n) body = object (put_each (spelling.1 body) no_members)
-data_by spelling (nodes.Name s) body = null
+data_by spelling (nodes.Name count s) body = null
+
+-- the value that nodes are
+abbrev pub value_by : Spelling → List Node → Data
+value_by spelling [] = null
+value_by spelling (n ∷ ns) = data_by spelling n ns
 
 abbrev pub items_by : Spelling → List Node → Items
 items_by spelling [] = no_items
 items_by spelling (n ∷ ns) = item (data_by spelling n (take (inside n) ns)) (spelling.0 (drop (inside n) ns))
 
+-- the last node comes first: a name, and then its value from the back
+abbrev pub back_by : Spelling → List Node → Listed
+back_by spelling [] = []
+back_by spelling (k ∷ ns) = spelling.1 (reverse (drop (before k) ns)) ++ (name_of k, value_by spelling (reverse (take (before k) ns))) ∷ []
+
 abbrev pub listed_by : Spelling → List Node → Listed
-listed_by spelling [] = []
-listed_by spelling (k ∷ []) = []
-listed_by spelling (k ∷ n ∷ ns) = (name_of k, data_by spelling n (take (inside n) ns)) ∷ spelling.1 (drop (inside n) ns)
+listed_by spelling ns = back_by spelling (reverse ns)
 
 -- The number bounds the turns. The count of the nodes is always enough.
 unfoldable pub spelling : ℕ → Spelling
@@ -81,6 +99,9 @@ listed_of ns = (spelling (length ns)).1 ns
 
 abbrev pub data_of : Node → List Node → Data
 data_of = data_by (items_of, listed_of)
+
+abbrev pub data_at : List Node → Data
+data_at = value_by (items_of, listed_of)
 
 abbrev pub view : Value → Data
 view v = data_of v.head v.inside.now

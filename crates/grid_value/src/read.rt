@@ -111,17 +111,7 @@ impl<'t> Tree<'t> {
     pub fn root(&self) -> Value<'_, 't>
         ensures { view result ≡ tree_view self.now }
     {
-        let nodes = self.nodes.as_slice();
-        match nodes.split_first() {
-            Some((head, inside)) => Value {
-                head: *head,
-                inside,
-            },
-            None => Value {
-                head: Node::Null,
-                inside: nodes,
-            },
-        }
+        Value::of(self.nodes.as_slice())
     }
 }
 
@@ -160,6 +150,18 @@ fn append<'t>(nodes: &mut Vec<Node<'t>>, node: Node<'t>) -> Result<(), ByteFault
 {
     nodes.push(node)?;
     Ok(())
+}
+
+/// The node of the name whose value is so many nodes. It cannot tell of more than `u32` holds.
+#[inline(always)]
+fn name_node<'t>(name: &'t str, count: usize) -> Result<Node<'t>, ByteFault>
+    ensures ok { IfOk result (λ node. node ≡ Node.Name count name.entry) }
+    ensures err { result ≢ Err ByteFault.NotJson }
+{
+    match u32::try_from(count) {
+        Ok(count) => Ok(Node::Name(count, name)),
+        Err(_) => Err(ByteFault::Memory),
+    }
 }
 
 /// Appends the next value of the reader. Arrays and objects may nest `depth` deep.
@@ -271,8 +273,9 @@ fn read_members<'t>(
         (members (value depth) (length reader.old) reader.old) ≡ None }
 {
     'members: while let Some(name) = reader.next_key()? {
-        append(nodes, Node::Name(name))?;
+        let place = nodes.len();
         read(reader, nodes, depth)?;
+        append(nodes, name_node(name, nodes.len() - place)?)?;
     }
     Ok(())
 }

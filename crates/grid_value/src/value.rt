@@ -1,9 +1,8 @@
 // What a JSON value holds.
-ghost use Rattle.std.specs.Prelude.{◌≡◌, ◌<◌, ℕ, [], ◌∷◌, length, is_some, option_map, option_and_then, nat_lt, MatchOption};
+ghost use Rattle.std.specs.Prelude.{◌≡◌, ◌<◌, ℕ, [], ◌∷◌, ◌++◌, length, is_some, option_map, option_and_then, nat_lt, MatchOption};
 ghost use Rattle.serde_json.specs.Data.{no_items, item, no_members};
 ghost use Rattle.serde_json.specs.Find.{get, get_member, as_bool, as_number, as_str, as_array, as_object, as_i64};
-ghost use Rattle.grid_value.specs.View.{view, items_view, listed, members_view, items_of, listed_of, items_len, First};
-ghost use Rattle.grid_value.specs.Passing.{PassesMember};
+ghost use Rattle.grid_value.specs.View.{view, data_at, items_view, listed, members_view, items_of, listed_of, items_len, First};
 
 use crate::node::Node;
 use crate::number::Number;
@@ -47,6 +46,23 @@ pub(crate) fn first_of<'v, 't>(nodes: &'v [Node<'t>]) -> Option<(Value<'v, 't>, 
 }
 
 impl<'v, 't> Value<'v, 't> {
+    /// The value that these nodes are.
+    #[inline(always)]
+    pub(crate) fn of(nodes: &'v [Node<'t>]) -> Value<'v, 't>
+        ensures { view result ≡ data_at nodes.now }
+    {
+        match nodes.split_first() {
+            Some((head, inside)) => Value {
+                head: *head,
+                inside,
+            },
+            None => Value {
+                head: Node::Null,
+                inside: nodes,
+            },
+        }
+    }
+
     #[inline]
     pub fn as_bool(&self) -> Option<bool>
         ensures { result ≡ as_bool (view self.now) }
@@ -155,39 +171,26 @@ impl<'v, 't> Items<'v, 't> {
 }
 
 impl<'v, 't> Members<'v, 't> {
-    /// The next member.
+    /// The last of the members that are still to come.
     #[inline(always)]
-    pub fn next(&mut self) -> Option<(&'t str, Value<'v, 't>)>
+    pub fn next_back(&mut self) -> Option<(&'t str, Value<'v, 't>)>
         ensures { MatchOption result (listed self.old ≡ [])
-            (λ m. listed self.old ≡ (m.0.now, view m.1) ∷ listed self.new) }
+            (λ m. listed self.old ≡ listed self.new ++ (m.0.now, view m.1) ∷ []) }
     {
-        match self.nodes.split_first() {
-            None => None,
-            Some((name, behind)) => match first_of(behind) {
-                None => None,
-                Some((value, rest)) => {
-                    *self = Members { nodes: rest };
-                    Some((name.name(), value))
-                }
-            },
-        }
+        let (name, nodes) = self.pass_back()?;
+        Some((name, Value::of(nodes)))
     }
 
-    /// Passes over the next member, and gives its name and items of which its value is the first.
+    /// Passes over the last of the members that are still to come, and gives its name and the nodes of its value.
     #[inline(always)]
-    fn pass(&mut self) -> Option<(&'t str, Items<'v, 't>)>
+    fn pass_back(&mut self) -> Option<(&'t str, &'v [Node<'t>])>
         ensures { MatchOption result (listed self.old ≡ [])
-            (λ m. PassesMember self.old m.0.now m.1 self.new) }
+            (λ m. listed self.old ≡ listed self.new ++ (m.0.now, data_at m.1.now) ∷ []) }
     {
-        let Some((name, behind)) = self.nodes.split_first() else {
-            return None;
-        };
-        let Some((head, inside)) = behind.split_first() else {
-            return None;
-        };
-        let (_, rest) = inside.split_at(head.inside().min(inside.len()));
+        let (last, others) = self.nodes.split_last()?;
+        let (rest, inside) = others.split_at(others.len() - last.before().min(others.len()));
         *self = Members { nodes: rest };
-        Some((name.name(), Items { nodes: behind }))
+        Some((last.name(), inside))
     }
 
     /// The last of the members that have that name.
@@ -195,15 +198,11 @@ impl<'v, 't> Members<'v, 't> {
         ensures { option_map view result ≡ get_member name.now (members_view self.now) }
     {
         let mut members = *self;
-        let mut found = None;
-        while let Some((known, items)) = members.pass() {
+        while let Some((known, nodes)) = members.pass_back() {
             if same_text(known, name) {
-                found = Some(items);
+                return Some(Value::of(nodes));
             }
         }
-        match found {
-            Some(mut items) => items.next(),
-            None => None,
-        }
+        None
     }
 }

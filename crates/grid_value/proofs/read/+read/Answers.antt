@@ -1,4 +1,4 @@
-use Rattle.std.proofs.Common.{◌≡◌, ◌-◌, ◌<◌, [], ◌∷◌, ◌++◌, length, Some, None, refl, sym, ap, ◌∙◌, arith, append_assoc}
+use Rattle.std.proofs.Common.{◌≡◌, suc, ◌-◌, ◌<◌, [], ◌∷◌, ◌++◌, length, Some, None, refl, sym, ap, ap₂, ◌∙◌, arith, append_assoc, length-append}
 use Rattle.std.proofs.lemmas.List.{append-nil}
 use Rattle.json.specs.Token.{Token}
 use Rattle.json.specs.Json.{parse_map, after_end_array, read_key, items, members, value}
@@ -6,10 +6,10 @@ use Rattle.json.specs.Reads.{token_of}
 use Rattle.json.proofs.Grammar.{value_is, read_key-shorter}
 use Rattle.serde_json.specs.Data.{array, object, item, no_members}
 use Rattle.serde_json.specs.Read.{of_json, of_items, converted}
-use Rattle.grid_value.specs.View.{data_of, put_each}
+use Rattle.grid_value.specs.View.{data_of, listed_of, put_each}
 use Rattle.grid_value.specs.declared.node.Node.TheVariants as nodes
 use Rattle.grid_value.proofs.Growing.{unchanged, one_more, put_last, grown_leaf, patched, counted, map_ok}
-use Rattle.grid_value.proofs.Spelled.{one_more_item, all_items, one_more_member, all_members}
+use Rattle.grid_value.proofs.Spelled.{one_more_item, all_items, one_more_member}
 use Rattle.grid_value.proofs.Turns.{after, opens_array, opens_object, array_too_deep, object_too_deep, item_turn, item_refused, items_done, member_turn, member_refused, name_refused, members_done}
 use Rattle.grid_value.proofs.read.+read.Goals as goal
 
@@ -164,13 +164,12 @@ read_items-returns-clause-ok t c =
 -- ---- members
 
 pub read_members-members-init : goal.read_members-members-init
+unfolding listed_of
 read_members-members-init t c = record {
   n = length c.args.reader.now;
   enough = omega arith;
   body = [];
   same = sym (append-nil c.args.nodes.now.items);
-  front = [];
-  spelled = λ rest. refl;
   read = refl;
   shorter = omega arith;
 }
@@ -178,13 +177,13 @@ read_members-members-init t c = record {
 pub read_members-returns-in_err-name-clause-err : goal.read_members-returns-in_err-name-clause-err
 read_members-returns-in_err-name-clause-err t c refused =
     let inv = c.members.invariant in
-    inv.read ∙ name_refused (value c.args.depth) (put_each inv.front no_members) inv.n c.members.reader c.in_err-name.ensures.value
+    inv.read ∙ name_refused (value c.args.depth) (put_each (listed_of inv.body) no_members) inv.n c.members.reader c.in_err-name.ensures.value
 
 pub read_members-returns-in_err-read-clause-err : goal.read_members-returns-in_err-read-clause-err
 read_members-returns-in_err-read-clause-err t c refused =
     let inv = c.members.invariant in
     let key : read_key c.members.reader ≡ Some (Some c.in-Some.name.now, c.next_key.new.self) = grind arith in
-    inv.read ∙ member_refused (value c.args.depth) (put_each inv.front no_members) inv.n c.in-Some.name.now c.members.reader c.next_key.new.self key (c.read.ensures.err (grind arith))
+    inv.read ∙ member_refused (value c.args.depth) (put_each (listed_of inv.body) no_members) inv.n c.in-Some.name.now c.members.reader c.next_key.new.self key (c.read.ensures.err (grind arith))
 
 pub read_members-members-preserved : goal.read_members-members-preserved
 read_members-members-preserved t c =
@@ -200,16 +199,21 @@ read_members-members-preserved t c =
     let rest = c.read.new.reader in
     let less = read_key-shorter l.reader (Some name.now) behind key in
     let lesser = c.in_ok-read.ensures.shorter in
-    let old = c.args.nodes.now.items in record {
+    let old = c.args.nodes.now.items in
+    let count = c.len.result - c.len-place.result in
+    let k = nodes.Name count name in
+    let here : c.len-place.result ≡ length l.nodes.items = omega (arith, c.len-place.ensures, l.nodes.ok) in
+    let there : c.len.result ≡ length c.read.new.nodes.items = omega (arith, c.len.ensures, c.read.new.nodes.ok) in
+    let long = ap length grown.same ∙ length-append l.nodes.items part in
+    let whole : count ≡ suc (length grown.body) = omega (arith, here, there, long) in
+    let more : listed_of (inv.body ++ (part ++ k ∷ [])) ≡ listed_of inv.body ++ (name.now, d) ∷ [] = one_more_member inv.body grown.body k grown.head whole in record {
       n = inv.n - 1;
       enough = omega (arith, inv.enough);
-      body = inv.body ++ nodes.Name name ∷ part;
-      same = grown.same ∙ ap (λ ns. ns ++ part) c.in_ok-append.ensures.ok ∙ append_assoc l.nodes.items (nodes.Name name ∷ []) part
-          ∙ ap (λ ns. ns ++ nodes.Name name ∷ part) inv.same ∙ append_assoc old inv.body (nodes.Name name ∷ part);
-      front = inv.front ++ (name.now, d) ∷ [];
-      spelled = one_more_member inv.body grown.body inv.front (nodes.Name name) grown.head grown.whole inv.spelled;
-      read = inv.read ∙ member_turn parse (put_each inv.front no_members) inv.n name.now l.reader behind rest d (omega (arith, inv.enough)) key grown.is
-          ∙ ap (λ ms. after ms (members parse (inv.n - 1) rest)) (sym (put_last inv.front name.now d no_members));
+      body = inv.body ++ (part ++ k ∷ []);
+      same = c.in_ok-append.ensures.ok ∙ ap₂ (λ ns m. ns ++ m ∷ []) (grown.same ∙ ap (λ ns. ns ++ part) inv.same) c.in_ok-name_node.ensures.ok
+          ∙ append_assoc (old ++ inv.body) part (k ∷ []) ∙ append_assoc old inv.body (part ++ k ∷ []);
+      read = inv.read ∙ member_turn parse (put_each (listed_of inv.body) no_members) inv.n name.now l.reader behind rest d (omega (arith, inv.enough)) key grown.is
+          ∙ ap (λ ms. after ms (members parse (inv.n - 1) rest)) (sym (ap (λ ms. put_each ms no_members) more ∙ put_last (listed_of inv.body) name.now d no_members));
       shorter = omega (arith, inv.shorter);
     }
 
@@ -219,6 +223,5 @@ read_members-returns-clause-ok t c =
     let rest = c.next_key.new.self in record {
       body = inv.body;
       same = inv.same;
-      is = inv.read ∙ members_done (value c.args.depth) (put_each inv.front no_members) inv.n c.members.reader rest inv.enough (grind arith)
-          ∙ ap (λ ms. Some (put_each ms no_members, rest)) (all_members inv.body inv.front inv.spelled);
+      is = inv.read ∙ members_done (value c.args.depth) (put_each (listed_of inv.body) no_members) inv.n c.members.reader rest inv.enough (grind arith);
     }

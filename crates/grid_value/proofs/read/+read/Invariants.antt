@@ -3,8 +3,8 @@ use Rattle.json.specs.Json.{items, members, value, parse_map}
 use Rattle.serde_json.specs.Data.{Items, no_members}
 use Rattle.serde_json.specs.Read.{of_items, of_members, converted}
 use Rattle.grid_value.specs.declared.node.Node.{Node}
-use Rattle.grid_value.specs.View.{Listed, put_each}
-use Rattle.grid_value.proofs.Spelled.{SpellsItems, SpellsMembers}
+use Rattle.grid_value.specs.View.{put_each, listed_of}
+use Rattle.grid_value.proofs.Spelled.{SpellsItems}
 use Rattle.grid_value.proofs.read.+read.Given as goal
 
 abbrev pub decreases-read : goal.decreases-read
@@ -43,9 +43,7 @@ invariant-read_members-members l = record {
   enough : length l.reader ≤ n;
   body : List Node;
   same : l.nodes.items ≡ l.initial.nodes.items ++ body;
-  front : Listed;
-  spelled : SpellsMembers body front;
-  read : converted (λ ms. of_members ms no_members) (members (value l.depth) (length l.initial.reader) l.initial.reader) ≡ converted (λ ms. of_members ms (put_each front no_members)) (members (value l.depth) n l.reader);
+  read : converted (λ ms. of_members ms no_members) (members (value l.depth) (length l.initial.reader) l.initial.reader) ≡ converted (λ ms. of_members ms (put_each (listed_of body) no_members)) (members (value l.depth) n l.reader);
   shorter : length l.reader ≤ length l.initial.reader;
 }
 
