@@ -1,7 +1,8 @@
 -- Names of members, tested one by one in the code and in the specification.
-use Rattle.std.proofs.Common.{◌≡◌, ℕ, List, [], ◌∷◌, Bool, true, false, ◌&&◌, ◌||◌, refl, sym, Bor, ap, ◌∙◌, Ordering, Less, Equal, Greater, nat_cmp, is_eq}
+use Rattle.std.proofs.Common.{◌≡◌, ℕ, List, [], ◌∷◌, ◌++◌, Bool, true, false, ◌&&◌, ◌||◌, refl, sym, Bor, ap, ◌∙◌, Ordering, Less, Equal, Greater, nat_cmp, is_eq}
 use Rattle.std.specs.Prelude.{map}
 use Rattle.std.specs.List.{list_any, list_all}
+use Rattle.std.proofs.lemmas.List.Folds.{list_all-append}
 use Rattle.std.specs.Ordering.{match_ordering}
 use Rattle.std.specs.Str.{bytes_eq}
 use Rattle.std.specs.Cmp.Lexicographic.{slice_cmp}
@@ -59,3 +60,18 @@ each_known names (m ∷ ms) found =
 
 pub has_only_is : (names : List (List ℕ)) (ms : Listed) → all_known names (put_each ms no_members) ≡ are_known names ms
 has_only_is names ms = each_known names ms no_members ∙ and_true (are_known names ms)
+
+-- ---- the last of all members
+
+last_test : (names : List (List ℕ)) (ms : Listed) (name : List ℕ) (d : Data) (b : Bool) → knows names name ≡ b → are_known names (ms ++ (name, d) ∷ []) ≡ (are_known names ms && (b && true))
+last_test names ms name d b is = list_all-append (λ m. knows names m.0) ms ((name, d) ∷ []) ∙ ap (λ t. are_known names ms && (t && true)) is
+
+pub last_known : (names : List (List ℕ)) (ms : Listed) (name : List ℕ) (d : Data) → knows names name ≡ true → are_known names (ms ++ (name, d) ∷ []) ≡ are_known names ms
+last_known names ms name d is = last_test names ms name d true is ∙ and_true (are_known names ms)
+
+pub last_unknown : (names : List (List ℕ)) (ms : Listed) (name : List ℕ) (d : Data) → knows names name ≡ false → are_known names (ms ++ (name, d) ∷ []) ≡ false
+last_unknown names ms name d is = last_test names ms name d false is ∙ never (are_known names ms)
+  where
+    never : (a : Bool) → (a && false) ≡ false
+    never true = refl
+    never false = refl

@@ -1,6 +1,6 @@
 // Reading values from JSON, each with the first fault and its place.
-ghost use Rattle.std.specs.Prelude.{◌≡◌, ℕ, Result, IfOk, length};
-ghost use Rattle.std.specs.List.{list_any};
+ghost use Rattle.std.specs.Prelude.{◌≡◌, ℕ, Result, IfOk, length, is_some};
+ghost use Rattle.std.specs.List.{list_any, position};
 ghost use Rattle.std.specs.Str.{bytes_eq};
 ghost use Rattle.serde_json.specs.Data.{Data};
 ghost use Rattle.grid_value.specs.View.{view, items_view, members_view, items_len};
@@ -129,27 +129,35 @@ pub fn object(alloc: Global, value: &Value) -> Result<(), ReadError>
     }
 }
 
-/// Whether the name is among those given. The one at `likely` is looked at first.
-fn is_among(names: &[&str], name: &str, likely: usize) -> bool
-    ensures { result ≡ list_any (λ known. bytes_eq known.now name.now) names.now }
+/// The first place of the name among those given.
+fn first_place(names: &[&str], name: &str) -> Option<usize>
+    ensures { result ≡ position (λ known. bytes_eq known.now name.now) names.now }
 {
-    if likely < names.len() && same_text(names[likely], name) {
-        return true;
-    }
-    names.iter().any(|known| same_text(known, name))
+    names.iter().position(|known| same_text(known, name))
 }
 
-/// Whether each member's name is among those given. Most objects have their members in the order in which the names stand.
+/// A place of the name among those given. The one at `likely` is looked at first.
+fn place_of(names: &[&str], name: &str, likely: usize) -> Option<usize>
+    ensures { is_some result ≡ list_any (λ known. bytes_eq known.now name.now) names.now }
+{
+    if likely < names.len() && same_text(names[likely], name) {
+        return Some(likely);
+    }
+    first_place(names, name)
+}
+
+/// Whether each member's name is among those given. Most objects have their members in the order in which the names stand,
+/// so that the name before the one that was found is the likely one of the member before it.
 fn has_only(names: &[&str], members: &Members) -> bool
     ensures { result ≡ all_known (texts names.now) (members_view members.now) }
 {
     let mut left = *members;
-    let mut place = 0usize;
-    while let Some((name, _)) = left.next() {
-        if !is_among(names, name, place) {
-            return false;
+    let mut behind = names.len();
+    while let Some((name, _)) = left.next_back() {
+        match place_of(names, name, behind.saturating_sub(1)) {
+            Some(place) => behind = place,
+            None => return false,
         }
-        place = place.saturating_add(1);
     }
     true
 }

@@ -4,9 +4,9 @@ ghost use Rattle.grid_value.specs.View.{inside, name_of, before};
 
 use crate::number::Number;
 
-/// A part of a JSON value: a value, or the name of the member whose value stands before it. The items of an array and the
-/// members of an object stand behind it, in the order of the text, and it says how many nodes they are. A name says how many
-/// nodes its value is, so that members can be gone through from the last.
+/// A part of a JSON value: a value, or the name of the member whose value stands before it. The items of an array and
+/// the members of an object stand behind it, in the order of the text, and it says how many nodes they are. A name says
+/// how many nodes its value is, so that members can be gone through from the last.
 #[derive(Clone, Copy, Debug, Drop)]
 pub enum Node<'t> {
     Null,
