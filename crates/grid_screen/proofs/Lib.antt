@@ -26,5 +26,6 @@ pub mod Sitings
 pub mod Stands
 pub mod Stepped
 pub mod Threaded
+pub mod Tripping
 pub mod Written
 pub mod Zoned

@@ -32,7 +32,7 @@ read_at [] i x e = cc
 read_at (y ∷ ys) zero x e = cc
 read_at (y ∷ ys) (suc i) x e = read_at ys i x e
 
-filter_last : {X : Type 0} (p : X → Bool) (xs : List X) (x : X) → filter p (xs ++ x ∷ []) ≡ filter p xs ++ cond (p x) (x ∷ []) []
+pub filter_last : {X : Type 0} (p : X → Bool) (xs : List X) (x : X) → filter p (xs ++ x ∷ []) ≡ filter p xs ++ cond (p x) (x ∷ []) []
 filter_last p [] x = refl
 filter_last {X} p (y ∷ ys) x = by (p y) (filter_last p ys x)
   where
@@ -96,7 +96,7 @@ zone_before net touched place = filter (hits touched) (flat_map level_sites (tak
 abbrev numbered : {X : Type 0} → ℕ → X → Option (ℕ × X)
 numbered n x = Some (n, x)
 
-enumerate_got : {X : Type 0} (xs : List X) (low k : ℕ) (x : X) → slice_get xs k ≡ Some x → slice_get (enumerate_from low xs) k ≡ Some (low + k, x)
+pub enumerate_got : {X : Type 0} (xs : List X) (low k : ℕ) (x : X) → slice_get xs k ≡ Some x → slice_get (enumerate_from low xs) k ≡ Some (low + k, x)
 enumerate_got [] low k x e = cc
 enumerate_got (y ∷ ys) low zero x e = let same : y ≡ x = cc in let here : low ≡ low + 0 = omega arith in rw (same, ← here) refl
 enumerate_got {X} (y ∷ ys) low (suc k) x e =

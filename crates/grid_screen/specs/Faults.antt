@@ -1,12 +1,19 @@
--- What a fault hits: its zone. The rules are this project's own.
-use Rattle.std.specs.Prelude.{◌≡◌, Bool, List, flat_map}
+-- What a fault does to a state: its zone, and the breakers that trip. The rules are this project's own.
+use Rattle.std.specs.Prelude.{◌≡◌, ℕ, Bool, not, ◌&&◌, ◌||◌, ◌==◌, List, map, filter, flat_map}
+use Rattle.std.specs.List.{enumerate_from, list_any}
+use Rattle.grid_ids.specs.Name.{has_id}
+use Rattle.grid_level.specs.declared.Switch.{Switch}
+use Rattle.grid_level.specs.VoltageLevel.{VoltageLevel}
+use Rattle.grid_level.specs.Passing.{is_operable}
 use Rattle.grid_structure.specs.declared.Site.{Site}
+use Rattle.grid_structure.specs.declared.SwitchAt.{SwitchAt}
+use Rattle.grid_structure.specs.Sites.{levels, switch_spot}
 use Rattle.grid_core.specs.declared.case.Case.{Case}
-use Rattle.grid_core.specs.Solo.{State}
+use Rattle.grid_core.specs.Solo.{State, positioned_at}
 use Rattle.grid_screen.specs.declared.faults.FaultCase.{FaultCase}
 use Rattle.grid_screen.specs.Findings.{state_in}
 use Rattle.grid_screen.specs.Outages.{state_without}
-use Rattle.grid_screen.specs.Zones.{sites_of, fault_ties, zone_over}
+use Rattle.grid_screen.specs.Zones.{site_at, sites_of, fault_ties, zone_over}
 
 -- ---- the zone
 
@@ -21,7 +28,42 @@ zone_from state before fault = zone_over state.structure (fault_ties before.stru
 unfoldable pub zone_of : State → FaultCase → List Site
 zone_of state fault = zone_from state (before_fault state fault) fault
 
+-- ---- the breakers that trip
+
+abbrev pub same_site : Site → Site → Bool
+same_site a b = (a.level == b.level) && (a.node == b.node)
+
+-- the node of the level at a place is in the zone
+unfoldable pub in_zone : List Site → ℕ → ℕ → Bool
+in_zone zone level node = list_any (same_site (site_at level node)) zone
+
+-- a closed operable breaker that is neither stuck nor hit
+unfoldable pub can_trip : List (List ℕ) → List (List ℕ) → Switch → Bool
+can_trip stuck hit s = not s.opened && (is_operable s && (not (has_id stuck s.id) && not (has_id hit s.id)))
+
+-- such a one with one of these nodes
+unfoldable pub trips : List (List ℕ) → List (List ℕ) → (ℕ → Bool) → Switch → Bool
+trips stuck hit inside s = can_trip stuck hit s && (inside s.node1 || inside s.node2)
+
+-- where the switches of the level at a place are of which the test holds, by place
+unfoldable pub spots_that : (Switch → Bool) → ℕ → List Switch → List SwitchAt
+spots_that test level switches = map (λ s. switch_spot (level, s.0)) (filter (λ s. test s.1) (enumerate_from 0 switches))
+
+-- those of a level by its place, its switches in the positions before the fault
+unfoldable pub tripped_in : State → FaultCase → List Site → ℕ × VoltageLevel → List SwitchAt
+tripped_in before fault zone at = spots_that (trips fault.stuck fault.fault (in_zone zone at.0)) at.0 (positioned_at before at.0 at.1).switches
+
+-- by place of level, then by place there
+unfoldable pub tripped_from : State → FaultCase → List Site → List SwitchAt
+tripped_from before fault zone = flat_map (tripped_in before fault zone) (enumerate_from 0 (levels before.structure))
+
+unfoldable pub tripped_of : State → FaultCase → List SwitchAt
+tripped_of state fault = tripped_from (before_fault state fault) fault (zone_of state fault)
+
 -- ---- what is said of a case
 
 abbrev pub IsZone : Case → FaultCase → List Site → Type 0
 IsZone case fault zone = (retained : List (List Bool)) → zone ≡ zone_of (state_in case retained) fault
+
+abbrev pub AreTripped : Case → FaultCase → List SwitchAt → Type 0
+AreTripped case fault tripped = (retained : List (List Bool)) → tripped ≡ tripped_of (state_in case retained) fault

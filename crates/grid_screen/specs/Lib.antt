@@ -15,5 +15,6 @@ pub mod Walks
 pub mod Zones
 pub mod Faults
 pub mod Listing
+pub mod Opening
 pub mod Scenes
 pub mod FaultLaws

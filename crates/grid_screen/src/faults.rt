@@ -1,7 +1,7 @@
-//! Faults, and the sites that they are at.
+//! Faults, the sites that they are at, and the breakers that protection opens.
 
 use grid_ids::{Ids, Seq};
-use grid_structure::Site;
+use grid_structure::{Site, SwitchAt};
 
 /// A fault that comes when some ids are out: what it hits, and the breakers that fail to open. Several ids that are hit
 /// are one event. The rules are this project's own.
@@ -17,3 +17,6 @@ pub struct FaultCase {
 
 /// The sites that a fault is at, by place of level, then by rising node.
 pub type Zone = Seq<Site>;
+
+/// Where the breakers are that protection opens, by place of level, then by place there.
+pub type Breakers = Seq<SwitchAt>;

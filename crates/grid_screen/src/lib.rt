@@ -15,6 +15,7 @@ mod present;
 mod read;
 mod scene;
 mod screening;
+pub mod tripped;
 mod walk;
 mod write;
 pub mod zone;

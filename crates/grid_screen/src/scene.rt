@@ -44,8 +44,8 @@ impl<'a> Model for Scene<'a> {
         (shown_rows s.changes.items s.states.now) s.stuck) };
 }
 
-// The ids of a list, to look them up in.
-fn set_of(alloc: Global, ids: &[Id]) -> Result<SeenIds, Memory>
+/// The ids of a list, to look them up in.
+pub(crate) fn set_of(alloc: Global, ids: &[Id]) -> Result<SeenIds, Memory>
     ensures { IfOk result (λ set. Knows set ids.now) }
 {
     let mut set = SeenIds::empty(alloc);

@@ -38,7 +38,7 @@ pub(crate) struct Walk<'a> {
     pub work: Ids,
 }
 
-// Whether the switch is a breaker that is not fictitious.
+/// Whether the switch is a breaker that is not fictitious.
 #[tactic(auto, unfolding(grid_level::specs::Passing::is_operable, grid_level::specs::Passing::is_breaker))]
 pub(crate) fn is_operable(switch: &Switch) -> bool
     ensures { result ≡ passing.is_operable switch.now }
@@ -145,8 +145,8 @@ fn take_touched<'a>(
     }
 }
 
-// The label of a node.
-fn label_at(touched: &Touched, node: u16) -> u32
+/// The label of a node.
+pub(crate) fn label_at(touched: &Touched, node: u16) -> u32
     requires node { IsTrue (among (nodes touched.now.level.now) node) }
     requires long { length touched.now.labels.items ≡ length (nodes touched.now.level.now) }
     ensures { result ≡ label_in touched.now node }
