@@ -2,6 +2,7 @@ pub mod Again
 pub mod Buses
 pub mod Cases
 pub mod Changing
+pub mod Clearings
 pub mod Closed
 pub mod Counted
 pub mod Ended

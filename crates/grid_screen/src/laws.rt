@@ -1,6 +1,6 @@
 //! Laws of cases, each the contract of a function that does nothing.
 
-ghost use Rattle.grid_screen.specs.FaultLaws.{FailureSpreads, ZoneIsLeast};
+ghost use Rattle.grid_screen.specs.FaultLaws.{ClearedIsOutage, FailureSpreads, ZoneIsLeast};
 ghost use Rattle.grid_screen.specs.Laws.{CasesFit};
 
 /// What a live variant stands at can be screened: it has one row per level and one flag per switch of its structure.
@@ -16,4 +16,9 @@ pub fn zone_is_least()
 /// With more breakers that fail, the zone has all sites that it had.
 pub fn failure_spreads()
     ensures { FailureSpreads }
+{}
+
+/// What is left when a fault is cleared is what an outage leaves of the ids that were out, followed by those of `clearing`.
+pub fn cleared_is_outage()
+    ensures { ClearedIsOutage }
 {}

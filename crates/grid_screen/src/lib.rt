@@ -5,6 +5,7 @@
 ghost use Rattle.std.proofs.Common.{rules};
 
 mod alike;
+pub mod clearing;
 mod counting;
 pub mod faults;
 pub mod find;

@@ -1,4 +1,4 @@
-use Rattle.std.proofs.Common.{sym, ap, ◌∙◌, true, false, arith, get_or, ◌||◌}
+use Rattle.std.proofs.Common.{sym, ap, ◌∙◌, true, false, arith, get_or}
 use Rattle.grid_level.specs.Passing.{positioned}
 use Rattle.grid_states.specs.Rows.{row_at}
 use Rattle.grid_screen.specs.Faults.{can_trip, trips}
