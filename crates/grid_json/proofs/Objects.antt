@@ -1,6 +1,5 @@
 -- Names of members, tested one by one in the code and in the specification.
 use Rattle.std.proofs.Common.{◌≡◌, ℕ, List, [], ◌∷◌, ◌++◌, Bool, true, false, ◌&&◌, ◌||◌, refl, sym, Bor, ap, ◌∙◌, Ordering, Less, Equal, Greater, nat_cmp, is_eq}
-use Rattle.std.specs.Prelude.{map}
 use Rattle.std.specs.List.{list_any, list_all}
 use Rattle.std.proofs.lemmas.List.Folds.{list_all-append}
 use Rattle.std.specs.Ordering.{match_ordering}

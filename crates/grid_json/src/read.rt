@@ -146,8 +146,8 @@ fn place_of(names: &[&str], name: &str, likely: usize) -> Option<usize>
     first_place(names, name)
 }
 
-/// Whether each member's name is among those given. Most objects have their members in the order in which the names stand,
-/// so that the name before the one that was found is the likely one of the member before it.
+/// Whether each member's name is among those given. Most objects have their members in the order in which the names
+/// stand, so that the name before the one that was found is the likely one of the member before it.
 fn has_only(names: &[&str], members: &Members) -> bool
     ensures { result ≡ all_known (texts names.now) (members_view members.now) }
 {

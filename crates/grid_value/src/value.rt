@@ -8,9 +8,9 @@ use crate::node::Node;
 use crate::number::Number;
 use crate::text::same_text;
 
-/// A JSON value. Its texts and its members' names are lent by the text that it was read from, or by the scratch where they
-/// were written with escapes. It is seen as the data that `serde_json` reads of the same text: of members of one name the
-/// last counts.
+/// A JSON value. Its texts and its members' names are lent by the text that it was read from, or by the scratch where
+/// they were written with escapes. It is seen as the data that `serde_json` reads of the same text: of members of one
+/// name the last counts.
 #[derive(Clone, Copy, Debug, Drop)]
 pub struct Value<'v, 't> {
     pub(crate) head: Node<'t>,

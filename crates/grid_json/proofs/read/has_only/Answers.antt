@@ -1,8 +1,6 @@
-use Rattle.std.proofs.Common.{◌≡◌, ◌∷◌, Bool, true, false, sym, ap, ◌∙◌, arith}
+use Rattle.std.proofs.Common.{◌≡◌, true, false, sym, ap, ◌∙◌}
 use Rattle.std.specs.Prelude.{is_some}
-use Rattle.std.specs.List.{list_any}
-use Rattle.std.specs.Str.{bytes_eq}
-use Rattle.grid_value.specs.View.{view, listed}
+use Rattle.grid_value.specs.View.{listed}
 use Rattle.grid_json.specs.Reading.{knows, texts}
 use Rattle.grid_json.proofs.Objects.{knows_is, are_known, has_only_is, last_known, last_unknown}
 use Rattle.grid_json.proofs.read.has_only.Goals as goal
