@@ -5,6 +5,7 @@ use grid_cli::grid;
 use grid_forms::Status;
 use grid_lines::{Around, Fault, ending, usage_text};
 use grid_manager::Idle;
+use grid_report::Text;
 use grid_source::{KeepingSource, StdSink, StdSource};
 use std::io::Read;
 use std::process::ExitCode;
@@ -72,6 +73,13 @@ fn exit_with(rt: &HostRuntime, words: Option<&[String]>, status: Status, input: 
     ExitCode::from(code)
 }
 
+/// Puts the warning of a run on standard error, where there is one.
+fn warn(rt: &HostRuntime, warning: &Text) {
+    if let Ok(line) = std::str::from_utf8(warning.as_bytes()) {
+        let _ = eprint!(rt; "{line}");
+    }
+}
+
 fn main(rt: HostRuntime) -> ExitCode {
     let words = match words_of(&rt) {
         Ok(words) => words,
@@ -79,6 +87,7 @@ fn main(rt: HostRuntime) -> ExitCode {
     };
     let mut source = KeepingSource::new(rt.alloc(), StdSource::new(rt.reader()));
     let mut sink = StdSink::new(io::writer(&rt));
+    let mut warning = Text::empty(rt.alloc());
     let status = grid(
         &rt,
         rt.alloc(),
@@ -86,7 +95,9 @@ fn main(rt: HostRuntime) -> ExitCode {
         &mut source,
         &mut sink,
         &Idle,
+        &mut warning,
     );
+    warn(&rt, &warning);
     let input = source.kept().unwrap_or(&[]);
     exit_with(&rt, Some(words.as_slice()), status, input)
 }

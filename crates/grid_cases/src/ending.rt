@@ -4,6 +4,7 @@ use grid_cli::grid;
 use grid_forms::Status;
 use grid_lines::{Around, ending};
 use grid_manager::Idle;
+use grid_report::Text;
 use grid_source::{KeepingSource, SureSink, SureSource};
 use std::alloc::Global;
 use std::io;
@@ -19,6 +20,8 @@ pub(crate) struct Ending {
     pub(crate) output: String,
     /// The line on standard error, or no text.
     pub(crate) line: String,
+    /// The warning on standard error, or no text.
+    pub(crate) warning: String,
 }
 
 /// The place of a fault, and the name of its reason.
@@ -61,6 +64,7 @@ pub(crate) fn run<R: Threads + Wait + Sync>(
     let list = words_of(alloc, words)?;
     let mut source = KeepingSource::new(alloc, SureSource::new(job, 4096));
     let mut sink = SureSink::new(Vec::new(alloc), 4096);
+    let mut warning = Text::empty(alloc);
     let status = grid(
         threads,
         alloc,
@@ -68,6 +72,7 @@ pub(crate) fn run<R: Threads + Wait + Sync>(
         &mut source,
         &mut sink,
         &Idle,
+        &mut warning,
     );
     let fault = fault_of(alloc, &status)?;
     let (number, line) = told(alloc, list.as_slice(), status, source.kept().unwrap_or(&[]))?;
@@ -76,5 +81,6 @@ pub(crate) fn run<R: Threads + Wait + Sync>(
         fault,
         output: String::from_utf8_lossy(alloc, sink.bytes())?,
         line,
+        warning: String::from_utf8_lossy(alloc, warning.as_bytes().trim_ascii_end())?,
     })
 }

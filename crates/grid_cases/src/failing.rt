@@ -3,6 +3,7 @@ use crate::words::words_of;
 use grid_cli::grid;
 use grid_forms::Status;
 use grid_manager::Idle;
+use grid_report::Text;
 use grid_source::{MemorySink, MemorySource, SureSink, SureSource};
 use std::alloc::Global;
 use std::io;
@@ -25,6 +26,7 @@ fn with_a_read_failing<R: Threads + Wait + Sync>(
     fails.push(call)?;
     let mut source = MemorySource::new(job.to_vec(alloc)?, 7, fails);
     let mut sink = SureSink::new(Vec::new(alloc), 4096);
+    let mut warning = Text::empty(alloc);
     let status = grid(
         threads,
         alloc,
@@ -32,6 +34,7 @@ fn with_a_read_failing<R: Threads + Wait + Sync>(
         &mut source,
         &mut sink,
         &Idle,
+        &mut warning,
     );
     Ok((status, sink.bytes().to_vec(alloc)?))
 }
@@ -50,6 +53,7 @@ fn with_a_write_failing<R: Threads + Wait + Sync>(
     let mut source = SureSource::new(job.to_vec(alloc)?, 4096);
     let room = Vec::with_capacity(alloc, 65_536)?;
     let mut sink = MemorySink::new(room, 10, fails);
+    let mut warning = Text::empty(alloc);
     let status = grid(
         threads,
         alloc,
@@ -57,6 +61,7 @@ fn with_a_write_failing<R: Threads + Wait + Sync>(
         &mut source,
         &mut sink,
         &Idle,
+        &mut warning,
     );
     Ok((status, sink.bytes().to_vec(alloc)?))
 }

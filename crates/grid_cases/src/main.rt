@@ -1,5 +1,5 @@
 //! Runs whole jobs by the top call. Each folder of `data/` is a case: the words, the job, and the exit status, the output and
-//! the line on standard error that they must give, and for a job with a fault also its place and reason. Then come what is
+//! the line or the warning on standard error that they must give, and for a job with a fault also its place and reason. Then come what is
 //! told by many calls each: broken input, sources and sinks that fail, the pieces of a long output, a run on threads that is
 //! replayed by its order, and many contingencies at once.
 #![tactic(auto)]
@@ -60,6 +60,7 @@ fn wanted_of(rt: &HostRuntime, name: &str) -> io::Result<Ending> {
         fault: line_of(rt, name, "fault")?,
         output: fs::read_to_string(rt, output.as_str())?,
         line: line_of(rt, name, "line")?,
+        warning: line_of(rt, name, "warning")?,
     })
 }
 
@@ -78,6 +79,7 @@ fn difference<R: Threads + Wait + Sync>(
         ("fault", &got.fault, &wanted.fault),
         ("output", &got.output, &wanted.output),
         ("line", &got.line, &wanted.line),
+        ("warning", &got.warning, &wanted.warning),
     ] {
         let place = first_difference(rt.alloc(), got.as_str(), wanted.as_str())?;
         if !place.is_empty() {

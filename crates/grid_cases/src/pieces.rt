@@ -1,6 +1,7 @@
 // The pieces in which an output is handed out.
 use crate::words::words_of;
 use grid_cli::grid_once;
+use grid_report::Text;
 use grid_source::{Failed, Sink, SureSource};
 use std::alloc::Global;
 use std::io;
@@ -38,6 +39,13 @@ pub(crate) fn pieces_of(alloc: Global, job: Vec<u8>) -> io::Result<Vec<usize>> {
         sizes: Vec::new(alloc),
         faults: 0,
     };
-    grid_once(alloc, words.as_slice(), &mut source, &mut sink);
+    let mut warning = Text::empty(alloc);
+    grid_once(
+        alloc,
+        words.as_slice(),
+        &mut source,
+        &mut sink,
+        &mut warning,
+    );
     Ok(sink.sizes)
 }

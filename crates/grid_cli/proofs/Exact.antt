@@ -25,24 +25,24 @@ decided form bytes b left' r =
 -- a form that reads
 abbrev pub Reads : Form → Type 0
 Reads Check = ⊤
-Reads Replay = ⊤
-Reads Run = ⊤
+Reads (Replay layout) = ⊤
+Reads (Run layout) = ⊤
 Reads Print = ⊤
-Reads Hvdc = ⊤
-Reads Screen = ⊤
-Reads Configured = ⊤
+Reads (Hvdc layout) = ⊤
+Reads (Screen layout) = ⊤
+Reads (Configured layout) = ⊤
 Reads (Make seed size) = ⊥
 Reads (Trial seed size) = ⊥
 
 -- where it has an output, the bytes have no fault
 job_there : (form : Form) (b text : List ℕ) → Reads form → IsOutput form b text → status_for (fault_of form b) ≡ statuses.Done
 job_there Check b text r o = ap (λ read. status_for (fault_in read)) o.1
-job_there Replay b text r o = ap (λ read. status_for (fault_in read)) o.1
-job_there Run b text r o = ap (λ read. status_for (fault_in read)) o.1
+job_there (Replay layout) b text r o = ap (λ read. status_for (fault_in read)) o.1
+job_there (Run layout) b text r o = ap (λ read. status_for (fault_in read)) o.1
 job_there Print b text r o = ap (λ read. status_for (fault_in read)) o.1
-job_there Hvdc b text r o = ap (λ read. status_for (fault_in read)) o.1
-job_there Screen b text r o = ap (λ read. status_for (fault_in read)) o.1
-job_there Configured b text r o = ap (λ read. status_for (fault_in read)) o.1
+job_there (Hvdc layout) b text r o = ap (λ read. status_for (fault_in read)) o.1
+job_there (Screen layout) b text r o = ap (λ read. status_for (fault_in read)) o.1
+job_there (Configured layout) b text r o = ap (λ read. status_for (fault_in read)) o.1
 job_there (Make seed size) b text r o = absurd r
 job_there (Trial seed size) b text r o = absurd r
 
@@ -73,12 +73,12 @@ written text left left' old new (statuses.BadJob place reason) o = absurd o.1
 
 exact_form : (form : Form) (bytes : List ℕ) (left' old new : Option (List ℕ)) (s : Status) → Outcome (Some form) (Some bytes) left' old new s → IsWanted (wanted form bytes) s
 exact_form Check bytes left' old new s o = exact_some Check bytes left' old new s tt o
-exact_form Replay bytes left' old new s o = exact_some Replay bytes left' old new s tt o
-exact_form Run bytes left' old new s o = exact_some Run bytes left' old new s tt o
+exact_form (Replay layout) bytes left' old new s o = exact_some (Replay layout) bytes left' old new s tt o
+exact_form (Run layout) bytes left' old new s o = exact_some (Run layout) bytes left' old new s tt o
 exact_form Print bytes left' old new s o = exact_some Print bytes left' old new s tt o
-exact_form Hvdc bytes left' old new s o = exact_some Hvdc bytes left' old new s tt o
-exact_form Screen bytes left' old new s o = exact_some Screen bytes left' old new s tt o
-exact_form Configured bytes left' old new s o = exact_some Configured bytes left' old new s tt o
+exact_form (Hvdc layout) bytes left' old new s o = exact_some (Hvdc layout) bytes left' old new s tt o
+exact_form (Screen layout) bytes left' old new s o = exact_some (Screen layout) bytes left' old new s tt o
+exact_form (Configured layout) bytes left' old new s o = exact_some (Configured layout) bytes left' old new s tt o
 exact_form (Make seed size) bytes left' old new s o = written (made_text seed size) (Some bytes) left' old new s o
 exact_form (Trial seed size) bytes left' old new s o = written (trial_text seed size) (Some bytes) left' old new s o
 

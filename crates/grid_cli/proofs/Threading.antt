@@ -10,12 +10,13 @@ use Rattle.grid_core.specs.History.{History, Command, asked_by}
 use Rattle.grid_json.specs.declared.whole.Job.{Job}
 use Rattle.grid_report.specs.declared.pieces.ReportFault.{ReportFault}
 use Rattle.grid_report.specs.declared.outcome.Outcome.{Outcome}
-use Rattle.grid_report.specs.Outcomes.{report_of}
-use Rattle.grid_report.specs.Histories.{AsksScripts, IsOrder, history_of, outcome_of, script_of, told_order, steps_of, report_text}
+use Rattle.grid_report.specs.Histories.{AsksScripts, IsOrder, history_of, outcome_of, script_of, told_order, steps_of}
 use Rattle.grid_report.proofs.Begun.{at_start}
 use Rattle.grid_report.proofs.Ordered.{counted, steps_told}
 use Rattle.grid_workers.specs.Runs.{IsRun}
+use Rattle.grid_forms.specs.declared.words.Layout.{Layout}
 use Rattle.grid_forms.specs.declared.status.Status.TheVariants as statuses
+use Rattle.grid_cli.specs.Layouts.{outcome_text}
 use Rattle.grid_cli.specs.Orders.{IsScheduled, order_of, replay_text}
 use Rattle.grid_cli.specs.Once.{Writes, WritesReport, status_after}
 use Rattle.grid_cli.specs.Threaded.{IsOutcomeOf}
@@ -50,11 +51,10 @@ came_of_run job history came run is =
 -- ---- what was written
 
 -- where nothing was written yet
-pub unwritten : (job : Job) (old : Option (List ℕ)) → IsScheduled job → WritesReport job old old statuses.NoMemory
+pub unwritten : (layout : Layout) (job : Job) (old : Option (List ℕ)) → IsScheduled job → WritesReport layout job old old statuses.NoMemory
 unfolding replay_text
-unwritten job old scheduled = (replay_text job, (order_of job, scheduled.ordered, refl), at_start old (replay_text job))
+unwritten layout job old scheduled = (replay_text layout job, (order_of job, scheduled.ordered, refl), at_start old (replay_text layout job))
 
-pub reported : (job : Job) (came : Outcome) (wrote : Result (Unit {0}) ReportFault) (old new : Option (List ℕ)) → IsOutcomeOf job came → OnOk wrote (Appends old new (report_of came)) → OnErr wrote (IsBegun old (report_of came) new)
-    → WritesReport job old new (status_after wrote)
-unfolding report_text
-reported job came wrote old new is ok err = (report_of came, (is.0, is.1, ap report_of is.2), handed wrote (report_of came) old new ok err)
+pub reported : (layout : Layout) (job : Job) (came : Outcome) (wrote : Result (Unit {0}) ReportFault) (old new : Option (List ℕ)) → IsOutcomeOf job came → OnOk wrote (Appends old new (outcome_text layout came)) → OnErr wrote (IsBegun old (outcome_text layout came) new)
+    → WritesReport layout job old new (status_after wrote)
+reported layout job came wrote old new is ok err = (outcome_text layout came, (is.0, is.1, ap (outcome_text layout) is.2), handed wrote (outcome_text layout came) old new ok err)

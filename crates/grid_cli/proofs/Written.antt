@@ -6,8 +6,7 @@ use Rattle.grid_source.specs.Whole.{IsBegun}
 use Rattle.grid_report.specs.declared.pieces.ReportFault.{ReportFault}
 use Rattle.grid_report.specs.declared.pieces.ReportFault.TheVariants.{Stopped, Memory}
 use Rattle.grid_report.specs.declared.outcome.Outcome.{Outcome}
-use Rattle.grid_report.specs.Outcomes.{report_of}
-use Rattle.grid_report.specs.Histories.{history_of, outcome_of, report_text}
+use Rattle.grid_report.specs.Histories.{history_of, outcome_of}
 use Rattle.grid_json.specs.declared.whole.Job.{Job}
 use Rattle.grid_json.specs.declared.whole.JobFault.{JobFault}
 use Rattle.grid_json.specs.declared.whole.JobFault.TheVariants as jobs
@@ -15,12 +14,14 @@ use Rattle.grid_json.specs.Whole.{job_of, JobGives}
 use Rattle.grid_hvdc.specs.declared.HvdcJob.{HvdcJob}
 use Rattle.grid_screen.specs.declared.ScreenJob.{ScreenJob}
 use Rattle.grid_configured.specs.declared.network.ConfiguredJob.{ConfiguredJob}
+use Rattle.grid_forms.specs.declared.words.Layout.{Layout}
 use Rattle.grid_forms.specs.declared.words.Form.{Form}
 use Rattle.grid_forms.specs.declared.words.Form.TheVariants.{Check, Replay, Run, Print, Hvdc, Screen, Configured}
 use Rattle.grid_cli.specs.declared.once.Answer.{Answer}
 use Rattle.grid_cli.specs.declared.once.Answer.TheVariants as answers
 use Rattle.grid_forms.specs.declared.status.Status.{Status}
 use Rattle.grid_forms.specs.declared.status.Status.TheVariants as statuses
+use Rattle.grid_cli.specs.Layouts.{outcome_text}
 use Rattle.grid_cli.specs.Orders.{order_of, replay_text}
 use Rattle.grid_cli.specs.Hvdc.{hvdc_text}
 use Rattle.grid_cli.specs.Screen.{screen_text}
@@ -38,19 +39,19 @@ calm (Ok done) before now stays told = stays (λ is. absurd (cc))
 calm (Err Stopped) before now stays told = absurd (told refl)
 calm (Err Memory) before now stays told = stays (λ is. absurd (cc))
 
--- the report of a job that was run
-pub reported : (job : Job) (came : Outcome) (written : Result (Unit {0}) ReportFault) (old new : Option (List ℕ)) → came ≡ outcome_of (history_of job.network job.scripts (order_of job)) job.filters
-    → OnOk written (Appends old new (report_of came)) → OnErr written (IsBegun old (report_of came) new) → Writes (replay_text job) old new (status_after written)
-unfolding replay_text report_text
-reported job came written old new is ok err =
-    let text : report_of came ≡ replay_text job = ap report_of is in
-    subst (λ t. Writes t old new (status_after written)) text (handed written (report_of came) old new ok err)
+-- what is written of a job that was run
+pub reported : (layout : Layout) (job : Job) (came : Outcome) (written : Result (Unit {0}) ReportFault) (old new : Option (List ℕ)) → came ≡ outcome_of (history_of job.network job.scripts (order_of job)) job.filters
+    → OnOk written (Appends old new (outcome_text layout came)) → OnErr written (IsBegun old (outcome_text layout came) new) → Writes (replay_text layout job) old new (status_after written)
+unfolding replay_text
+reported layout job came written old new is ok err =
+    let text : outcome_text layout came ≡ replay_text layout job = ap (outcome_text layout) is in
+    subst (λ t. Writes t old new (status_after written)) text (handed written (outcome_text layout came) old new ok err)
 
 -- the output for the job that was read
 told : (answer : Answer) (bytes : List ℕ) (job : Job) → job_of bytes ≡ Ok job → IsOutput (form_for answer) bytes (text_of answer job)
 unfolding text_of
 told answers.Counts bytes job read = (job, read, refl)
-told answers.Report bytes job read = (job, read, refl)
+told (answers.Outcome layout) bytes job read = (job, read, refl)
 told answers.Network bytes job read = (job, read, refl)
 
 -- what a form writes for the bytes that were read
@@ -70,20 +71,20 @@ pub answered : (answer : Answer) (left left' old new : Option (List ℕ)) (job :
 answered answer left left' old new job status r w = wrote (form_for answer) left left' old new r.0 (text_of answer job) status r.1 (told answer r.0 job r.2) w
 
 -- the report of some order was written of a job that was read
-pub ran : (left left' old new : Option (List ℕ)) (job : Job) (status : Status) → ReadsJob left left' job → WritesReport job old new status → OutcomeOf Run left left' old new status
-ran left left' old new job status r w = wrote Run left left' old new r.0 w.0 status r.1 (job, r.2, w.1) w.2
+pub ran : (layout : Layout) (left left' old new : Option (List ℕ)) (job : Job) (status : Status) → ReadsJob left left' job → WritesReport layout job old new status → OutcomeOf (Run layout) left left' old new status
+ran layout left left' old new job status r w = wrote (Run layout) left left' old new r.0 w.0 status r.1 (job, r.2, w.1) w.2
 
 -- the components were written of a job with HVDC lines that was read
-pub numbered : (left left' old new : Option (List ℕ)) (job : HvdcJob) (status : Status) → ReadsHvdc left left' job → Writes (hvdc_text job) old new status → OutcomeOf Hvdc left left' old new status
-numbered left left' old new job status r w = wrote Hvdc left left' old new r.0 (hvdc_text job) status r.1 (job, r.2, refl) w
+pub numbered : (layout : Layout) (left left' old new : Option (List ℕ)) (job : HvdcJob) (status : Status) → ReadsHvdc left left' job → Writes (hvdc_text layout job) old new status → OutcomeOf (Hvdc layout) left left' old new status
+numbered layout left left' old new job status r w = wrote (Hvdc layout) left left' old new r.0 (hvdc_text layout job) status r.1 (job, r.2, refl) w
 
 -- the findings were written of a job with contingencies that was read
-pub screened : (left left' old new : Option (List ℕ)) (job : ScreenJob) (status : Status) → ReadsScreen left left' job → Writes (screen_text job) old new status → OutcomeOf Screen left left' old new status
-screened left left' old new job status r w = wrote Screen left left' old new r.0 (screen_text job) status r.1 (job, r.2, refl) w
+pub screened : (layout : Layout) (left left' old new : Option (List ℕ)) (job : ScreenJob) (status : Status) → ReadsScreen left left' job → Writes (screen_text layout job) old new status → OutcomeOf (Screen layout) left left' old new status
+screened layout left left' old new job status r w = wrote (Screen layout) left left' old new r.0 (screen_text layout job) status r.1 (job, r.2, refl) w
 
 -- the report was written of a job with configured buses that was read
-pub configured : (left left' old new : Option (List ℕ)) (job : ConfiguredJob) (status : Status) → ReadsConfigured left left' job → Writes (configured_job_text job) old new status → OutcomeOf Configured left left' old new status
-configured left left' old new job status r w = wrote Configured left left' old new r.0 (configured_job_text job) status r.1 (job, r.2, refl) w
+pub configured : (layout : Layout) (left left' old new : Option (List ℕ)) (job : ConfiguredJob) (status : Status) → ReadsConfigured left left' job → Writes (configured_job_text layout job) old new status → OutcomeOf (Configured layout) left left' old new status
+configured layout left left' old new job status r w = wrote (Configured layout) left left' old new r.0 (configured_job_text layout job) status r.1 (job, r.2, refl) w
 
 -- nothing was read, and nothing written
 pub unread : (form : Form) (left left' old new : Option (List ℕ)) (status : Status) → ReadsNone (fault_of form) left left' status → Keeps old new → OutcomeOf form left left' old new status
@@ -98,7 +99,7 @@ unread form left left' old new statuses.NoMemory r w = inl (r, w)
 
 pub unanswered : (answer : Answer) (left left' old new : Option (List ℕ)) (status : Status) → ReadsNone job_fault left left' status → Keeps old new → OutcomeOf (form_for answer) left left' old new status
 unanswered answers.Counts left left' old new status r w = unread Check left left' old new status r w
-unanswered answers.Report left left' old new status r w = unread Replay left left' old new status r w
+unanswered (answers.Outcome layout) left left' old new status r w = unread (Replay layout) left left' old new status r w
 unanswered answers.Network left left' old new status r w = unread Print left left' old new status r w
 
 -- ---- what was read

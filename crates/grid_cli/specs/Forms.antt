@@ -7,13 +7,13 @@ use Rattle.grid_forms.specs.Words.{form_of}
 -- the form, where one thread serves it: all but `run` and `screen`
 abbrev pub on_one_thread : Option Form → Option Form
 on_one_thread None = None
-on_one_thread (Some Run) = None
-on_one_thread (Some Screen) = None
+on_one_thread (Some (Run layout)) = None
+on_one_thread (Some (Screen layout)) = None
 on_one_thread (Some Check) = Some Check
-on_one_thread (Some Replay) = Some Replay
+on_one_thread (Some (Replay layout)) = Some (Replay layout)
 on_one_thread (Some Print) = Some Print
-on_one_thread (Some Hvdc) = Some Hvdc
-on_one_thread (Some Configured) = Some Configured
+on_one_thread (Some (Hvdc layout)) = Some (Hvdc layout)
+on_one_thread (Some (Configured layout)) = Some (Configured layout)
 on_one_thread (Some (Make seed size)) = Some (Make seed size)
 on_one_thread (Some (Trial seed size)) = Some (Trial seed size)
 
@@ -27,9 +27,9 @@ ReadsNothing None = ⊤
 ReadsNothing (Some (Make seed size)) = ⊤
 ReadsNothing (Some (Trial seed size)) = ⊤
 ReadsNothing (Some Check) = ⊥
-ReadsNothing (Some Replay) = ⊥
-ReadsNothing (Some Run) = ⊥
+ReadsNothing (Some (Replay layout)) = ⊥
+ReadsNothing (Some (Run layout)) = ⊥
 ReadsNothing (Some Print) = ⊥
-ReadsNothing (Some Hvdc) = ⊥
-ReadsNothing (Some Screen) = ⊥
-ReadsNothing (Some Configured) = ⊥
+ReadsNothing (Some (Hvdc layout)) = ⊥
+ReadsNothing (Some (Screen layout)) = ⊥
+ReadsNothing (Some (Configured layout)) = ⊥

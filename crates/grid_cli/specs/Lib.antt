@@ -1,10 +1,12 @@
 pub mod Forms
 pub mod Counts
+pub mod Layouts
 pub mod Orders
 pub mod Trials
 pub mod Hvdc
 pub mod Screen
 pub mod Configured
 pub mod Once
+pub mod Warnings
 pub mod Threaded
 pub mod Views

@@ -20,6 +20,7 @@ use Rattle.grid_cli.specs.Screen.{screen_text}
 use Rattle.grid_cli.specs.Configured.{configured_job_text}
 use Rattle.grid_print.specs.Job.{job_text, network_text}
 use Rattle.grid_make.specs.MadeJob.{made_job}
+use Rattle.grid_forms.specs.declared.words.Layout.{Layout}
 use Rattle.grid_forms.specs.declared.words.Form.{Form}
 use Rattle.grid_forms.specs.declared.words.Form.TheVariants.{Check, Replay, Run, Print, Hvdc, Screen, Configured, Make, Trial}
 use Rattle.grid_cli.specs.declared.once.Answer.{Answer}
@@ -35,7 +36,7 @@ use Rattle.grid_cli.specs.Trials.{trial_text}
 -- what is written for a job on one thread
 unfoldable pub text_of : Answer → Job → List ℕ
 text_of answers.Counts job = check_text job
-text_of answers.Report job = replay_text job
+text_of (answers.Outcome layout) job = replay_text layout job
 text_of answers.Network job = network_text job.network
 
 -- the text of a made job
@@ -46,23 +47,23 @@ made_text seed size = job_text (made_job seed size)
 abbrev pub IsOfJob : (Job → Type 0) → List ℕ → Type 0
 IsOfJob P bytes = (job : Job) × (job_of bytes ≡ Ok job) × P job
 
--- the text is what a form writes for an input, of which `make` and `trial` take nothing; for `run` it is the report of some
--- order of the job, and for every other form there is one such text at most
+-- the text is what a form writes for an input, of which `make` and `trial` take nothing; for `run` it is what is
+-- written of some order of the job, and for every other form there is one such text at most
 abbrev pub IsOutput : Form → List ℕ → List ℕ → Type 0
 IsOutput Check bytes text = IsOfJob (λ job. text ≡ check_text job) bytes
-IsOutput Replay bytes text = IsOfJob (λ job. text ≡ replay_text job) bytes
-IsOutput Run bytes text = IsOfJob (λ job. IsReport job text) bytes
+IsOutput (Replay layout) bytes text = IsOfJob (λ job. text ≡ replay_text layout job) bytes
+IsOutput (Run layout) bytes text = IsOfJob (λ job. IsReport layout job text) bytes
 IsOutput Print bytes text = IsOfJob (λ job. text ≡ network_text job.network) bytes
-IsOutput Hvdc bytes text = (job : HvdcJob) × (hvdc_job_of bytes ≡ Ok job) × (text ≡ hvdc_text job)
-IsOutput Screen bytes text = (job : ScreenJob) × (screen_job_of bytes ≡ Ok job) × (text ≡ screen_text job)
-IsOutput Configured bytes text = (job : ConfiguredJob) × (configured_job_of bytes ≡ Ok job) × (text ≡ configured_job_text job)
+IsOutput (Hvdc layout) bytes text = (job : HvdcJob) × (hvdc_job_of bytes ≡ Ok job) × (text ≡ hvdc_text layout job)
+IsOutput (Screen layout) bytes text = (job : ScreenJob) × (screen_job_of bytes ≡ Ok job) × (text ≡ screen_text layout job)
+IsOutput (Configured layout) bytes text = (job : ConfiguredJob) × (configured_job_of bytes ≡ Ok job) × (text ≡ configured_job_text layout job)
 IsOutput (Make seed size) bytes text = text ≡ made_text seed size
 IsOutput (Trial seed size) bytes text = text ≡ trial_text seed size
 
 -- the form that asks for an answer
 abbrev pub form_for : Answer → Form
 form_for answers.Counts = Check
-form_for answers.Report = Replay
+form_for (answers.Outcome layout) = Replay layout
 form_for answers.Network = Print
 
 -- ---- what was read and written
@@ -92,12 +93,12 @@ configured_fault bytes = fault_in (configured_job_of bytes)
 -- of a form; `make` and `trial` read nothing
 abbrev pub fault_of : Form → List ℕ → Option JobFault
 fault_of Check bytes = job_fault bytes
-fault_of Replay bytes = job_fault bytes
-fault_of Run bytes = job_fault bytes
+fault_of (Replay layout) bytes = job_fault bytes
+fault_of (Run layout) bytes = job_fault bytes
 fault_of Print bytes = job_fault bytes
-fault_of Hvdc bytes = hvdc_fault bytes
-fault_of Screen bytes = screen_fault bytes
-fault_of Configured bytes = configured_fault bytes
+fault_of (Hvdc layout) bytes = hvdc_fault bytes
+fault_of (Screen layout) bytes = screen_fault bytes
+fault_of (Configured layout) bytes = configured_fault bytes
 fault_of (Make seed size) bytes = None
 fault_of (Trial seed size) bytes = None
 
@@ -144,9 +145,9 @@ Writes text old new statuses.WriteFault = IsBegun old text new
 Writes text old new statuses.NoMemory = IsBegun old text new
 Writes text old new other = ⊥
 
--- what was written of the report of some order of a job
-abbrev pub WritesReport : Job → Option (List ℕ) → Option (List ℕ) → Status → Type 0
-WritesReport job old new status = (text : List ℕ) × IsReport job text × Writes text old new status
+-- what was written of what came of a job in some order
+abbrev pub WritesReport : Layout → Job → Option (List ℕ) → Option (List ℕ) → Status → Type 0
+WritesReport layout job old new status = (text : List ℕ) × IsReport layout job text × Writes text old new status
 
 -- the status after a text was handed to the sink
 abbrev pub status_after : Result (Unit {0}) ReportFault → Status
@@ -176,12 +177,12 @@ Outcome None left left' old new status = (status ≡ statuses.Usage) × (left' �
 Outcome (Some (Make seed size)) left left' old new status = WritesAlone (made_text seed size) left left' old new status
 Outcome (Some (Trial seed size)) left left' old new status = WritesAlone (trial_text seed size) left left' old new status
 Outcome (Some Check) left left' old new status = OutcomeOf Check left left' old new status
-Outcome (Some Replay) left left' old new status = OutcomeOf Replay left left' old new status
-Outcome (Some Run) left left' old new status = OutcomeOf Run left left' old new status
+Outcome (Some (Replay layout)) left left' old new status = OutcomeOf (Replay layout) left left' old new status
+Outcome (Some (Run layout)) left left' old new status = OutcomeOf (Run layout) left left' old new status
 Outcome (Some Print) left left' old new status = OutcomeOf Print left left' old new status
-Outcome (Some Hvdc) left left' old new status = OutcomeOf Hvdc left left' old new status
-Outcome (Some Screen) left left' old new status = OutcomeOf Screen left left' old new status
-Outcome (Some Configured) left left' old new status = OutcomeOf Configured left left' old new status
+Outcome (Some (Hvdc layout)) left left' old new status = OutcomeOf (Hvdc layout) left left' old new status
+Outcome (Some (Screen layout)) left left' old new status = OutcomeOf (Screen layout) left left' old new status
+Outcome (Some (Configured layout)) left left' old new status = OutcomeOf (Configured layout) left left' old new status
 
 -- ---- the status that is wanted
 
@@ -201,12 +202,12 @@ abbrev pub wanted : Form → List ℕ → Status
 wanted (Make seed size) bytes = statuses.Done
 wanted (Trial seed size) bytes = statuses.Done
 wanted Check bytes = status_within Check bytes
-wanted Replay bytes = status_within Replay bytes
-wanted Run bytes = status_within Run bytes
+wanted (Replay layout) bytes = status_within (Replay layout) bytes
+wanted (Run layout) bytes = status_within (Run layout) bytes
 wanted Print bytes = status_within Print bytes
-wanted Hvdc bytes = status_within Hvdc bytes
-wanted Screen bytes = status_within Screen bytes
-wanted Configured bytes = status_within Configured bytes
+wanted (Hvdc layout) bytes = status_within (Hvdc layout) bytes
+wanted (Screen layout) bytes = status_within (Screen layout) bytes
+wanted (Configured layout) bytes = status_within (Configured layout) bytes
 
 -- A fault of the source or the sink may come in place of the status that is wanted, and so may want of memory.
 abbrev pub IsWanted : Status → Status → Type 0

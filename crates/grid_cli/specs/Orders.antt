@@ -1,8 +1,11 @@
--- The orders of a job's steps, and the report of the job in one.
+-- The orders of a job's steps, and what is written of the job in one.
 use Rattle.std.specs.Prelude.{◌≡◌, ℕ, ◌≤◌, List, length}
 use Rattle.grid_json.specs.declared.whole.Job.{Job}
 use Rattle.grid_json.specs.Job.{max_workers}
-use Rattle.grid_report.specs.Histories.{IsOrder, chosen_order, report_text}
+use Rattle.grid_report.specs.declared.outcome.Outcome.{Outcome}
+use Rattle.grid_report.specs.Histories.{IsOrder, chosen_order, history_of, outcome_of}
+use Rattle.grid_forms.specs.declared.words.Layout.{Layout}
+use Rattle.grid_cli.specs.Layouts.{outcome_text}
 
 -- the job's own order, or else the first worker's commands, then the second's and so on
 unfoldable pub order_of : Job → List ℕ
@@ -13,10 +16,14 @@ pub record IsScheduled (job : Job) : Type 0 where
   pub few : length job.scripts ≤ max_workers
   pub ordered : IsOrder job.scripts (order_of job)
 
--- the report of the job, run in its order
-unfoldable pub replay_text : Job → List ℕ
-replay_text job = report_text job.network job.scripts job.filters (order_of job)
+-- what comes of the job in an order of its steps
+abbrev pub outcome_in : Job → List ℕ → Outcome
+outcome_in job order = outcome_of (history_of job.network job.scripts order) job.filters
 
--- the text is the report of the job in some order of its steps
-abbrev pub IsReport : Job → List ℕ → Type 0
-IsReport job text = (order : List ℕ) × IsOrder job.scripts order × (text ≡ report_text job.network job.scripts job.filters order)
+-- what is written of the job, run in its order
+unfoldable pub replay_text : Layout → Job → List ℕ
+replay_text layout job = outcome_text layout (outcome_in job (order_of job))
+
+-- the text is what is written of the job in some order of its steps
+abbrev pub IsReport : Layout → Job → List ℕ → Type 0
+IsReport layout job text = (order : List ℕ) × IsOrder job.scripts order × (text ≡ outcome_text layout (outcome_in job order))

@@ -15,6 +15,6 @@ IsOutcomeOf job outcome = (order : List ℕ) × IsOrder job.scripts order × (ou
 
 -- the form is one of those that these threads serve
 abbrev pub IsServed : Option Form → Served → Type 0
-IsServed form ByWorkers = form ≡ Some Run
-IsServed form ByScreening = form ≡ Some Screen
+IsServed form (ByWorkers layout) = form ≡ Some (Run layout)
+IsServed form (ByScreening layout) = form ≡ Some (Screen layout)
 IsServed form ByOneThread = on_one_thread form ≡ form

@@ -1,6 +1,8 @@
 // The form `configured`: jobs of networks with configured buses.
-ghost use Rattle.std.specs.Prelude.{◌≡◌, ◌≢◌, ◌≤◌, Err, IfOk, IfErr, All, length};
+ghost use Rattle.std.specs.Prelude.{◌≡◌, ◌≢◌, ◌≤◌, Err, IfOk, IfErr, OnOk, OnErr, All, length};
+ghost use Rattle.std.specs.Io.KnownBytes.{Appends};
 ghost use Rattle.grid_source.specs.Causes.{Rose};
+ghost use Rattle.grid_source.specs.Whole.{IsBegun};
 ghost use Rattle.grid_json.specs.Job.{max_workers};
 ghost use Rattle.grid_report.specs.Histories as histories;
 ghost use Rattle.grid_report.specs.Histories.{IsOrder};
@@ -8,19 +10,20 @@ ghost use Rattle.grid_configured.specs.Checks.{IsTranslatable};
 ghost use Rattle.grid_configured.specs.Names.{IsConfiguredRequest};
 ghost use Rattle.grid_configured.specs.Reports.{history_of, report_after};
 ghost use Rattle.grid_forms.specs.declared.words.Form.{Form};
-ghost use Rattle.grid_cli.specs.Configured.{IsRunnable, configured_job_text};
+ghost use Rattle.grid_cli.specs.Configured.{IsRunnable, configured_in, configured_job_text};
 ghost use Rattle.grid_cli.specs.Once.{OutcomeOf, Writes, ReadsConfigured, ReadsNone, configured_fault};
 
 use crate::once::{read_source, status_for, status_of};
 use crate::running::chosen_order;
 use grid_configured::{
     ConfiguredJob, ConfiguredNetwork, ConfiguredOutcome, read_configured, run_configured,
-    write_configured,
+    write_configured, write_configured_lines,
 };
 use grid_core::Script;
-use grid_forms::Status;
+use grid_forms::{Layout, Status};
 use grid_ids::Memory;
 use grid_json::Order;
+use grid_report::ReportFault;
 use grid_source::{Sink, Source};
 use std::alloc::Global;
 
@@ -43,12 +46,39 @@ fn run_in_order(
     run_configured(alloc, network, scripts, order.slice())
 }
 
-/// Runs a job in its order, and writes its report.
+/// Writes what came of a job in a layout.
+#[tactic(auto, unfolding(crate::specs::Configured::configured_in))]
+fn write_outcome<K: Sink>(
+    alloc: Global,
+    layout: Layout,
+    outcome: &ConfiguredOutcome,
+    sink: &mut K,
+) -> Result<(), ReportFault>
+    ensures ok { OnOk result (Appends (K.written sink.old) (K.written sink.new)
+        (configured_in layout outcome.now)) }
+    ensures err { OnErr result (IsBegun (K.written sink.old) (configured_in layout outcome.now)
+        (K.written sink.new)) }
+    ensures cause { result ≡ Err ReportFault.Stopped
+        → Rose (K.faults sink.old) (K.faults sink.new) }
+    ensures stays { result ≢ Err ReportFault.Stopped → K.faults sink.new ≡ K.faults sink.old }
+{
+    match layout {
+        Layout::Text => write_configured(alloc, outcome, sink),
+        Layout::Lines => write_configured_lines(alloc, outcome, sink),
+    }
+}
+
+/// Runs a job in its order, and writes what came of it.
 #[tactic(auto, using(grid_report::proofs::Begun::at_start, crate::proofs::Written::handed, crate::proofs::Written::calm))]
-fn write_report_of<K: Sink>(alloc: Global, job: ConfiguredJob, sink: &mut K) -> Status
+fn write_report_of<K: Sink>(
+    alloc: Global,
+    layout: Layout,
+    job: ConfiguredJob,
+    sink: &mut K,
+) -> Status
     requires { IsRunnable job }
-    ensures written { Writes (configured_job_text job) (K.written sink.old) (K.written sink.new)
-        result }
+    ensures written { Writes (configured_job_text layout job) (K.written sink.old)
+        (K.written sink.new) result }
     ensures fault { result ≡ Status.WriteFault → Rose (K.faults sink.old) (K.faults sink.new) }
     ensures stays { result ≢ Status.WriteFault → K.faults sink.new ≡ K.faults sink.old }
 {
@@ -58,7 +88,7 @@ fn write_report_of<K: Sink>(alloc: Global, job: ConfiguredJob, sink: &mut K) -> 
         order,
     } = job;
     match run_in_order(alloc, network, scripts.slice(), order) {
-        Ok(outcome) => status_of(write_configured(alloc, &outcome, sink)),
+        Ok(outcome) => status_of(write_outcome(alloc, layout, &outcome, sink)),
         Err(Memory) => Status::NoMemory,
     }
 }
@@ -84,14 +114,15 @@ fn read_configured_from<S: Source>(alloc: Global, source: &mut S) -> Result<Conf
     }
 }
 
-/// Reads a job of a network with configured buses, and writes its report.
+/// Reads a job of a network with configured buses, and writes what came of it.
 #[tactic(auto, using(crate::proofs::Written::configured, crate::proofs::Written::unread))]
 pub(crate) fn read_and_configure<S: Source, K: Sink>(
     alloc: Global,
+    layout: Layout,
     source: &mut S,
     sink: &mut K,
 ) -> Status
-    ensures outcome { OutcomeOf Form.Configured (S.left source.old) (S.left source.new)
+    ensures outcome { OutcomeOf (Form.Configured layout) (S.left source.old) (S.left source.new)
         (K.written sink.old) (K.written sink.new) result }
     ensures read_fault { result ≡ Status.ReadFault
         → Rose (S.faults source.old) (S.faults source.new) }
@@ -101,7 +132,7 @@ pub(crate) fn read_and_configure<S: Source, K: Sink>(
     ensures writes_stay { result ≢ Status.WriteFault → K.faults sink.new ≡ K.faults sink.old }
 {
     match read_configured_from(alloc, source) {
-        Ok(job) => write_report_of(alloc, job, sink),
+        Ok(job) => write_report_of(alloc, layout, job, sink),
         Err(status) => status,
     }
 }

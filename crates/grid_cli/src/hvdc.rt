@@ -1,34 +1,42 @@
 // The form `hvdc`: the components of each live variant's buses, over the branches alone and over HVDC lines too.
-ghost use Rattle.std.specs.Prelude.{◌≡◌, ◌≢◌, ◌≤◌, ◌++◌, [], Err, IfOk, IfErr, OnOk, OnErr, take, codes};
+ghost use Rattle.std.specs.Prelude.{◌≡◌, ◌≢◌, ◌≤◌, ◌++◌, [], ℕ, Err, IfOk, IfErr, OnOk, OnErr, take, codes, length, sum_by};
 ghost use Rattle.std.specs.List.{flat_map};
 ghost use Rattle.std.specs.Io.KnownBytes.{Appends};
 ghost use Rattle.grid_source.specs.Causes.{Rose};
 ghost use Rattle.grid_source.specs.Whole.{IsBegun};
 ghost use Rattle.grid_core.specs.History.{live};
+ghost use Rattle.grid_print.specs.Job.{line_of};
+ghost use Rattle.grid_jsonl.specs.Outcomes.{lines};
 ghost use Rattle.grid_report.specs.Histories.{history_of};
 ghost use Rattle.grid_forms.specs.declared.words.Form.{Form};
 ghost use Rattle.grid_cli.specs.Orders.{IsScheduled, order_of};
 ghost use Rattle.grid_cli.specs.Once.{OutcomeOf, Writes, ReadsHvdc, ReadsNone, hvdc_fault};
-ghost use Rattle.grid_cli.specs.Hvdc.{named_text, numbers_text, hvdc_text, part_text};
+ghost use Rattle.grid_cli.specs.Hvdc.{end_object, named_count, named_objects, named_text, numbers_in, numbers_objects, numbers_text, hvdc_text, part_lines, part_text};
+ghost use Rattle.grid_cli.specs.Layouts.{in_layout};
+ghost use Rattle.grid_cli.specs.Warnings.{replay_warning, warning_after, WarnsDone};
 
+use crate::layout::write_parts;
 use crate::once::{read_source, status_for, status_of};
 use crate::running::replayed;
-use grid_core::World;
-use grid_forms::Status;
-use grid_hvdc::{HvdcJob, HvdcLine, put_variant, read_hvdc};
+use grid_core::{Entry, World};
+use grid_forms::{Layout, Status};
+use grid_hvdc::{HvdcJob, HvdcLine, count_buses, put_variant, put_variant_lines, read_hvdc};
 use grid_ids::{Id, Memory};
 use grid_json::Job;
-use grid_report::{ReportFault, Shown, Text, write_blocks};
+use grid_jsonl::{Lined, open_with, put_number, put_state, put_warning};
+use grid_report::{ReportFault, Shown, Text};
 use grid_source::{Sink, Source};
 use std::alloc::Global;
 
 /// A part of what is written.
 #[derive(Clone, Copy)]
 enum Part<'a> {
+    /// What is told of the steps, of which the text tells nothing.
+    Steps(&'a [Entry]),
     /// The buses of the variant of a name in a world, with the components that these lines make.
     Variant(&'a World, &'a Id, &'a [HvdcLine]),
-    /// The last line.
-    End,
+    /// The last line, by how many variants and buses there are.
+    End(u64, u64),
 }
 
 impl Shown for Part<'_> {
@@ -38,8 +46,23 @@ impl Shown for Part<'_> {
 
     fn show(&self, out: &mut Text) -> Result<(), Memory> {
         match self {
+            Part::Steps(_) => Ok(()),
             Part::Variant(world, name, lines) => put_named(out, world, name, lines),
-            Part::End => out.put("end\n"),
+            Part::End(_, _) => out.put("end\n"),
+        }
+    }
+}
+
+impl Lined for Part<'_> {
+    ghost use Rattle.grid_cli.specs.Hvdc.{part_lines};
+
+    ghost lined = { part_lines };
+
+    fn put_lines(&self, out: &mut Text) -> Result<(), Memory> {
+        match self {
+            Part::Steps(journal) => put_state(out, journal),
+            Part::Variant(world, name, lines) => put_named_lines(out, world, name, lines),
+            Part::End(variants, buses) => put_end_line(out, *variants, *buses),
         }
     }
 }
@@ -63,51 +86,151 @@ fn put_named(out: &mut Text, world: &World, name: &Id, lines: &[HvdcLine]) -> Re
     )
 }
 
-/// The live variants by byte order of names, and the end.
-#[tactic(auto, unfolding(crate::specs::Hvdc::numbers_text))]
+/// Puts the lines of the variant of a name last, where it is live.
+#[tactic(auto, unfolding(crate::specs::Hvdc::named_objects, crate::specs::Hvdc::state_objects))]
+fn put_named_lines(
+    out: &mut Text,
+    world: &World,
+    name: &Id,
+    hvdc: &[HvdcLine],
+) -> Result<(), Memory>
+    ensures ok { OnOk result (out.new
+        ≡ out.old ++ lines (named_objects world.now hvdc.now name.now)) }
+    ensures err { OnErr result (out.new ≡ []) }
+{
+    if !world.is_live(name) {
+        return Ok(());
+    }
+    put_variant_lines(
+        out,
+        world.allocator(),
+        name,
+        world.structure(),
+        world.opened_in(name),
+        hvdc,
+    )
+}
+
+/// Puts the last line.
+fn put_end_line(out: &mut Text, variants: u64, buses: u64) -> Result<(), Memory>
+    ensures ok { OnOk result (out.new ≡ out.old ++ line_of (end_object variants buses)) }
+    ensures err { OnErr result (out.new ≡ []) }
+{
+    open_with(out, "kind", "end")?;
+    put_number(out, "variants", variants)?;
+    put_number(out, "buses", buses)?;
+    out.put("}\n")
+}
+
+/// How many buses the variant of a name has, where it is live.
+#[tactic(auto, unfolding(crate::specs::Hvdc::named_count))]
+fn count_named(alloc: Global, world: &World, name: &Id) -> Result<u64, Memory>
+    ensures { IfOk result (λ count. count ≡ named_count world.now name.now) }
+{
+    if !world.is_live(name) {
+        return Ok(0);
+    }
+    count_buses(alloc, world.structure(), world.opened_in(name))
+}
+
+/// How many buses all live variants have. They are counted for lines alone, whose last one tells it.
+fn count_all(alloc: Global, layout: Layout, world: &World) -> Result<u64, Memory>
+    ensures { IfOk result (λ count. layout ≡ Layout.Lines
+        → count ≡ sum_by (named_count world.now) (live world.now.steps)) }
+{
+    let mut count = 0u64;
+    if layout == Layout::Lines {
+        for place in 0..world.variant_count() {
+            count += count_named(alloc, world, world.variant_name(place))?;
+        }
+    }
+    Ok(count)
+}
+
+/// The live variants by byte order of names, between what is told of the steps and the end.
+#[tactic(auto, unfolding(crate::specs::Hvdc::numbers_text, crate::specs::Hvdc::numbers_objects))]
 fn parts_of<'a>(
     alloc: Global,
+    layout: Layout,
     world: &'a World,
-    lines: &'a [HvdcLine],
+    hvdc: &'a [HvdcLine],
 ) -> Result<Vec<Part<'a>>, Memory>
-    ensures { IfOk result (λ parts. flat_map part_text parts.items
-        ≡ numbers_text world.now lines.now) }
+    ensures text { IfOk result (λ parts. flat_map part_text parts.items
+        ≡ numbers_text world.now hvdc.now) }
+    ensures lines { IfOk result (λ parts. layout ≡ Layout.Lines
+        → flat_map part_lines parts.items ≡ lines (numbers_objects world.now hvdc.now)) }
 {
+    let buses = count_all(alloc, layout, world)?;
+    let variants = world.variant_count();
     let mut parts = Vec::new(alloc);
-    for place in 0..world.variant_count() {
-        parts.push(Part::Variant(world, world.variant_name(place), lines))?;
+    parts.push(Part::Steps(world.entries()))?;
+    for place in 0..variants {
+        parts.push(Part::Variant(world, world.variant_name(place), hvdc))?;
     }
-    parts.push(Part::End)?;
+    parts.push(Part::End(u64::from(variants), buses))?;
     Ok(parts)
 }
 
 /// Writes the components of each live variant's buses.
 fn write_numbers<K: Sink>(
     alloc: Global,
+    layout: Layout,
     world: &World,
-    lines: &[HvdcLine],
+    hvdc: &[HvdcLine],
     sink: &mut K,
 ) -> Result<(), ReportFault>
     ensures ok { OnOk result (Appends (K.written sink.old) (K.written sink.new)
-        (numbers_text world.now lines.now)) }
-    ensures err { OnErr result (IsBegun (K.written sink.old) (numbers_text world.now lines.now)
-        (K.written sink.new)) }
+        (numbers_in layout world.now hvdc.now)) }
+    ensures err { OnErr result (IsBegun (K.written sink.old)
+        (numbers_in layout world.now hvdc.now) (K.written sink.new)) }
     ensures cause { result ≡ Err ReportFault.Stopped
         → Rose (K.faults sink.old) (K.faults sink.new) }
     ensures stays { result ≢ Err ReportFault.Stopped → K.faults sink.new ≡ K.faults sink.old }
 {
-    let parts = match parts_of(alloc, world, lines) {
+    let parts = match parts_of(alloc, layout, world, hvdc) {
         Ok(parts) => parts,
         Err(Memory) => return Err(ReportFault::Memory),
     };
-    write_blocks(alloc, parts.as_slice(), sink)
+    write_parts(alloc, layout, parts.as_slice(), sink)
+}
+
+/// Puts the warning of a world's refused commands, and then writes the components of each live variant's buses.
+fn write_warned<K: Sink>(
+    alloc: Global,
+    layout: Layout,
+    world: &World,
+    hvdc: &[HvdcLine],
+    sink: &mut K,
+    warning: &mut Text,
+) -> Result<(), ReportFault>
+    requires { warning.old ≡ [] }
+    ensures ok { OnOk result (Appends (K.written sink.old) (K.written sink.new)
+        (numbers_in layout world.now hvdc.now)) }
+    ensures warning { OnOk result (warning.new ≡ warning_after world.now) }
+    ensures err { OnErr result (IsBegun (K.written sink.old)
+        (numbers_in layout world.now hvdc.now) (K.written sink.new)) }
+    ensures cause { result ≡ Err ReportFault.Stopped
+        → Rose (K.faults sink.old) (K.faults sink.new) }
+    ensures stays { result ≢ Err ReportFault.Stopped → K.faults sink.new ≡ K.faults sink.old }
+{
+    put_warning(warning, world.entries())?;
+    write_numbers(alloc, layout, world, hvdc, sink)
 }
 
 /// Runs a job in its order, and writes the components of each live variant's buses.
 #[tactic(auto, unfolding(crate::specs::Hvdc::hvdc_text), using(grid_report::proofs::Begun::at_start, crate::proofs::Written::handed, crate::proofs::Written::calm))]
-fn write_hvdc<K: Sink>(alloc: Global, hvdc: HvdcJob, sink: &mut K) -> Status
-    requires { IsScheduled hvdc.job }
-    ensures written { Writes (hvdc_text hvdc) (K.written sink.old) (K.written sink.new) result }
+fn write_hvdc<K: Sink>(
+    alloc: Global,
+    layout: Layout,
+    hvdc: HvdcJob,
+    sink: &mut K,
+    warning: &mut Text,
+) -> Status
+    requires scheduled { IsScheduled hvdc.job }
+    requires silent { warning.old ≡ [] }
+    ensures written { Writes (hvdc_text layout hvdc) (K.written sink.old) (K.written sink.new)
+        result }
+    ensures warning { result ≡ Status.Done → warning.new ≡ replay_warning hvdc.job }
     ensures fault { result ≡ Status.WriteFault → Rose (K.faults sink.old) (K.faults sink.new) }
     ensures stays { result ≢ Status.WriteFault → K.faults sink.new ≡ K.faults sink.old }
 {
@@ -119,7 +242,7 @@ fn write_hvdc<K: Sink>(alloc: Global, hvdc: HvdcJob, sink: &mut K) -> Status
         ..
     } = job;
     match replayed(alloc, network, scripts.slice(), order) {
-        Ok(world) => status_of(write_numbers(alloc, &world, lines.slice(), sink)),
+        Ok(world) => status_of(write_warned(alloc, layout, &world, lines.slice(), sink, warning)),
         Err(Memory) => Status::NoMemory,
     }
 }
@@ -148,11 +271,16 @@ fn read_hvdc_from<S: Source>(alloc: Global, source: &mut S) -> Result<HvdcJob, S
 #[tactic(auto, using(crate::proofs::Written::numbered, crate::proofs::Written::unread))]
 pub(crate) fn read_and_number<S: Source, K: Sink>(
     alloc: Global,
+    layout: Layout,
     source: &mut S,
     sink: &mut K,
+    warning: &mut Text,
 ) -> Status
-    ensures outcome { OutcomeOf Form.Hvdc (S.left source.old) (S.left source.new)
+    requires { warning.old ≡ [] }
+    ensures outcome { OutcomeOf (Form.Hvdc layout) (S.left source.old) (S.left source.new)
         (K.written sink.old) (K.written sink.new) result }
+    ensures warning { result ≡ Status.Done → WarnsDone (Form.Hvdc layout) (S.left source.old)
+        (S.left source.new) warning.new }
     ensures read_fault { result ≡ Status.ReadFault
         → Rose (S.faults source.old) (S.faults source.new) }
     ensures reads_stay { result ≢ Status.ReadFault → S.faults source.new ≡ S.faults source.old }
@@ -161,7 +289,7 @@ pub(crate) fn read_and_number<S: Source, K: Sink>(
     ensures writes_stay { result ≢ Status.WriteFault → K.faults sink.new ≡ K.faults sink.old }
 {
     match read_hvdc_from(alloc, source) {
-        Ok(hvdc) => write_hvdc(alloc, hvdc, sink),
+        Ok(hvdc) => write_hvdc(alloc, layout, hvdc, sink, warning),
         Err(status) => status,
     }
 }

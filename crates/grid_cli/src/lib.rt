@@ -4,6 +4,7 @@
 mod configured;
 mod counts;
 mod hvdc;
+mod layout;
 mod once;
 mod running;
 mod screen;

@@ -1,5 +1,5 @@
 // The top call on one thread.
-ghost use Rattle.std.specs.Prelude.{◌≡◌, ◌≢◌, ◌↔◌, ◌≤◌, None, Some, Err, IfOk, IfErr, map, string_bytes};
+ghost use Rattle.std.specs.Prelude.{◌≡◌, ◌≢◌, ◌↔◌, ◌≤◌, [], None, Some, Err, IfOk, IfErr, map, string_bytes};
 ghost use Rattle.grid_source.specs.Causes.{Rose};
 ghost use Rattle.grid_json.specs.Job.{command_total};
 ghost use Rattle.grid_print.specs.Job.{network_text};
@@ -8,29 +8,34 @@ ghost use Rattle.grid_cli.specs.Forms.{form_alone, ReadsNothing};
 ghost use Rattle.grid_cli.specs.Orders.{IsScheduled, replay_text};
 ghost use Rattle.grid_cli.specs.Once as once;
 ghost use Rattle.grid_cli.specs.Once.{Outcome, OutcomeOf, form_for, Exact, Writes, ReadsWhole, ReadsPart, ReadsNone, ReadsJob, job_fault, status_after, text_of, made_text};
+ghost use Rattle.grid_cli.specs.Warnings.{Warns};
 
 use crate::configured::read_and_configure;
 use crate::counts::write_counts;
 use crate::hvdc::read_and_number;
+use crate::layout::write_outcome;
 use crate::running::run_job;
 use crate::trial::write_trial;
-use grid_forms::{Form, Status, read_words};
+use grid_forms::{Form, Layout, Status, read_words};
 use grid_ids::Memory;
 use grid_json::{Job, JobFault, read_job};
 use grid_make::make_job;
 use grid_print::{print_job, print_network};
-use grid_report::{ReportFault, write_report};
+use grid_report::{ReportFault, Text};
 use grid_source::{ReadAllFault, Sink, Source, read_all, write_all};
 use grid_structure::Structure;
 use std::alloc::Global;
 
 /// Does what the words ask for, from the source to the sink, on the calling thread. It serves every form but `run` and
-/// `screen`, which are Usage here as words of no form are. It takes no lock.
+/// `screen`, which are Usage here as words of no form are. It takes no lock. The warning is the line that tells which
+/// commands were refused where the output tells none of them: after `hvdc` that is Done. It is made before the first byte
+/// is written, and else empty.
 pub fn grid_once<S: Source, K: Sink>(
     alloc: Global,
     words: &[String],
     source: &mut S,
     sink: &mut K,
+    warning: &mut Text,
 ) -> Status
     ensures usage { (result ≡ Status.Usage) ↔ (form_alone (map string_bytes words.now) ≡ None) }
 
@@ -41,6 +46,10 @@ pub fn grid_once<S: Source, K: Sink>(
     // Where the source tells its bytes, they decide the status, but for faults and want of memory.
     ensures exact { Exact (form_alone (map string_bytes words.now)) (S.left source.old) result }
 
+    // The warning is that of the job in the bytes that were read.
+    ensures warning { Warns (form_alone (map string_bytes words.now)) (S.left source.old)
+        (S.left source.new) result warning.new }
+
     ensures read_fault { result ≡ Status.ReadFault
         → Rose (S.faults source.old) (S.faults source.new) }
     ensures reads_stay { result ≢ Status.ReadFault → S.faults source.new ≡ S.faults source.old }
@@ -50,11 +59,33 @@ pub fn grid_once<S: Source, K: Sink>(
     ensures untouched { ReadsNothing (form_alone (map string_bytes words.now))
         → S.faults source.new ≡ S.faults source.old }
 {
-    run(alloc, words, source, sink)
+    warning.clear();
+    let status = run(alloc, words, source, sink, warning);
+    keep_if_done(warning, &status);
+    status
 }
 
-// The same, without what follows from the other clauses.
-fn run<S: Source, K: Sink>(alloc: Global, words: &[String], source: &mut S, sink: &mut K) -> Status
+/// Clears a warning unless the status is Done.
+pub(crate) fn keep_if_done(warning: &mut Text, status: &Status)
+    ensures done { status.now ≡ Status.Done → warning.new ≡ warning.old }
+    ensures other { status.now ≢ Status.Done → warning.new ≡ [] }
+{
+    if !matches!(status, Status::Done) {
+        warning.clear();
+    }
+}
+
+// The same, without what follows from the other clauses, and with a warning that stays where the status is not Done.
+fn run<S: Source, K: Sink>(
+    alloc: Global,
+    words: &[String],
+    source: &mut S,
+    sink: &mut K,
+    warning: &mut Text,
+) -> Status
+    requires { warning.old ≡ [] }
+    ensures warning { result ≡ Status.Done → Warns (form_alone (map string_bytes words.now))
+        (S.left source.old) (S.left source.new) Status.Done warning.new }
     ensures usage { (result ≡ Status.Usage) ↔ (form_alone (map string_bytes words.now) ≡ None) }
     ensures outcome { Outcome (form_alone (map string_bytes words.now)) (S.left source.old)
         (S.left source.new) (K.written sink.old) (K.written sink.new) result }
@@ -72,11 +103,11 @@ fn run<S: Source, K: Sink>(alloc: Global, words: &[String], source: &mut S, sink
     };
     match form {
         Form::Check => read_and_answer(alloc, Answer::Counts, source, sink),
-        Form::Replay => read_and_answer(alloc, Answer::Report, source, sink),
-        Form::Run | Form::Screen => Status::Usage,
+        Form::Replay(layout) => read_and_answer(alloc, Answer::Outcome(layout), source, sink),
+        Form::Run(_) | Form::Screen(_) => Status::Usage,
         Form::Print => read_and_answer(alloc, Answer::Network, source, sink),
-        Form::Hvdc => read_and_number(alloc, source, sink),
-        Form::Configured => read_and_configure(alloc, source, sink),
+        Form::Hvdc(layout) => read_and_number(alloc, layout, source, sink, warning),
+        Form::Configured(layout) => read_and_configure(alloc, layout, source, sink),
         Form::Make { seed, size } => make(alloc, seed, size, sink),
         Form::Trial { seed, size } => status_of(write_trial(alloc, seed, size, sink)),
     }
@@ -86,7 +117,8 @@ fn run<S: Source, K: Sink>(alloc: Global, words: &[String], source: &mut S, sink
 #[derive(Clone, Copy)]
 enum Answer {
     Counts,
-    Report,
+    // What came of it.
+    Outcome(Layout),
     Network,
 }
 
@@ -173,7 +205,7 @@ fn write_answer<K: Sink>(alloc: Global, wanted: Answer, job: Job, sink: &mut K) 
 {
     match wanted {
         Answer::Counts => status_of(write_counts(alloc, &job, sink)),
-        Answer::Report => replay(alloc, job, sink),
+        Answer::Outcome(layout) => replay(alloc, layout, job, sink),
         Answer::Network => print(alloc, &job.network, sink),
     }
 }
@@ -234,16 +266,17 @@ fn hand_over<K: Sink>(bytes: &[u8], sink: &mut K) -> Status
     }
 }
 
-// Runs a job in its order, and writes its report.
+// Runs a job in its order, and writes what came of it.
 #[tactic(auto, using(grid_report::proofs::Begun::at_start, crate::proofs::Written::calm))]
-fn replay<K: Sink>(alloc: Global, job: Job, sink: &mut K) -> Status
+fn replay<K: Sink>(alloc: Global, layout: Layout, job: Job, sink: &mut K) -> Status
     requires { IsScheduled job }
-    ensures written { Writes (replay_text job) (K.written sink.old) (K.written sink.new) result }
+    ensures written { Writes (replay_text layout job) (K.written sink.old) (K.written sink.new)
+        result }
     ensures fault { result ≡ Status.WriteFault → Rose (K.faults sink.old) (K.faults sink.new) }
     ensures stays { result ≢ Status.WriteFault → K.faults sink.new ≡ K.faults sink.old }
 {
     match run_job(alloc, job) {
-        Ok(outcome) => status_of(write_report(alloc, &outcome, sink)),
+        Ok(outcome) => status_of(write_outcome(alloc, layout, &outcome, sink)),
         Err(Memory) => Status::NoMemory,
     }
 }

@@ -1,20 +1,25 @@
 // The top call, and the form `run`: workers on threads of their own.
-ghost use Rattle.std.specs.Prelude.{◌≡◌, ◌≢◌, ◌↔◌, None, IfOk, map, string_bytes};
+ghost use Rattle.std.specs.Prelude.{◌≡◌, ◌≢◌, ◌↔◌, [], None, Err, IfOk, OnOk, OnErr, map, string_bytes};
+ghost use Rattle.std.specs.Io.KnownBytes.{Appends};
 ghost use Rattle.grid_source.specs.Causes.{Rose};
+ghost use Rattle.grid_source.specs.Whole.{IsBegun};
 ghost use Rattle.grid_forms.specs.Words.{form_of};
 ghost use Rattle.grid_cli.specs.Forms.{ReadsNothing};
 ghost use Rattle.grid_cli.specs.Orders.{IsScheduled};
 ghost use Rattle.grid_cli.specs.Once.{Outcome, OutcomeOf, Exact, WritesReport};
+ghost use Rattle.grid_cli.specs.Layouts.{outcome_text};
+ghost use Rattle.grid_cli.specs.Warnings.{Warns};
 ghost use Rattle.grid_cli.specs.Threaded.{IsOutcomeOf, IsServed};
 
-use crate::once::{grid_once, read_from, status_of};
+use crate::once::{grid_once, keep_if_done, read_from, status_of};
 use crate::running::outcome;
 use crate::screen::read_and_screen;
-use grid_forms::{Form, Status, read_words};
+use grid_forms::{Form, Layout, Status, read_words};
 use grid_ids::Memory;
 use grid_json::Job;
+use grid_jsonl::write_lines;
 use grid_manager::Gate;
-use grid_report::write_report_on_threads;
+use grid_report::{Outcome, ReportFault, Text, write_report_on_threads};
 use grid_source::{Sink, Source};
 use grid_workers::run_scripts;
 use std::alloc::Global;
@@ -23,7 +28,9 @@ use std::thread::Threads;
 
 /// Does what the words ask for, from the source to the sink. For `run` each worker makes its script's calls on a thread of
 /// its own, all on one board, and every thread has ended when it returns; the gate sees each worker at work. For `screen` the
-/// contingencies are looked at by several threads, which take no lock. Every other form is served by `grid_once`.
+/// contingencies are looked at by several threads, which take no lock. Every other form is served by `grid_once`. The
+/// warning is the line that tells which commands were refused where the output tells none of them: after `hvdc` and
+/// `screen` that are Done. It is made before the first byte is written, and else empty.
 pub fn grid<R: Threads + Wait + Sync, S: Source, K: Sink, G: Gate>(
     rt: &R,
     alloc: Global,
@@ -31,16 +38,21 @@ pub fn grid<R: Threads + Wait + Sync, S: Source, K: Sink, G: Gate>(
     source: &mut S,
     sink: &mut K,
     gate: &G,
+    warning: &mut Text,
 ) -> Status
     ensures usage { (result ≡ Status.Usage) ↔ (form_of (map string_bytes words.now) ≡ None) }
 
-    // What was read and what was written, by the status. For `run` it is the report of some order of the job, which the
-    // report's first line tells.
+    // What was read and what was written, by the status. For `run` it is what is written of some order of the job, which
+    // the first line tells.
     ensures outcome { Outcome (form_of (map string_bytes words.now)) (S.left source.old)
         (S.left source.new) (K.written sink.old) (K.written sink.new) result }
 
     // Where the source tells its bytes, they decide the status, but for faults and want of memory.
     ensures exact { Exact (form_of (map string_bytes words.now)) (S.left source.old) result }
+
+    // The warning is that of the job in the bytes that were read.
+    ensures warning { Warns (form_of (map string_bytes words.now)) (S.left source.old)
+        (S.left source.new) result warning.new }
 
     ensures read_fault { result ≡ Status.ReadFault
         → Rose (S.faults source.old) (S.faults source.new) }
@@ -51,20 +63,23 @@ pub fn grid<R: Threads + Wait + Sync, S: Source, K: Sink, G: Gate>(
     ensures untouched { ReadsNothing (form_of (map string_bytes words.now))
         → S.faults source.new ≡ S.faults source.old }
 {
-    match served_by(read_words(words)) {
-        Served::ByWorkers => read_and_run(rt, alloc, source, sink, gate),
-        Served::ByScreening => read_and_screen(rt, alloc, source, sink),
-        Served::ByOneThread => grid_once(alloc, words, source, sink),
-    }
+    warning.clear();
+    let status = match served_by(read_words(words)) {
+        Served::ByWorkers(layout) => read_and_run(rt, alloc, layout, source, sink, gate),
+        Served::ByScreening(layout) => read_and_screen(rt, alloc, layout, source, sink, warning),
+        Served::ByOneThread => grid_once(alloc, words, source, sink, warning),
+    };
+    keep_if_done(warning, &status);
+    status
 }
 
 // Which threads serve a form.
 #[derive(Clone, Copy)]
 enum Served {
     // Workers, who may wait for each other.
-    ByWorkers,
+    ByWorkers(Layout),
     // Threads that take no lock.
-    ByScreening,
+    ByScreening(Layout),
     // The calling one.
     ByOneThread,
 }
@@ -73,14 +88,14 @@ fn served_by(form: Option<Form>) -> Served
     ensures { IsServed form result }
 {
     match form {
-        Some(Form::Run) => Served::ByWorkers,
-        Some(Form::Screen) => Served::ByScreening,
+        Some(Form::Run(layout)) => Served::ByWorkers(layout),
+        Some(Form::Screen(layout)) => Served::ByScreening(layout),
         Some(
             Form::Check
-            | Form::Replay
+            | Form::Replay(_)
             | Form::Print
-            | Form::Hvdc
-            | Form::Configured
+            | Form::Hvdc(_)
+            | Form::Configured(_)
             | Form::Make { .. }
             | Form::Trial { .. },
         )
@@ -88,16 +103,17 @@ fn served_by(form: Option<Form>) -> Served
     }
 }
 
-// Reads a job, and writes the report of the order in which its workers' steps happened.
+// Reads a job, and writes what came of it in the order in which its workers' steps happened.
 #[tactic(auto, using(crate::proofs::Written::ran, crate::proofs::Written::unread))]
 fn read_and_run<R: Threads + Wait + Sync, S: Source, K: Sink, G: Gate>(
     rt: &R,
     alloc: Global,
+    layout: Layout,
     source: &mut S,
     sink: &mut K,
     gate: &G,
 ) -> Status
-    ensures outcome { OutcomeOf Form.Run (S.left source.old) (S.left source.new)
+    ensures outcome { OutcomeOf (Form.Run layout) (S.left source.old) (S.left source.new)
         (K.written sink.old) (K.written sink.new) result }
     ensures read_fault { result ≡ Status.ReadFault
         → Rose (S.faults source.old) (S.faults source.new) }
@@ -107,27 +123,51 @@ fn read_and_run<R: Threads + Wait + Sync, S: Source, K: Sink, G: Gate>(
     ensures writes_stay { result ≢ Status.WriteFault → K.faults sink.new ≡ K.faults sink.old }
 {
     match read_from(alloc, source) {
-        Ok(job) => write_run(rt, alloc, job, sink, gate),
+        Ok(job) => write_run(rt, alloc, layout, job, sink, gate),
         Err(status) => status,
     }
 }
 
-// Runs a job on threads, and writes its report.
+// Writes what came of a job in a layout, the report by several threads.
+#[tactic(auto, unfolding(crate::specs::Layouts::outcome_text))]
+fn write_on_threads<R: Threads + Sync, K: Sink>(
+    rt: &R,
+    alloc: Global,
+    layout: Layout,
+    outcome: &Outcome,
+    sink: &mut K,
+) -> Result<(), ReportFault>
+    ensures ok { OnOk result (Appends (K.written sink.old) (K.written sink.new)
+        (outcome_text layout outcome.now)) }
+    ensures err { OnErr result (IsBegun (K.written sink.old) (outcome_text layout outcome.now)
+        (K.written sink.new)) }
+    ensures cause { result ≡ Err ReportFault.Stopped
+        → Rose (K.faults sink.old) (K.faults sink.new) }
+    ensures stays { result ≢ Err ReportFault.Stopped → K.faults sink.new ≡ K.faults sink.old }
+{
+    match layout {
+        Layout::Text => write_report_on_threads(rt, alloc, outcome, sink),
+        Layout::Lines => write_lines(alloc, outcome, sink),
+    }
+}
+
+// Runs a job on threads, and writes what came of it.
 #[tactic(auto, using(crate::proofs::Threading::unwritten, crate::proofs::Threading::reported, crate::proofs::Written::calm))]
 fn write_run<R: Threads + Wait + Sync, K: Sink, G: Gate>(
     rt: &R,
     alloc: Global,
+    layout: Layout,
     job: Job,
     sink: &mut K,
     gate: &G,
 ) -> Status
     requires { IsScheduled job }
-    ensures written { WritesReport job (K.written sink.old) (K.written sink.new) result }
+    ensures written { WritesReport layout job (K.written sink.old) (K.written sink.new) result }
     ensures fault { result ≡ Status.WriteFault → Rose (K.faults sink.old) (K.faults sink.new) }
     ensures stays { result ≢ Status.WriteFault → K.faults sink.new ≡ K.faults sink.old }
 {
     match run_job_on_threads(rt, alloc, job, gate) {
-        Ok(outcome) => status_of(write_report_on_threads(rt, alloc, &outcome, sink)),
+        Ok(outcome) => status_of(write_on_threads(rt, alloc, layout, &outcome, sink)),
         Err(Memory) => Status::NoMemory,
     }
 }
@@ -138,7 +178,7 @@ fn run_job_on_threads<R: Threads + Wait + Sync, G: Gate>(
     alloc: Global,
     job: Job,
     gate: &G,
-) -> Result<grid_report::Outcome, Memory>
+) -> Result<Outcome, Memory>
     requires { IsScheduled job }
     ensures { IfOk result (IsOutcomeOf job) }
 {

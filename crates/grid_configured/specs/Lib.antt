@@ -15,5 +15,6 @@ pub mod Jobs
 pub mod Texts
 pub mod Reports
 pub mod Outcomes
+pub mod Lines
 pub mod Blocks
 pub mod Partial

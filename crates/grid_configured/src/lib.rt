@@ -6,6 +6,7 @@ mod checks;
 mod commands;
 mod contents;
 pub mod laws;
+mod lined;
 mod lists;
 mod network;
 mod outcome;
@@ -34,7 +35,7 @@ pub use outcome::{
 pub use read::read_configured;
 pub use replay::run_configured;
 pub use reply::ConfiguredReply;
-pub use report::write_configured;
+pub use report::{write_configured, write_configured_lines};
 pub use translation::translate;
 pub use view::{ConfiguredBus, ConfiguredBuses, ConfiguredView};
 pub use world::ConfiguredWorld;

@@ -3,6 +3,8 @@ use Rattle.std.specs.Prelude.{ℕ, ◌+◌, ◌-◌, ◌≤◌, ⊤, List, [], �
 use Rattle.std.specs.List.{range_with_len}
 use Rattle.std.specs.Str.{bytes_eq}
 use Rattle.grid_forms.specs.declared.words.TheConstants.{MOST_SEED, MOST_SIZE}
+use Rattle.grid_forms.specs.declared.words.Layout.{Layout}
+use Rattle.grid_forms.specs.declared.words.Layout.TheVariants.{Text, Lines}
 use Rattle.grid_forms.specs.declared.words.Form.{Form}
 use Rattle.grid_forms.specs.declared.words.Form.TheVariants.{Check, Replay, Run, Print, Hvdc, Screen, Configured, Make, Trial}
 
@@ -16,15 +18,23 @@ seed_in text = number_among 0 MOST_SEED text
 abbrev pub size_in : List ℕ → Option ℕ
 size_in text = number_among 1 MOST_SIZE text
 
+-- the forms that write an outcome, which has two layouts
+abbrev pub outcome_form : Layout → List ℕ → Option Form
+outcome_form layout word =
+    if bytes_eq word (codes "replay") then Some (Replay layout)
+    else (if bytes_eq word (codes "run") then Some (Run layout)
+    else (if bytes_eq word (codes "hvdc") then Some (Hvdc layout)
+    else (if bytes_eq word (codes "screen") then Some (Screen layout)
+    else (if bytes_eq word (codes "configured") then Some (Configured layout) else None))))
+
 abbrev pub form_by_name : List ℕ → Option Form
 form_by_name word =
     if bytes_eq word (codes "check") then Some Check
-    else (if bytes_eq word (codes "replay") then Some Replay
-    else (if bytes_eq word (codes "run") then Some Run
-    else (if bytes_eq word (codes "print") then Some Print
-    else (if bytes_eq word (codes "hvdc") then Some Hvdc
-    else (if bytes_eq word (codes "screen") then Some Screen
-    else (if bytes_eq word (codes "configured") then Some Configured else None))))))
+    else (if bytes_eq word (codes "print") then Some Print else outcome_form Text word)
+
+-- the word behind a form that asks for lines
+abbrev pub form_with : List ℕ → List ℕ → Option Form
+form_with word layout = if bytes_eq layout (codes "--json") then outcome_form Lines word else None
 
 -- the form of a seed and a size, where both are there
 abbrev pub with_numbers : (ℕ → ℕ → Form) → Option ℕ → Option ℕ → Option Form
@@ -47,18 +57,18 @@ sized_form word seed size =
 abbrev pub form_of : List (List ℕ) → Option Form
 form_of [] = None
 form_of (word ∷ []) = form_by_name word
-form_of (word ∷ other ∷ []) = None
+form_of (word ∷ layout ∷ []) = form_with word layout
 form_of (word ∷ seed ∷ size ∷ []) = sized_form word seed size
 form_of (word ∷ seed ∷ size ∷ other ∷ words) = None
 
 -- the numbers of a form are within their limits
 abbrev pub IsWithin : Form → Type 0
 IsWithin Check = ⊤
-IsWithin Replay = ⊤
-IsWithin Run = ⊤
 IsWithin Print = ⊤
-IsWithin Hvdc = ⊤
-IsWithin Screen = ⊤
-IsWithin Configured = ⊤
+IsWithin (Replay layout) = ⊤
+IsWithin (Run layout) = ⊤
+IsWithin (Hvdc layout) = ⊤
+IsWithin (Screen layout) = ⊤
+IsWithin (Configured layout) = ⊤
 IsWithin (Make seed size) = (seed ≤ MOST_SEED) × (1 ≤ size) × (size ≤ MOST_SIZE)
 IsWithin (Trial seed size) = (seed ≤ MOST_SEED) × (1 ≤ size) × (size ≤ MOST_SIZE)

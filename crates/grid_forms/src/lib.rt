@@ -5,4 +5,4 @@ mod status;
 mod words;
 
 pub use status::Status;
-pub use words::{Form, MOST_SEED, MOST_SIZE, read_words};
+pub use words::{Form, Layout, MOST_SEED, MOST_SIZE, read_words};

@@ -4,6 +4,7 @@
 mod buses;
 mod checks;
 pub mod laws;
+mod lines;
 mod links;
 mod numbers;
 mod read;
@@ -12,6 +13,7 @@ mod write;
 
 use grid_ids::{Id, Seq};
 use grid_json::Job;
+pub use lines::{count_buses, put_variant_lines};
 pub use numbers::hvdc_numbers;
 pub use read::read_hvdc;
 pub use stations::find_station;

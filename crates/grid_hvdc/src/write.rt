@@ -65,13 +65,13 @@ fn put_lines(
 
 // The buses of a variant by their numbers, with their components.
 #[derive(Drop)]
-struct NumberedBuses {
-    names: Seq<BusName>,
-    numbers: HvdcNumbers,
+pub(crate) struct NumberedBuses {
+    pub(crate) names: Seq<BusName>,
+    pub(crate) numbers: HvdcNumbers,
 }
 
 // The buses of all levels, with their components over branches and HVDC lines.
-fn number_buses(
+pub(crate) fn number_buses(
     alloc: Global,
     structure: &Structure,
     opened: &States,

@@ -1,5 +1,5 @@
 -- The lines that are still to come, one less at a time.
-use Rattle.std.proofs.Common.{◌≡◌, ℕ, suc, ◌+◌, ◌-◌, ◌<◌, ◌≤◌, Option, Some, None, List, [], ◌∷◌, ◌++◌, map, refl, sym, ap, ◌∙◌, arith, add-one}
+use Rattle.std.proofs.Common.{◌≡◌, ℕ, suc, ◌+◌, ◌-◌, ◌<◌, ◌≤◌, Option, Some, List, [], ◌∷◌, ◌++◌, map, refl, sym, ap, ◌∙◌, arith, add-one}
 use Rattle.std.proofs.lemmas.List.{map-append}
 use Rattle.std.specs.List.{flat_map, range_with_len}
 use Rattle.serde_json.specs.Data.{Data}
@@ -7,7 +7,7 @@ use Rattle.grid_events.specs.declared.event.Event.{Event}
 use Rattle.grid_events.specs.declared.filter.Filter.{Filter}
 use Rattle.grid_print.specs.Job.{line_of}
 use Rattle.grid_jsonl.specs.Steps.{Step}
-use Rattle.grid_jsonl.specs.Outcomes.{command_object, event_object, steps_by, worker_objects, heard_objects, listener_objects, listeners_from}
+use Rattle.grid_jsonl.specs.Outcomes.{command_object, steps_by, worker_objects, heard_objects, listener_objects, listeners_from}
 use Rattle.grid_jsonl.specs.Lines.{texts, told_for, heard_for}
 
 -- ---- numbers from one on

@@ -110,6 +110,9 @@ line_ends (Err x) next o e = tt
 pub record Members (old : List ℕ) (fields : List (List ℕ × Data)) (now : List ℕ) : Type 0 where
   pub is : now ≡ old ++ fields_text fields
 
+pub members : (old now : List ℕ) (fields : List (List ℕ × Data)) → now ≡ old ++ fields_text fields → Members old fields now
+members old now fields e = record { is = e }
+
 pub first_member : (old now : List ℕ) (f : List ℕ × Data) → now ≡ old ++ field_text false f → Members old (f ∷ []) now
 first_member old now f e = record { is = e ∙ ap (λ l. old ++ l) (sym (append-nil (field_text false f))) }
 

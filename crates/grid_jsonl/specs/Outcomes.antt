@@ -12,6 +12,7 @@ use Rattle.grid_report.specs.declared.outcome.VariantView.{VariantView}
 use Rattle.grid_report.specs.declared.outcome.Outcome.{Outcome}
 use Rattle.grid_print.specs.Objects.{array_of, natural}
 use Rattle.grid_print.specs.Job.{line_of}
+use Rattle.grid_jsonl.specs.declared.line.Counts.{Counts}
 use Rattle.grid_jsonl.specs.Trees.{ordered}
 use Rattle.grid_jsonl.specs.Parts.{view_bus_value}
 use Rattle.grid_jsonl.specs.Steps.{Step, steps, step_fields, refused_count}
@@ -21,8 +22,11 @@ abbrev pub object_of_kind : List ℕ → List (List ℕ × Data) → Data
 object_of_kind kind fields = ordered ((codes "kind", string kind) ∷ fields)
 
 -- the worker of each step, in the order of the steps
+abbrev pub order_of : {A : Type 0} → (A → ℕ) → List A → Data
+order_of worker steps = object_of_kind (codes "order") ((codes "order", array_of (λ s. natural (worker s)) steps) ∷ [])
+
 unfoldable pub order_object : List Entry → Data
-order_object journal = object_of_kind (codes "order") ((codes "order", array_of (λ e. natural e.worker) journal) ∷ [])
+order_object journal = order_of (λ e. e.worker) journal
 
 -- ---- workers
 
@@ -83,13 +87,26 @@ listeners_from all listener (wanted ∷ rest) = listener_objects all listener wa
 
 -- ---- the outcome
 
-unfoldable pub end_object : Outcome → Data
-end_object o = object_of_kind (codes "end")
-    ((codes "workers", natural o.workers)
-    ∷ (codes "commands", natural (length o.journal))
-    ∷ (codes "refused", natural (refused_count o.journal))
-    ∷ (codes "variants", natural (length o.views))
-    ∷ (codes "listeners", natural (length o.filters)) ∷ [])
+-- the last line, by what it counts
+unfoldable pub end_of : Counts → Data
+end_of c = object_of_kind (codes "end")
+    ((codes "workers", natural c.workers)
+    ∷ (codes "commands", natural c.commands)
+    ∷ (codes "refused", natural c.refused)
+    ∷ (codes "variants", natural c.variants)
+    ∷ (codes "listeners", natural c.listeners) ∷ [])
+
+unfoldable pub counts_of : Outcome → Counts
+counts_of o = record {
+  workers = o.workers;
+  commands = length o.journal;
+  refused = refused_count o.journal;
+  variants = length o.views;
+  listeners = length o.filters;
+}
+
+abbrev pub end_object : Outcome → Data
+end_object o = end_of (counts_of o)
 
 -- the workers and the listeners are numbered from 0
 unfoldable pub objects : Outcome → List Data

@@ -2,6 +2,7 @@
 use Rattle.std.specs.Prelude.{ℕ, suc, ◌==◌, Bool, true, false, List, [], ◌∷◌, ◌++◌, length, take, find, Option, Some, None, codes, decimal}
 use Rattle.std.specs.List.{count_by}
 use Rattle.serde_json.specs.Data.{Data, string}
+use Rattle.grid_requests.specs.declared.request.Request.{Request}
 use Rattle.grid_core.specs.declared.journal.Entry.{Entry}
 use Rattle.grid_core.specs.declared.reply.Reply.{Reply}
 use Rattle.grid_core.specs.declared.reply.Reply.TheVariants as replies
@@ -36,15 +37,20 @@ steps journal = steps_from journal 0 journal
 
 -- ---- steps as objects
 
+-- the members of a step that say who asked for what, by its place, its number, its worker, the working variant and the command
+abbrev pub asked_fields : ℕ → ℕ → ℕ → List ℕ → Request → List (List ℕ × Data)
+asked_fields place number worker variant request =
+    (codes "place", natural place)
+    ∷ (codes "worker", natural worker)
+    ∷ (codes "step", natural number)
+    ∷ (codes "variant", string variant)
+    ∷ (codes "command", request_value request) ∷ []
+
 -- the members of a step
 unfoldable pub step_fields : Step → List (List ℕ × Data)
 step_fields s =
-    (codes "place", natural s.place)
-    ∷ (codes "worker", natural s.entry.worker)
-    ∷ (codes "step", natural s.number)
-    ∷ (codes "variant", string s.entry.variant)
-    ∷ (codes "command", request_value s.entry.request)
-    ∷ (codes "reply", reply_value s.entry.request s.entry.reply) ∷ []
+    asked_fields s.place s.number s.entry.worker s.entry.variant s.entry.request
+    ++ (codes "reply", reply_value s.entry.request s.entry.reply) ∷ []
 
 abbrev pub step_value : Step → Data
 step_value s = ordered (step_fields s)

@@ -6,7 +6,8 @@ ghost use Rattle.grid_print.specs.Objects.{array_of, natural};
 ghost use Rattle.grid_jsonl.specs.Trees.{field_text};
 ghost use Rattle.grid_print.specs.Job.{line_of};
 ghost use Rattle.grid_jsonl.specs.Borrowed.{step_in};
-ghost use Rattle.grid_jsonl.specs.Outcomes.{command_object, end_object, event_object, level_object, order_object, variant_object};
+ghost use Rattle.grid_jsonl.specs.Outcomes as outcomes;
+ghost use Rattle.grid_jsonl.specs.Outcomes.{command_object, end_of, event_object, level_object, order_object, variant_object};
 
 use crate::event::put_event;
 use crate::items::put_array_in;
@@ -17,6 +18,18 @@ use grid_core::Entry;
 use grid_events::Event;
 use grid_ids::{Id, Memory};
 use grid_report::{Outcome, Shown, Text};
+
+/// What the last line counts.
+#[derive(Clone, Copy, Debug, PartialEq, Eq)]
+pub struct Counts {
+    pub workers: u32,
+    pub commands: u64,
+    /// How many of the commands were refused.
+    pub refused: u64,
+    /// How many variants are live.
+    pub variants: u64,
+    pub listeners: u64,
+}
 
 /// A line.
 #[derive(Clone, Copy)]
@@ -40,12 +53,12 @@ impl Shown for Line<'_> {
     #[tactic(auto, unfolding(crate::specs::Lines::line_object))]
     fn show(&self, out: &mut Text) -> Result<(), Memory> {
         match self {
-            Line::Order(journal) => put_order(out, journal),
+            Line::Order(journal) => put_order_line(out, journal),
             Line::Command(step) => put_step_line(out, step),
-            Line::Variant(name) => put_variant(out, name),
+            Line::Variant(name) => put_variant_line(out, name),
             Line::Level(name, view) => put_level(out, name, view),
             Line::Heard(listener, step, event) => put_heard(out, *listener, step, event),
-            Line::End(outcome) => put_end(out, outcome),
+            Line::End(outcome) => put_end_line(out, &counts_of(outcome)),
         }
     }
 }
@@ -89,7 +102,8 @@ fn put_order_member(out: &mut Text, journal: &[Entry]) -> Result<(), Memory>
     put_order_array(out, journal)
 }
 
-fn put_order(out: &mut Text, journal: &[Entry]) -> Result<(), Memory>
+/// Puts the line of kind `order` last: the worker of each step. Where memory is wanting, the text is empty.
+pub fn put_order_line(out: &mut Text, journal: &[Entry]) -> Result<(), Memory>
     ensures ok { OnOk result (out.new ≡ out.old ++ line_of (order_object journal.now)) }
     ensures err { OnErr result (out.new ≡ []) }
 {
@@ -109,7 +123,8 @@ fn put_step_line(out: &mut Text, step: &Step<'_>) -> Result<(), Memory>
     out.put("}\n")
 }
 
-fn put_variant(out: &mut Text, name: &Id) -> Result<(), Memory>
+/// Puts the line of kind `variant` last: the variant's name. Where memory is wanting, the text is empty.
+pub fn put_variant_line(out: &mut Text, name: &Id) -> Result<(), Memory>
     ensures ok { OnOk result (out.new ≡ out.old ++ line_of (variant_object name.now)) }
     ensures err { OnErr result (out.new ≡ []) }
 {
@@ -143,16 +158,31 @@ fn put_heard(out: &mut Text, listener: u64, step: &Step<'_>, event: &Event) -> R
     out.put("}\n")
 }
 
-fn put_end(out: &mut Text, outcome: &Outcome) -> Result<(), Memory>
-    ensures ok { OnOk result (out.new ≡ out.old ++ line_of (end_object outcome.now)) }
-    ensures err { OnErr result (out.new ≡ []) }
+/// What the last line of an outcome counts.
+#[tactic(auto, unfolding(crate::specs::Outcomes::counts_of))]
+fn counts_of(outcome: &Outcome) -> Counts
+    ensures { result ≡ outcomes.counts_of outcome.now }
 {
     let journal = outcome.journal.slice();
+    Counts {
+        workers: outcome.workers,
+        commands: journal.len() as u64,
+        refused: refused_count(journal),
+        variants: outcome.views.len() as u64,
+        listeners: outcome.filters.len() as u64,
+    }
+}
+
+/// Puts the line of kind `end` last. Where memory is wanting, the text is empty.
+pub fn put_end_line(out: &mut Text, counts: &Counts) -> Result<(), Memory>
+    ensures ok { OnOk result (out.new ≡ out.old ++ line_of (end_of counts.now)) }
+    ensures err { OnErr result (out.new ≡ []) }
+{
     open_with(out, "kind", "end")?;
-    put_number(out, "workers", u64::from(outcome.workers))?;
-    put_number(out, "commands", journal.len() as u64)?;
-    put_number(out, "refused", refused_count(journal))?;
-    put_number(out, "variants", outcome.views.len() as u64)?;
-    put_number(out, "listeners", outcome.filters.len() as u64)?;
+    put_number(out, "workers", u64::from(counts.workers))?;
+    put_number(out, "commands", counts.commands)?;
+    put_number(out, "refused", counts.refused)?;
+    put_number(out, "variants", counts.variants)?;
+    put_number(out, "listeners", counts.listeners)?;
     out.put("}\n")
 }

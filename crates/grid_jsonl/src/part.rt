@@ -28,7 +28,7 @@ impl Written for Terminal {
 
 /// Puts the id of a bus last, as a text: its level's id, an underscore and its least node. Where memory is wanting, the
 /// text is empty.
-pub fn put_bus_id(out: &mut Text, level: &Id, least: u16) -> Result<(), Memory>
+pub fn put_bus_id(out: &mut Text, level: &Id, least: u32) -> Result<(), Memory>
     ensures ok { OnOk result (out.new ≡ out.old ++ quoted (bus_name level.now least)) }
     ensures err { OnErr result (out.new ≡ []) }
 {
@@ -40,7 +40,7 @@ pub fn put_bus_id(out: &mut Text, level: &Id, least: u16) -> Result<(), Memory>
 }
 
 /// Opens the object of a bus with its id. Where memory is wanting, the text is empty.
-pub fn open_bus(out: &mut Text, level: &Id, least: u16) -> Result<(), Memory>
+pub fn open_bus(out: &mut Text, level: &Id, least: u32) -> Result<(), Memory>
     ensures ok { OnOk result (out.new
         ≡ out.old ++ 123 ∷ field_text false (codes "id", string (bus_name level.now least))) }
     ensures err { OnErr result (out.new ≡ []) }
@@ -49,9 +49,9 @@ pub fn open_bus(out: &mut Text, level: &Id, least: u16) -> Result<(), Memory>
     put_bus_id(out, level, least)
 }
 
-/// Puts a member that is the id of a bus, behind a comma.
+/// Puts a member that is the id of a bus, behind a comma. Where memory is wanting, the text is empty.
 #[tactic(auto, unfolding(crate::specs::Trees::field_text))]
-fn put_bus(out: &mut Text, name: &str, level: &Id, least: u16) -> Result<(), Memory>
+pub fn put_bus(out: &mut Text, name: &str, level: &Id, least: u32) -> Result<(), Memory>
     ensures ok { OnOk result (out.new
         ≡ out.old ++ field_text true (name.now, string (bus_name level.now least))) }
     ensures err { OnErr result (out.new ≡ []) }
@@ -64,7 +64,7 @@ impl WrittenIn for ViewBus {
     ghost written_in = { view_bus_value };
 
     fn put_in(&self, out: &mut Text, level: &Id) -> Result<(), Memory> {
-        open_bus(out, level, self.least)?;
+        open_bus(out, level, u32::from(self.least))?;
         put_array(out, "nodes", self.nodes.slice())?;
         put_array(out, "terminals", self.terminals.slice())?;
         put_sum_of(out, "load", &self.load)?;
@@ -77,7 +77,7 @@ impl WrittenIn for Bus {
     ghost written_in = { bus_value };
 
     fn put_in(&self, out: &mut Text, level: &Id) -> Result<(), Memory> {
-        open_bus(out, level, self.least)?;
+        open_bus(out, level, u32::from(self.least))?;
         put_array(out, "nodes", self.nodes.slice())?;
         put_array(out, "terminals", self.terminals.slice())?;
         out.put("}")
@@ -90,8 +90,8 @@ impl WrittenIn for ViewSwitch {
     fn put_in(&self, out: &mut Text, level: &Id) -> Result<(), Memory> {
         open_id(out, "id", &self.id)?;
         put_flag(out, "open", self.opened)?;
-        put_bus(out, "bus1", level, self.bus1)?;
-        put_bus(out, "bus2", level, self.bus2)?;
+        put_bus(out, "bus1", level, u32::from(self.bus1))?;
+        put_bus(out, "bus2", level, u32::from(self.bus2))?;
         out.put("}")
     }
 }
@@ -100,7 +100,7 @@ impl WrittenIn for BusComponent {
     ghost written_in = { component_value };
 
     fn put_in(&self, out: &mut Text, level: &Id) -> Result<(), Memory> {
-        open_bus(out, level, self.least)?;
+        open_bus(out, level, u32::from(self.least))?;
         put_number(out, "component", u64::from(self.component))?;
         put_number(out, "size", u64::from(self.size))?;
         out.put("}")

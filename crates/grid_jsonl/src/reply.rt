@@ -23,8 +23,8 @@ use grid_level::Terminal;
 use grid_report::{Text, put_reason, refusal_number};
 use grid_structure::EditFault;
 
-/// Puts an answer that is a word alone.
-fn put_word(out: &mut Text, word: &str) -> Result<(), Memory>
+/// Puts an answer last that is a word alone, as an object. Where memory is wanting, the text is empty.
+pub fn put_word(out: &mut Text, word: &str) -> Result<(), Memory>
     ensures ok { OnOk result (out.new ≡ out.old ++ compact_text (answer_of word.now [])) }
     ensures err { OnErr result (out.new ≡ []) }
 {
@@ -201,7 +201,8 @@ fn put_why(out: &mut Text, refusal: &Refusal) -> Result<(), Memory>
     put_reason_text(out, refusal)
 }
 
-fn put_refused(out: &mut Text, refusal: &Refusal) -> Result<(), Memory>
+/// Puts a refusal last, as an object. Where memory is wanting, the text is empty.
+pub fn put_refused(out: &mut Text, refusal: &Refusal) -> Result<(), Memory>
     ensures ok { OnOk result (out.new ≡ out.old ++ compact_text (refused_value refusal.now)) }
     ensures err { OnErr result (out.new ≡ []) }
 {

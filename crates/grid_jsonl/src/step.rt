@@ -9,7 +9,7 @@ ghost use Rattle.grid_jsonl.specs.Trees.{field_text, fields_text, more_text};
 ghost use Rattle.grid_jsonl.specs.Replies.{reply_value};
 ghost use Rattle.grid_jsonl.specs.Borrowed.{step_in};
 ghost use Rattle.grid_jsonl.specs.Steps as steps;
-ghost use Rattle.grid_jsonl.specs.Steps.{state_line, step_fields, step_of, step_value, told_text, warning_text};
+ghost use Rattle.grid_jsonl.specs.Steps.{asked_fields, state_line, step_fields, step_of, step_value, told_text, warning_text};
 
 use crate::command::put_command;
 use crate::member::{open_with, put_id, put_name, put_number};
@@ -58,6 +58,22 @@ fn put_answered(out: &mut Text, request: &Request, reply: &Reply) -> Result<(), 
     put_reply(out, request, reply)
 }
 
+/// Puts the members of a step last that say who asked for what, without braces: its place in the order from 0, its worker,
+/// its number among its worker's steps from 1, the working variant and the command. Where memory is wanting, the text is
+/// empty.
+pub fn put_asked_step(out: &mut Text, place: u64, step: u64, entry: &Entry) -> Result<(), Memory>
+    ensures ok { OnOk result (out.new
+        ≡ out.old ++ fields_text (asked_fields place step entry.now.worker entry.now.variant
+        entry.now.request)) }
+    ensures err { OnErr result (out.new ≡ []) }
+{
+    put_first_number(out, "place", place)?;
+    put_number(out, "worker", u64::from(entry.worker))?;
+    put_number(out, "step", step)?;
+    put_id(out, "variant", &entry.variant)?;
+    put_asked(out, &entry.request)
+}
+
 /// Puts the members of a step last, without braces: its place in the order from 0, its number among its worker's steps
 /// from 1, and what came of it. Where memory is wanting, the text is empty.
 pub fn put_step(out: &mut Text, place: u64, step: u64, entry: &Entry) -> Result<(), Memory>
@@ -65,11 +81,7 @@ pub fn put_step(out: &mut Text, place: u64, step: u64, entry: &Entry) -> Result<
         ≡ out.old ++ fields_text (step_fields (step_of place step entry.now))) }
     ensures err { OnErr result (out.new ≡ []) }
 {
-    put_first_number(out, "place", place)?;
-    put_number(out, "worker", u64::from(entry.worker))?;
-    put_number(out, "step", step)?;
-    put_id(out, "variant", &entry.variant)?;
-    put_asked(out, &entry.request)?;
+    put_asked_step(out, place, step, entry)?;
     put_answered(out, &entry.request, &entry.reply)
 }
 
@@ -86,9 +98,9 @@ fn is_refused(reply: &Reply) -> bool
     }
 }
 
-/// How many steps were refused.
+/// How many steps were refused. It takes no memory.
 #[tactic(auto, unfolding(crate::specs::Steps::refused_count))]
-pub(crate) fn refused_count(journal: &[Entry]) -> u64
+pub fn refused_count(journal: &[Entry]) -> u64
     ensures { result ≡ steps.refused_count journal.now }
 {
     let mut count = 0;

@@ -89,7 +89,7 @@ pub(crate) fn events() -> &'static [(&'static str, i64)] {
 /// The words of `do`.
 pub(crate) fn commands(form: Option<Form>) -> &'static [(&'static str, i64)] {
     match form {
-        Some(Form::Configured) => &CONFIGURED_COMMANDS,
+        Some(Form::Configured(_)) => &CONFIGURED_COMMANDS,
         _ => &COMMANDS,
     }
 }
@@ -97,9 +97,9 @@ pub(crate) fn commands(form: Option<Form>) -> &'static [(&'static str, i64)] {
 /// The members of the object at the top.
 fn members_of_top(form: Option<Form>) -> &'static [&'static str] {
     match form {
-        Some(Form::Hvdc) => &["job", "hvdc"],
-        Some(Form::Screen) => &["job", "contingencies"],
-        Some(Form::Configured) => &["format", "configured", "workers", "order"],
+        Some(Form::Hvdc(_)) => &["job", "hvdc"],
+        Some(Form::Screen(_)) => &["job", "contingencies"],
+        Some(Form::Configured(_)) => &["format", "configured", "workers", "order"],
         _ => JOB,
     }
 }

@@ -76,7 +76,7 @@ fn word_told(
         return Ok(Some(Why::LaterWord { word, format }));
     }
     let format = match seen.form {
-        Some(Form::Configured) => 4,
+        Some(Form::Configured(_)) => 4,
         _ => job.format(),
     };
     let known = words_of(alloc, words, format)?;
@@ -98,9 +98,9 @@ fn members_at(
         return Ok(members_of_command(command.as_str(), kind.as_str()));
     }
     Ok(match (seen.form, seen.holder) {
-        (Some(Form::Configured), "injections") => Some(&["kind", "id", "bus", "connected"]),
+        (Some(Form::Configured(_)), "injections") => Some(&["kind", "id", "bus", "connected"]),
         (_, "injections") => Some(&["kind", "id", "node"]),
-        (Some(Form::Configured), holder) => members_of_configured(holder),
+        (Some(Form::Configured(_)), holder) => members_of_configured(holder),
         (_, holder) => members_of_item(holder),
     })
 }
@@ -196,7 +196,7 @@ fn unknown_told(
     }
     if let Some(found) = job.whole(seen.value) {
         let known = match seen.form {
-            Some(Form::Configured) => "1 alone",
+            Some(Form::Configured(_)) => "1 alone",
             _ => "1, 2, 3 and 4",
         };
         return Ok(Some(Why::UnknownFormat { found, known }));

@@ -9,12 +9,12 @@ const ABOUT: &str =
     "Topology of a power network: which nodes are one bus under given switch positions, which buses are connected, and which breakers connect or disconnect a feeder.";
 
 const FORMS: &str = "grid check < JOB
-       grid replay < JOB > REPORT
-       grid run < JOB > REPORT
+       grid replay [--json] < JOB > REPORT
+       grid run [--json] < JOB > REPORT
        grid print < JOB > JOB
-       grid hvdc < JOB > COMPONENTS
-       grid screen < JOB > FINDINGS
-       grid configured < JOB > REPORT
+       grid hvdc [--json] < JOB > COMPONENTS
+       grid screen [--json] < JOB > FINDINGS
+       grid configured [--json] < JOB > REPORT
        grid make SEED SIZE > JOB
        grid trial SEED SIZE";
 
@@ -31,7 +31,7 @@ const STATUSES: &str = "Exit statuses:
 /// What the arguments are and how large they may be, and the exit statuses.
 fn limits(alloc: Global) -> Result<String, AllocError> {
     format!(in alloc;
-        "JOB has at most {MOST} bytes. SEED is from 0 to {MOST_SEED} and SIZE from 1 to {MOST_SIZE}, in decimal digits without a leading zero.\n\n{STATUSES}"
+        "JOB has at most {MOST} bytes. SEED is from 0 to {MOST_SEED} and SIZE from 1 to {MOST_SIZE}, in decimal digits without a leading zero. With --json the output is JSON Lines: a JSON object on each line.\n\n{STATUSES}"
     )
 }
 

@@ -13,18 +13,36 @@ pub enum WrongWords {
     #[error("a word is no UTF-8")]
     NoText,
     #[error("`{word}` is no form")]
-    NoForm { word: String },
+    NoForm {
+        word: String,
+    },
     #[error("`{form}` takes no further words, and `{word}` is one")]
-    Further { form: String, word: String },
-    /// A form that reads a job, and a further word that names a file, or looks as if it did.
-    #[error("`{form}` takes no further words, and `{word}` is one")]
-    File { form: String, word: String },
+    Further {
+        form: String,
+        word: String,
+        /// The form reads a job, and the word names a file, or looks as if it did.
+        is_file: bool,
+    },
+    /// A form whose output has two layouts, and a word that names none.
+    #[error("`{form}` takes no further word but `--json`, and `{word}` is one")]
+    NoLayout {
+        form: String,
+        word: String,
+        /// The word names a file, or looks as if it did.
+        is_file: bool,
+    },
     #[error("`{form}` wants a SEED and a SIZE")]
-    Fewer { form: String },
+    Fewer {
+        form: String,
+    },
     #[error("`{word}` is no SEED: a whole number from 0 to {MOST_SEED} in decimal digits, without a leading zero")]
-    Seed { word: String },
+    Seed {
+        word: String,
+    },
     #[error("`{word}` is no SIZE: a whole number from 1 to {MOST_SIZE} in decimal digits, without a leading zero")]
-    Size { word: String },
+    Size {
+        word: String,
+    },
     #[error("the words are none of the forms below")]
     Unknown,
 }
@@ -49,6 +67,7 @@ fn wrong_numbers(alloc: Global, form: &str, rest: &[String]) -> Result<WrongWord
         return Ok(WrongWords::Further {
             form: shown(alloc, form)?,
             word: shown(alloc, word.as_str())?,
+            is_file: false,
         });
     }
     match form_of(alloc, &[form, seed.as_str(), "1"])? {
@@ -61,19 +80,39 @@ fn wrong_numbers(alloc: Global, form: &str, rest: &[String]) -> Result<WrongWord
     }
 }
 
-/// What is wrong with a word behind that of a form that reads a job.
+/// What is wrong with a word behind those of a form that reads a job.
 fn further(
     alloc: Global,
-    form: String,
+    form: &str,
     word: &str,
     names_file: bool,
 ) -> Result<WrongWords, AllocError> {
-    let shown = shown(alloc, word)?;
-    Ok(if names_file || word.ends_with(".json") {
-        WrongWords::File { form, word: shown }
-    } else {
-        WrongWords::Further { form, word: shown }
+    Ok(WrongWords::Further {
+        form: shown(alloc, form)?,
+        word: shown(alloc, word)?,
+        is_file: names_file || word.ends_with(".json"),
     })
+}
+
+/// What is wrong with words behind that of a form whose output has two layouts.
+fn no_layout(
+    alloc: Global,
+    form: &str,
+    rest: &[String],
+    names_file: bool,
+) -> Result<WrongWords, AllocError> {
+    match rest {
+        [layout, word, ..] if layout.as_str() == "--json" => {
+            let form = format!(in alloc; "{form} --json")?;
+            further(alloc, form.as_str(), word.as_str(), names_file)
+        }
+        [word, ..] => Ok(WrongWords::NoLayout {
+            form: shown(alloc, form)?,
+            word: shown(alloc, word.as_str())?,
+            is_file: names_file || word.as_str().ends_with(".json"),
+        }),
+        [] => Ok(WrongWords::Unknown),
+    }
 }
 
 /// What is wrong with words that are no form.
@@ -85,11 +124,15 @@ fn wrong(alloc: Global, words: &[String], names_file: bool) -> Result<WrongWords
     if form_of(alloc, &[form, "0", "1"])?.is_some() {
         return wrong_numbers(alloc, form, rest);
     }
+    if form_of(alloc, &[form, "--json"])?.is_some() {
+        return no_layout(alloc, form, rest, names_file);
+    }
     let is_form = form_of(alloc, &[form])?.is_some();
-    let form = shown(alloc, form)?;
     match rest.first() {
         Some(word) if is_form => further(alloc, form, word.as_str(), names_file),
-        _ => Ok(WrongWords::NoForm { word: form }),
+        _ => Ok(WrongWords::NoForm {
+            word: shown(alloc, form)?,
+        }),
     }
 }
 
@@ -108,9 +151,16 @@ pub(crate) fn wrong_words(alloc: Global, words: Option<&[String]>, names_file: b
 /// How a form is called that a file is named behind; no text where none is, or where memory does not serve.
 pub(crate) fn file_hint(alloc: Global, why: &WrongWords) -> String {
     let hint = match why {
-        WrongWords::File { form, .. } => {
-            format!(in alloc; "; a job is read from standard input: grid {form} < FILE")
+        WrongWords::Further {
+            form,
+            is_file: true,
+            ..
         }
+        | WrongWords::NoLayout {
+            form,
+            is_file: true,
+            ..
+        } => { format!(in alloc; "; a job is read from standard input: grid {form} < FILE") }
         _ => Ok(String::new(alloc)),
     };
     match hint {

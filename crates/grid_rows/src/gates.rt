@@ -5,6 +5,7 @@ use grid_cli::grid;
 use grid_forms::Status;
 use grid_ids::Id;
 use grid_manager::Gate;
+use grid_report::Text;
 use grid_source::{SureSink, SureSource};
 use std::alloc::Global;
 use std::process::Abort;
@@ -25,7 +26,16 @@ fn ran<R: Threads + Wait + Sync + Abort, G: Gate>(
     words.push(String::from_str(alloc, "run")?)?;
     let mut source = SureSource::new(job, 4096);
     let mut sink = SureSink::new(Vec::new(alloc), 4096);
-    let status = grid(rt, alloc, words.as_slice(), &mut source, &mut sink, gate);
+    let mut warning = Text::empty(alloc);
+    let status = grid(
+        rt,
+        alloc,
+        words.as_slice(),
+        &mut source,
+        &mut sink,
+        gate,
+        &mut warning,
+    );
     assert!(rt; matches!(status, Status::Done));
     Ok(String::from_utf8(sink.bytes().to_vec(alloc)?)?)
 }

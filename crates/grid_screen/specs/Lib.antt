@@ -9,6 +9,7 @@ pub mod Steps
 pub mod Kept
 pub mod Laws
 pub mod Texts
+pub mod Lines
 pub mod Jobs
 pub mod Grounds
 pub mod Walks

@@ -1,7 +1,7 @@
 use Rattle.std.proofs.Common.{sym, ap, ◌∙◌, subst}
 use Rattle.grid_report.specs.Histories.{IsOrder, chosen_order, history_of}
 use Rattle.grid_cli.specs.Orders.{order_of}
-use Rattle.grid_cli.specs.Hvdc.{numbers_text, hvdc_text}
+use Rattle.grid_cli.specs.Hvdc.{numbers_in, hvdc_text}
 use Rattle.grid_cli.specs.Once.{Writes, status_after}
 use Rattle.grid_cli.proofs.Written.{handed}
 use Rattle.grid_cli.proofs.hvdc.write_hvdc.Goals as goal
@@ -16,9 +16,9 @@ returns-in-Ok-clause-written g c =
     let job = c.args.hvdc.job in
     let world = c.in-Ok.ensures ∙ ap (λ s. history_of job.network s (chosen_order s job.order)) c.slice.ensures in
     let text =
-    ap (λ h. numbers_text h c.slice-in-Ok.result.now) world
-    ∙ ap (numbers_text (history_of job.network job.scripts (chosen_order job.scripts job.order))) c.slice-in-Ok.ensures
+    ap (λ h. numbers_in c.args.layout h c.slice-in-Ok.result.now) world
+    ∙ ap (numbers_in c.args.layout (history_of job.network job.scripts (chosen_order job.scripts job.order))) c.slice-in-Ok.ensures
     in
     rw c.status_of.ensures
-    (subst (λ t. Writes t (g.K.Sink.written c.args.sink.now) (g.K.Sink.written c.write_numbers.new.sink) (status_after c.write_numbers.result)) text
-    (handed c.write_numbers.result _ _ _ c.write_numbers.ensures.ok c.write_numbers.ensures.err))
+    (subst (λ t. Writes t (g.K.Sink.written c.args.sink.now) (g.K.Sink.written c.write_warned.new.sink) (status_after c.write_warned.result)) text
+    (handed c.write_warned.result _ _ _ c.write_warned.ensures.ok c.write_warned.ensures.err))

@@ -1,8 +1,15 @@
+use Rattle.std.proofs.Common.{[], ◌∷◌}
+use Rattle.std.specs.Prelude.{codes}
+use Rattle.serde_json.specs.Data.{string}
+use Rattle.grid_print.specs.Command.{request_value}
+use Rattle.grid_print.specs.Objects.{natural}
 use Rattle.grid_jsonl.specs.Steps.{step_fields}
-use Rattle.grid_jsonl.proofs.Objects.{first_member, next_member, last_member}
+use Rattle.grid_jsonl.proofs.Objects.{last_member, members}
 use Rattle.grid_jsonl.proofs.step.put_step.Goals as goal
 
 pub returns-clause-ok : goal.returns-clause-ok
 unfolding step_fields
 returns-clause-ok c =
-    rw (c.from.ensures) at (last_member c.put_answered.result _ _ (next_member _ _ (next_member _ _ (next_member _ _ (next_member _ _ (first_member _ _ _ c.in_ok-put_first_number.ensures.ok) c.in_ok-put_number.ensures.ok) c.in_ok-put_number-2.ensures.ok) c.in_ok-put_id.ensures.ok) c.in_ok-put_asked.ensures.ok) c.put_answered.ensures.ok)
+    let e = c.args.entry.now in
+    last_member {fields = (codes "worker", natural e.worker) ∷ (codes "step", natural c.args.step) ∷ (codes "variant", string e.variant) ∷ (codes "command", request_value e.request) ∷ []}
+    c.put_answered.result _ _ (members _ _ _ c.in_ok-put_asked_step.ensures.ok) c.put_answered.ensures.ok

@@ -4,4 +4,4 @@ use Rattle.grid_jsonl.proofs.part.BusComponentWrittenIn.put_in.Goals as goal
 
 pub returns-clause-ok : goal.returns-clause-ok
 unfolding component_value
-returns-clause-ok c = rw (c.from.ensures, c.from-2.ensures) at (ends c.put.result _ (more _ _ (more _ _ (begun _ _ _ c.in_ok-open_bus.ensures.ok) c.in_ok-put_number.ensures.ok) c.in_ok-put_number-2.ensures.ok) c.put.ensures.ok)
+returns-clause-ok c = rw (c.from.ensures, c.from-2.ensures, c.from-3.ensures) at (ends c.put.result _ (more _ _ (more _ _ (begun _ _ _ c.in_ok-open_bus.ensures.ok) c.in_ok-put_number.ensures.ok) c.in_ok-put_number-2.ensures.ok) c.put.ensures.ok)

@@ -4,4 +4,4 @@ use Rattle.grid_jsonl.proofs.part.ViewSwitchWrittenIn.put_in.Goals as goal
 
 pub returns-clause-ok : goal.returns-clause-ok
 unfolding switch_value
-returns-clause-ok c = ends c.put.result _ (more _ _ (more _ _ (more _ _ (begun _ _ _ c.in_ok-open_id.ensures.ok) c.in_ok-put_flag.ensures.ok) c.in_ok-put_bus.ensures.ok) c.in_ok-put_bus-2.ensures.ok) c.put.ensures.ok
+returns-clause-ok c = rw (c.from.ensures, c.from-2.ensures) at (ends c.put.result _ (more _ _ (more _ _ (more _ _ (begun _ _ _ c.in_ok-open_id.ensures.ok) c.in_ok-put_flag.ensures.ok) c.in_ok-put_bus.ensures.ok) c.in_ok-put_bus-2.ensures.ok) c.put.ensures.ok)

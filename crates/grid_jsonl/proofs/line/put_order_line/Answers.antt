@@ -1,6 +1,6 @@
 use Rattle.grid_jsonl.proofs.Objects.{begun, line_ends, more}
 use Rattle.grid_jsonl.specs.Outcomes.{order_object}
-use Rattle.grid_jsonl.proofs.line.put_order.Goals as goal
+use Rattle.grid_jsonl.proofs.line.put_order_line.Goals as goal
 
 pub returns-clause-ok : goal.returns-clause-ok
 unfolding order_object

@@ -1,6 +1,6 @@
 use Rattle.grid_jsonl.proofs.Objects.{begun, line_ends, more}
 use Rattle.grid_jsonl.specs.Outcomes.{variant_object}
-use Rattle.grid_jsonl.proofs.line.put_variant.Goals as goal
+use Rattle.grid_jsonl.proofs.line.put_variant_line.Goals as goal
 
 pub returns-clause-ok : goal.returns-clause-ok
 unfolding variant_object
