@@ -99,6 +99,8 @@ impl<'t> Tree<'t> {
     ) -> Result<Tree<'t>, ByteFault>
         ensures ok { IfOk result
             (λ tree. converted of_json (value depth reader.old) ≡ Some (tree_view tree, reader.new)) }
+        ensures not_json { result ≡ Err ByteFault.NotJson
+            → converted of_json (value depth reader.old) ≡ None }
         ensures shorter { OnOk result (length reader.new < length reader.old) }
     {
         let mut nodes = Vec::with_capacity(alloc, USUAL_NODES)?;
@@ -116,12 +118,13 @@ impl<'t> Tree<'t> {
 }
 
 impl<'t> Value<'t, 't> {
-    /// The next value of the reader, where it is neither an array nor an object, however deep those may nest. It takes no
-    /// memory.
+    /// The next value of the reader, where it is neither an array nor an object, however deep those may nest; None exactly
+    /// where there is no such value. It takes no memory.
     #[inline]
     pub fn next_leaf(reader: &mut Reader<'t>) -> Option<Value<'t, 't>>
         ensures leaf { IfSome result (λ v. (depth : ℕ) → converted of_json (value depth reader.old)
             ≡ Some (view v, reader.new)) }
+        ensures other { result ≡ None → converted of_json (value 0 reader.old) ≡ None }
         ensures shorter { OnSome result (length reader.new < length reader.old) }
     {
         match reader.next()? {
@@ -129,7 +132,8 @@ impl<'t> Value<'t, 't> {
             Token::Number(text) => Some(leaf(Node::Number(Number::parse(text)?))),
             Token::Bool(flag) => Some(leaf(Node::Bool(flag))),
             Token::Null => Some(leaf(Node::Null)),
-            _ => None,
+            Token::BeginArray | Token::BeginObject => None,
+            Token::EndObject | Token::EndArray | Token::Key(_) | Token::Bad => None,
         }
     }
 }
