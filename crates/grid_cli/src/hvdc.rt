@@ -1,4 +1,5 @@
-// The form `hvdc`: the components of each live variant's buses, over the branches alone and over HVDC lines too.
+// The form `hvdc`: the components of each live variant's buses, over the branches alone and over HVDC lines too. Each
+// variant is read where it stands in the world, and no case of it is copied.
 ghost use Rattle.std.specs.Prelude.{◌≡◌, ◌≢◌, ◌≤◌, ◌++◌, [], ℕ, Err, IfOk, IfErr, OnOk, OnErr, take, codes, length, sum_by};
 ghost use Rattle.std.specs.List.{flat_map};
 ghost use Rattle.std.specs.Io.KnownBytes.{Appends};

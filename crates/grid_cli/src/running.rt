@@ -1,4 +1,7 @@
-// Jobs, run in their order.
+// Jobs, run in their order. Where a job gives no order, the list of its workers in turn is made, so that one loop makes
+// the steps, with a cursor into each worker's script. That an order that was read is one of its scripts is known of
+// each job, so the loop takes a worker's next command without a test. The report is written after the last step, from
+// the journal and the views: want of memory during the steps writes nothing.
 ghost use Rattle.std.specs.Prelude.{◌≡◌, ◌++◌, ◌≤◌, ◌<◌, ◌^◌, All, length, map, IfOk, OnOk};
 ghost use Rattle.grid_json.specs.Job.{max_workers};
 ghost use Rattle.grid_report.specs.Histories as histories;

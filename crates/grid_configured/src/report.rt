@@ -1,4 +1,5 @@
-// The report of a job with configured buses.
+// The report of a job with configured buses. It is the report of the journal that the node/breaker form has, with other
+// replies beside it: worker, variant and request of each step are the same.
 ghost use Rattle.std.specs.Prelude.{◌≡◌, ◌≢◌, ◌≤◌, OnOk, OnErr, Err};
 ghost use Rattle.std.specs.Io.KnownBytes.{Appends};
 ghost use Rattle.grid_source.specs.Causes.{Rose};

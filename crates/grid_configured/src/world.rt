@@ -1,4 +1,6 @@
-// Workers on the variants of a network with configured buses.
+// Workers on the variants of a network with configured buses. A connect or disconnect that names a configured bus is a
+// step of the node/breaker world too, where it changes nothing, so that both histories have the same steps. A view is
+// made before its step, so that want of memory changes nothing.
 ghost use Rattle.std.specs.Prelude.{◌≡◌, ◌<◌, if◌then◌else◌, length, slice_get, Some, IsTrue, OnOk, OnErr, IfOk};
 ghost use Rattle.grid_ids.specs.Name.{has_id};
 ghost use Rattle.grid_core.specs.Fitting.{RowsFit};

@@ -1,4 +1,5 @@
-// Jobs with HVDC lines from JSON.
+// Jobs with HVDC lines from JSON. The whole is one value, which stays until the lines were held against the loaded
+// network, since a line's stations are ids of it.
 ghost use Rattle.std.specs.Prelude.{◌≤◌, [], IfOk, codes};
 ghost use Rattle.grid_value.specs.View.{view};
 ghost use Rattle.grid_json.specs.Job.{command_total, max_commands};

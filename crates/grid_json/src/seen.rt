@@ -1,5 +1,5 @@
 // Sets of ids that were named before.
-ghost use Rattle.std.specs.Prelude.{◌≡◌, [], ◌∷◌, ◌++◌, not, IfOk, OnOk};
+ghost use Rattle.std.specs.Prelude.{◌≡◌, [], ◌∷◌, ◌++◌, not, IfOk, OnOk, OnErr};
 ghost use Rattle.grid_ids.specs.Name.{has_id};
 ghost use Rattle.grid_json.specs.Seen.{Knows};
 
@@ -40,10 +40,11 @@ impl SeenIds {
         self.ids.contains(id)
     }
 
-    /// Puts the id in, and tells whether it was not there.
+    /// Puts the id in, and tells whether it was not there. After want of memory all is as before.
     pub fn add(&mut self, id: &Id) -> Result<bool, Memory>
         ensures new { IfOk result (λ new. new ≡ not (has_id self.old id.now)) }
         ensures known { OnOk result (Knows self.new (self.old ++ id.now ∷ [])) }
+        ensures same { OnErr result (self.new ≡ self.old) }
     {
         let name = id.copy()?;
         match self.ids.insert(name) {

@@ -1,4 +1,7 @@
-// Jobs from bytes.
+// Jobs from bytes. A draft is made from the tokens as they come, each member into its place, with a tree of one load,
+// line, command or the like at a time. What does not go so (a fault, want of memory, a format that stands behind what
+// it chooses) is read again over a tree of the whole, which names the first fault. So nothing is owed of the first way
+// but that what it gives is the draft. Then the network is loaded by edits.
 ghost use Rattle.std.specs.Prelude.{◌≡◌, ◌≤◌, None, codes, IfOk, IsTrue};
 ghost use Rattle.grid_value.specs.Bytes.{reading};
 ghost use Rattle.grid_value.specs.View.{view};

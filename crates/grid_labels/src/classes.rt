@@ -1,4 +1,6 @@
-// Classes of nodes: those of one label, in rising order.
+// Classes of nodes: those of one label, in rising order. Each node is linked to the next greater one that has its
+// label, so that a closing goes through both classes in order and puts each node of the greater label where it belongs,
+// and an opening goes through one class once: of those that leave, the first that it meets is the least.
 ghost use Rattle.std.specs.Prelude.{◌≡◌, ◌+◌, ◌<◌, ◌≤◌, length, IfOk, slice_index, IfSome};
 ghost use Rattle.grid_labels.specs.Classes.{linked, behind, cut, placed, AreNexts, AreLeast};
 

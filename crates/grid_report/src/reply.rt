@@ -1,4 +1,5 @@
-// What was answered, and the lines below it.
+// What was answered, and the lines below it. The lines below components name the level that the request asked for: a
+// journal has no such reply to another request.
 ghost use Rattle.std.specs.Prelude.{◌≡◌, ◌++◌, OnOk, length, codes, decimal, OnErr, []};
 ghost use Rattle.std.specs.List.{flat_map};
 ghost use Rattle.grid_report.specs.Lines.{bus_name};

@@ -1,4 +1,5 @@
-// Watts of terminals, under what a variant lists.
+// Watts of terminals, under what a variant lists. They are read for each view, which goes over the level anyway; where
+// a variant lists none, the records alone are read.
 ghost use Rattle.std.specs.Prelude.{◌≡◌, ◌^◌, pos, neg_ℤ, ◌≤ℤ◌, IfOk, IsTrue};
 ghost use Rattle.grid_busview.specs.Views as views;
 ghost use Rattle.grid_watts.specs.Watts as specs;
