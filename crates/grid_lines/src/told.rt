@@ -268,8 +268,15 @@ fn load_told(
         EditFault::IdTaken => {
             let named = job.text_member(seen.value, "id").unwrap_or(seen.value);
             let id = job.shown(alloc, Some(named))?;
-            Ok(id.map(|id| Why::IdOfTaken { id }))
+            Ok(match seen.form {
+                Some(Form::Configured(_)) => id.map(|id| Why::IdOfConfigured { id }),
+                _ => id.map(|id| Why::IdOfTaken { id }),
+            })
         }
+        EditFault::TooManyEdges => Ok(match seen.form {
+            Some(Form::Configured(_)) => Some(Why::TooManyBreakers),
+            _ => None,
+        }),
         EditFault::NoLevel => {
             let level = missing_level(alloc, job, seen)?;
             let id = job.shown(alloc, level)?;
@@ -324,6 +331,15 @@ pub(crate) fn why_seen(
             let bus = missing_bus(alloc, job, seen)?;
             let id = job.shown(alloc, bus)?;
             Ok(id.map(|id| Why::NoBusOf { id }))
+        }
+        Reason::Reserved => {
+            let id = job.shown(alloc, Some(seen.value))?;
+            Ok(id.map(|id| Why::ReservedId { id }))
+        }
+        Reason::SameBus => {
+            let bus = job.text_member(seen.value, "bus1");
+            let id = job.shown(alloc, bus)?;
+            Ok(id.map(|id| Why::SameBusOf { id }))
         }
         _ => Ok(None),
     }

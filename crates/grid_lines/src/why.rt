@@ -108,6 +108,10 @@ pub enum Why {
     TooManyContingencies,
     #[error("an id here may have 100 bytes at most and no exclamation mark, since such ids are the program's own (74)")]
     Reserved,
+    #[error("the id `{id}` has more than 100 bytes or an exclamation mark, and such ids are the program's own (74)")]
+    ReservedId {
+        id: String,
+    },
     #[error("the level has no bus of the id that is named (75)")]
     NoBus,
     #[error("the level has no bus `{id}` (75)")]
@@ -116,6 +120,10 @@ pub enum Why {
     },
     #[error("both ends of the switch are one bus (76)")]
     SameBus,
+    #[error("both ends of the switch are the bus `{id}` (76)")]
+    SameBusOf {
+        id: String,
+    },
     #[error("the id is empty (1)")]
     EmptyId,
     #[error("the id has {length} bytes, and 128 are the most (2)")]
@@ -169,10 +177,16 @@ pub enum Why {
     TooManyNodes,
     #[error("the level has 4,096 switches and internal connections, which are the most (25)")]
     TooManyEdges,
+    #[error("the level has 4,096 switches and terminals, which are the most (25)")]
+    TooManyBreakers,
     #[error("a substation, level, switch or equipment has this id already (30)")]
     IdTaken,
     #[error("a substation, level, switch or equipment has the id `{id}` already (30)")]
     IdOfTaken {
+        id: String,
+    },
+    #[error("a level, bus, switch, injection or line has the id `{id}` already (30)")]
+    IdOfConfigured {
         id: String,
     },
     #[error("no substation has the id that is named (31)")]
