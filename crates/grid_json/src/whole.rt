@@ -2,10 +2,9 @@
 // line, command or the like at a time. What does not go so (a fault, want of memory, a format that stands behind what
 // it chooses) is read again over a tree of the whole, which names the first fault. So nothing is owed of the first way
 // but that what it gives is the draft. Then the network is loaded by edits.
-ghost use Rattle.std.specs.Prelude.{◌≡◌, ◌≤◌, None, Ok, Result, codes, IfOk, IsTrue};
+ghost use Rattle.std.specs.Prelude.{◌≡◌, ◌≤◌, None, codes, IfOk, IsTrue};
 ghost use Rattle.grid_value.specs.Bytes.{reading};
 ghost use Rattle.grid_value.specs.View.{view};
-ghost use Rattle.grid_json.specs.declared.fault.Fault.{Fault};
 ghost use Rattle.grid_json.specs.Job.{command_total, max_commands, draft_at};
 ghost use Rattle.grid_json.specs.Reading.{Gives, member_at};
 ghost use Rattle.grid_json.specs.Whole.{loaded, whole_job_at, or_bad_job, draft_of, job_of, JobGives};
@@ -40,28 +39,19 @@ pub enum JobFault {
     Memory,
 }
 
-/// What was read, or its first fault as a job's.
-pub fn or_job_fault<T>(read: Result<T, ReadError>) -> Result<T, JobFault>
-    ensures gives { (wanted : Result T Fault) → Gives read wanted
-        → JobGives result (or_bad_job wanted) }
-    ensures same { IfOk result (λ value. read ≡ Ok value) }
+/// The first pass over a value.
+fn read_first(alloc: Global, value: &Value) -> Result<JobDraft, JobFault>
+    ensures draft { JobGives result (or_bad_job (draft_at (view value.now))) }
+    ensures total { IfOk result (λ draft. command_total draft.scripts ≤ max_commands) }
 {
-    match read {
-        Ok(value) => Ok(value),
+    match read_draft(alloc, value) {
+        Ok(draft) => Ok(draft),
         Err(ReadError::Memory) => Err(JobFault::Memory),
         Err(ReadError::Fault(fault)) => Err(JobFault::BadJob {
             place: fault.place,
             reason: fault.reason,
         }),
     }
-}
-
-/// The first pass over a value.
-fn read_first(alloc: Global, value: &Value) -> Result<JobDraft, JobFault>
-    ensures draft { JobGives result (or_bad_job (draft_at (view value.now))) }
-    ensures total { IfOk result (λ draft. command_total draft.scripts ≤ max_commands) }
-{
-    or_job_fault(read_draft(alloc, value))
 }
 
 /// The first pass over a tree of all that the bytes spell.
@@ -126,7 +116,14 @@ fn read_second(alloc: Global, draft: JobDraft) -> Result<Job, JobFault>
     ensures job { JobGives result (or_bad_job (loaded draft)) }
     ensures scripts { IfOk result (λ job. job.scripts ≡ draft.scripts) }
 {
-    or_job_fault(load(alloc, draft))
+    match load(alloc, draft) {
+        Ok(job) => Ok(job),
+        Err(ReadError::Memory) => Err(JobFault::Memory),
+        Err(ReadError::Fault(fault)) => Err(JobFault::BadJob {
+            place: fault.place,
+            reason: fault.reason,
+        }),
+    }
 }
 
 /// The job of a value: both passes.
@@ -152,14 +149,6 @@ pub fn job_member(alloc: Global, value: &Value) -> Result<Job, ReadError>
             Err(e) => Err(e.under(alloc, "job")),
         },
     }
-}
-
-/// The job of a value, or its first fault: both passes, so BadJson never comes.
-pub fn read_value(alloc: Global, value: &Value) -> Result<Job, JobFault>
-    ensures job { JobGives result (or_bad_job (whole_job_at (view value.now))) }
-    ensures total { IfOk result (λ job. command_total job.scripts ≤ max_commands) }
-{
-    or_job_fault(read_whole(alloc, value))
 }
 
 /// The job of the bytes: BadJson exactly where `serde_json` has no reading of them, BadJob exactly where the job has a
