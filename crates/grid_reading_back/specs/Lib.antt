@@ -1,0 +1,4 @@
+pub mod Requests
+pub mod Jobs
+pub mod Spelling
+pub mod Laws
