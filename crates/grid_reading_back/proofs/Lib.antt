@@ -13,7 +13,11 @@ pub mod Legible
 pub mod Loads
 pub mod Drafts
 pub mod Requested
+pub mod Options
 pub mod Parsed
+pub mod Quoted
 pub mod Readables
 pub mod Received
 pub mod Texts
+pub mod Written
+pub mod Returned

@@ -1,5 +1,5 @@
 -- The numbers of a value that bytes spell fit, and its texts are those that stand in the tree of the bytes.
-use Rattle.std.proofs.Common.{◌≡◌, ◌<◌, ◌≤◌, ◌^◌, ◌&&◌, ℕ, zero, suc, Bool, true, false, cond, List, Option, Some, None, Ordering, Less, Equal, Greater, drop, option_map, option_and_then, refl, subst, arith}
+use Rattle.std.proofs.Common.{◌≡◌, ◌<◌, ◌≤◌, ◌^◌, ◌&&◌, ℕ, zero, suc, Bool, true, false, cond, List, Some, None, Ordering, Less, Equal, Greater, drop, option_map, option_and_then, refl, subst, arith}
 use Rattle.std.specs.Prelude.{◌==◌, nat_lt, nat_le, slice_index, ⊤}
 use Rattle.std.specs.Float.{binary64, float_is_finite}
 use Rattle.std.specs.Str.{is_utf8}
@@ -12,15 +12,8 @@ use Rattle.json.specs.Lex.{tokens}
 use Rattle.serde_json.specs.Data.{Num, unsigned, negative, float, Data, null, boolean, number, string, array, object, Items, no_items, item, Members, no_members, member, put}
 use Rattle.serde_json.specs.Read.{is_integer, float_of, number_from, number_of, of_json, of_items, of_members, max_depth, read}
 use Rattle.grid_value.specs.Bytes.{reading}
+use Rattle.grid_reading_back.proofs.Options.{mapped, chained}
 use Rattle.grid_reading_back.proofs.Legible.{IsSigned, IsLegibleNumber, IsLegible, ItemsAreLegible, MembersAreLegible}
-
-mapped : {A B : Type 0} (f : A → B) (o : Option A) (y : B) → option_map f o ≡ Some y → (x : A) × (o ≡ Some x) × (f x ≡ y)
-mapped f None y is = cc
-mapped f (Some x) y is = (x, refl, cc)
-
-chained : {A B : Type 0} (f : A → Option B) (o : Option A) (y : B) → option_and_then f o ≡ Some y → (x : A) × (o ≡ Some x) × (f x ≡ Some y)
-chained f None y is = cc
-chained f (Some x) y is = (x, refl, is)
 
 -- ---- numbers
 
@@ -112,36 +105,15 @@ module _ (T : List ℕ → Type 0) where
         let a = chained (λ d. of_members ms (put k d found)) (of_json j) out is in
         members_legible ms (put k a.0 found) out keeps.1 (put_legible k a.0 found (tree_legible j a.0 keeps.0 a.1) old) a.2
 
-  -- ---- bytes, where the rule is kept by the texts of each tree
+  -- ---- bytes, where the texts of the tree that they spell keep the rule
 
-  pub reading_legible : ((j : json.Json) → TreeKeeps j) → (bytes : List ℕ) (d : Data) → reading bytes ≡ Some d → IsLegible T d
+  pub reading_legible : (bytes : List ℕ) (d : Data)
+      → ((j : json.Json) → is_utf8 bytes ≡ true → option_and_then (λ p. json.if_last p.0 p.1) (json.value max_depth (tokens bytes)) ≡ Some j → TreeKeeps j) → reading bytes ≡ Some d → IsLegible T d
   unfolding reading
-  reading_legible keeps bytes d is = by (is_utf8 bytes) is
+  reading_legible bytes d keeps is = by (is_utf8 bytes) refl is
     where
-      by : (b : Bool) → cond b (read bytes) None ≡ Some d → IsLegible T d
-      by true h =
+      by : (b : Bool) → is_utf8 bytes ≡ b → cond b (read bytes) None ≡ Some d → IsLegible T d
+      by true e h =
           let a = chained of_json (option_and_then (λ p. json.if_last p.0 p.1) (json.value max_depth (tokens bytes))) d h in
-          tree_legible a.0 d (keeps a.0) a.2
-      by false h = cc
-
--- ---- a rule that all texts keep
-
-abbrev pub free : List ℕ → Type 0
-free text = ⊤
-
-mutual
-  pub tree_free : (j : json.Json) → TreeKeeps free j
-  tree_free json.null = tt
-  tree_free (json.boolean b) = tt
-  tree_free (json.number s) = tt
-  tree_free (json.string s) = tt
-  tree_free (json.array js) = items_free js
-  tree_free (json.object ms) = members_free ms
-
-  items_free : (js : json.Items) → ItemsKeep free js
-  items_free json.no_items = tt
-  items_free (json.item j js) = (tree_free j, items_free js)
-
-  members_free : (ms : json.Members) → MembersKeep free ms
-  members_free json.no_members = tt
-  members_free (json.member k j ms) = (tree_free j, members_free ms)
+          tree_legible a.0 d (keeps a.0 e a.1) a.2
+      by false e h = cc

@@ -1,11 +1,11 @@
 -- A job that was read is one that is read back.
-use Rattle.std.proofs.Common.{◌≡◌, ◌≤◌, ℕ, ℤ, pos, negsuc, suc, Bool, true, false, cond, List, [], ◌∷◌, length, map, Option, Some, None, Result, Ok, Err, refl, sym, ap, ◌∙◌, subst, arith}
+use Rattle.std.proofs.Common.{◌≡◌, ◌≤◌, ℕ, ℤ, pos, negsuc, suc, Bool, true, false, cond, List, [], ◌∷◌, length, map, Option, Some, None, Result, Ok, Err, refl, sym, ap, ◌∙◌, subst, arith, IsUtf8}
 use Rattle.std.specs.Prelude.{IfSome, codes, decimal, nat_lt, if◌then◌else◌}
 use Rattle.std.specs.List.{AllByRecursion, list_all}
+use Rattle.std.proofs.lemmas.Str.{IsUtf8-from_is_utf8}
 use Rattle.std.proofs.lemmas.Bool.{and_parts, ltb-false}
 use Rattle.serde_json.specs.Data.{Data, null, boolean, number, string, array, object, Items, no_items, item}
 use Rattle.serde_json.specs.Find.{as_array}
-use Rattle.json.specs.Json as json
 use Rattle.grid_ids.specs.declared.id.IdFault.{IdFault}
 use Rattle.grid_ids.specs.Fault.{id_fault}
 use Rattle.grid_events.specs.declared.filter.Filter.{Filter}
@@ -30,7 +30,6 @@ use Rattle.grid_json.specs.Job.{max_listeners, max_workers, max_commands, comman
 use Rattle.grid_json.specs.Whole.{loaded, or_bad_job, draft_in, draft_of, job_in, job_of}
 use Rattle.grid_json.proofs.Results.{bound, all_counted}
 use Rattle.grid_print.specs.Readable.{IsId, IsWhole}
-use Rattle.grid_print.specs.Job.{job_value}
 use Rattle.grid_print.proofs.Each.{of_each}
 use Rattle.grid_reading_back.specs.Requests.{request_ids, request_numbers, IsReadableRequest}
 use Rattle.grid_reading_back.specs.Jobs.{IsReadableFilter, IsReadableScript, IsScheduleOf, IsReadableJob}
@@ -39,8 +38,8 @@ use Rattle.grid_reading_back.proofs.Legible.{IsSigned, IsLegible, Reads, member_
 use Rattle.grid_reading_back.proofs.Loads.{NetworkDraftKeeps, network_loaded}
 use Rattle.grid_reading_back.proofs.Drafts.{same_read, network_read}
 use Rattle.grid_reading_back.proofs.Requested.{command_read}
-use Rattle.grid_reading_back.proofs.Parsed.{TreeKeeps, reading_legible, free, tree_free}
-use Rattle.grid_reading_back.proofs.Whole.{spelled_back}
+use Rattle.grid_reading_back.proofs.Parsed.{reading_legible}
+use Rattle.grid_reading_back.proofs.Quoted.{spelled_texts}
 use Rattle.grid_reading_back.proofs.Readables.{is_whole, each_weaker, kept_is_readable}
 
 -- ---- the order
@@ -232,10 +231,10 @@ module _ (T : List ℕ → Type 0) where
   of_data None draft is fine = cc
   of_data (Some d) draft is fine = drafted d draft (fine d refl) (no_fault (draft_at d) draft is)
 
-  -- a job that was read, where the texts of each tree of the grammar keep the rule
-  pub job_received : ((j : json.Json) → TreeKeeps T j) → (bytes : List ℕ) (job : Job) → job_of bytes ≡ Ok job → JobKeeps job
+  -- what a job of legible data keeps
+  pub job_received : (bytes : List ℕ) (job : Job) → ((d : Data) → reading bytes ≡ Some d → IsLegible T d) → job_of bytes ≡ Ok job → JobKeeps job
   unfolding job_of draft_of
-  job_received texts bytes job is = of_draft (draft_in (reading bytes)) job is (λ draft h. of_data (reading bytes) draft h (λ d e. reading_legible T texts bytes d e))
+  job_received bytes job legible is = of_draft (draft_in (reading bytes)) job is (λ draft h. of_data (reading bytes) draft h legible)
 
   -- ---- is one that is read back
 
@@ -266,10 +265,10 @@ module _ (T : List ℕ → Type 0) where
     };
   }
 
+-- a job that was read keeps texts
+pub texts_received : (bytes : List ℕ) (job : Job) → job_of bytes ≡ Ok job → JobKeeps IsUtf8 job
+texts_received bytes job is = job_received IsUtf8 bytes job (λ d h. reading_legible IsUtf8 bytes d (λ j text spelled. spelled_texts bytes j (IsUtf8-from_is_utf8 bytes text) spelled) h) is
+
 -- a job that was read is one that is read back
 pub read_jobs_are_readable : (bytes : List ℕ) (job : Job) → job_of bytes ≡ Ok job → IsReadableJob job
-read_jobs_are_readable bytes job is = kept_job_is_readable free job (job_received free tree_free bytes job is)
-
--- and is read from each bytes that spell it
-pub read_jobs_return : (bytes printed : List ℕ) (job : Job) → job_of bytes ≡ Ok job → reading printed ≡ Some (job_value job.network job.filters job.scripts job.order) → job_of printed ≡ Ok job
-read_jobs_return bytes printed job is spelled = spelled_back printed job (read_jobs_are_readable bytes job is) spelled
+read_jobs_are_readable bytes job is = kept_job_is_readable IsUtf8 job (texts_received bytes job is)

@@ -1,12 +1,14 @@
 // The law of what is printed and read again.
-ghost use Rattle.grid_reading_back.specs.Laws.{SpelledJobsAreRead, PrintedJobsAreRead, ReadJobsAreReadable};
+ghost use Rattle.grid_reading_back.specs.Laws.{ReadJobsReturn, PrintedJobsAreRead, SpelledJobsAreRead, ReadJobsAreReadable};
 
-/// Bytes that spell the value of a job, as those that `print_job` gives, are read as that job, for each job whose ids
-/// are ids, whose numbers fit, whose network is sound, and which has no more listeners, workers and commands than a job
-/// may have, and an order of its scripts, if any. A job that was read is such a job.
-#[tactic(auto, using(crate::proofs::Whole::spelled_back, crate::proofs::Texts::printed_back))]
+/// A printed job is read back as that job: its network, its listeners, the scripts of its workers and its order. This
+/// holds of each job that was read, and more widely of each whose ids are ids, whose numbers fit, whose network is sound,
+/// which has no more listeners, workers and commands than a job may have, and whose order, if any, is one of its scripts:
+/// of its text where the ids are UTF-8, and of each bytes that spell the same JSON value, as those that `print_job` gives.
+#[tactic(auto, using(crate::proofs::Whole::spelled_back, crate::proofs::Texts::printed_back, crate::proofs::Returned::read_jobs_return))]
 pub fn printed_jobs_are_read()
-    ensures spelled { SpelledJobsAreRead }
+    ensures returns { ReadJobsReturn }
     ensures printed { PrintedJobsAreRead }
-    ensures read { ReadJobsAreReadable }
+    ensures spelled { SpelledJobsAreRead }
+    ensures readable { ReadJobsAreReadable }
 {}

@@ -1,5 +1,5 @@
 use Rattle.grid_reading_back.proofs.Received.{read_jobs_are_readable}
 use Rattle.grid_reading_back.proofs.laws.printed_jobs_are_read.Goals as goal
 
-pub returns-clause-read : goal.returns-clause-read
-returns-clause-read c = read_jobs_are_readable
+pub returns-clause-readable : goal.returns-clause-readable
+returns-clause-readable c = read_jobs_are_readable
