@@ -27,7 +27,7 @@ use Rattle.grid_structure.specs.Network.{Network, Substation}
 use Rattle.grid_structure.specs.Sites.{levels, switches, level_named, substation_named, taken, branch_ends, home_of}
 use Rattle.grid_structure.specs.Editing.{edit_fault, max_levels, max_switches, substation_with_levels, with_levels, with_level, with_substation, in_home, place_end, place_ends, refuse_home, with_branch, apply}
 use Rattle.grid_structure.proofs.OneLevel.{found}
-use Rattle.grid_reading_back.specs.Requests.{item_numbers, shape_ids, shape_numbers, given_number}
+use Rattle.grid_reading_back.specs.Requests.{item_numbers, shape_ids, shape_numbers}
 use Rattle.grid_reading_back.proofs.Networks.{SwitchKeeps, InternalKeeps, StandKeeps, PlacedKeeps, LevelKeeps, BranchKeeps, SubstationKeeps, NetworkKeeps}
 
 -- ---- lists
@@ -39,10 +39,6 @@ one_more R (y ∷ xs) x all new = (all.0, one_more R xs x all.1 new)
 pub join : {A : Type 0} (R : A → Type 0) (xs ys : List A) → AllByRecursion R xs → AllByRecursion R ys → AllByRecursion R (xs ++ ys)
 join R [] ys first second = second
 join R (x ∷ xs) ys first second = (first.0, join R xs ys first.1 second)
-
-each_mapped : {A B : Type 0} (R : A → Type 0) (S : B → Type 0) (f : A → B) → ((x : A) → R x → S (f x)) → (xs : List A) → AllByRecursion R xs → AllByRecursion S (map f xs)
-each_mapped R S f keeps [] all = tt
-each_mapped R S f keeps (x ∷ xs) all = (keeps x all.0, each_mapped R S f keeps xs all.1)
 
 found_keeps : {A : Type 0} (R : A → Type 0) (t : A → Bool) (xs : List A) (x : A) → find t xs ≡ Some x → AllByRecursion R xs → R x
 found_keeps R t [] x is all = cc
@@ -223,16 +219,6 @@ module _ (P : List ℕ → Type 0) (Q : ℤ → Type 0) where
   }
 
   -- ---- the edits
-
-  given_low : (low high : Option ℤ) → AllByRecursion Q (given_number low ++ given_number high) → IfSome low Q
-  given_low None high all = tt
-  given_low (Some z) high all = all.0
-
-  given_high : (low high : Option ℤ) → AllByRecursion Q (given_number low ++ given_number high) → IfSome high Q
-  given_high None None all = tt
-  given_high None (Some z) all = all.0
-  given_high (Some y) None all = tt
-  given_high (Some y) (Some z) all = all.1.0
 
   single_keeps : (net : Network) (old new : VoltageLevel) (level id : List ℕ) (node : ℤ) (stand : Stand) → found_or (level_named net level) faults.NoLevel ≡ Ok old
       → map_fault edit_fault (level_with_terminal old node (record { equipment = id; side = 1 }) stand) ≡ Ok new → P id → Q node → StandKeeps P Q stand → NetworkKeeps P Q net → NetworkKeeps P Q (with_level new net)

@@ -83,8 +83,8 @@ within_limit : {A : Type 0} (most : ℕ) (reason : Reason) (read : Data → Resu
 within_limit most reason read ds xs true is h = cc
 within_limit most reason read ds xs false is h = (h, omega (arith, as_many read ds 0 xs h, ltb-false most (items_len ds) is))
 
-few_read : {A : Type 0} (most : ℕ) (reason : Reason) (read : Data → Result A Fault) (d : Data) (xs : List A) → few_at most reason read d ≡ Ok xs → (array_at read d ≡ Ok xs) × (length xs ≤ most)
-few_read most reason read d xs is = by (as_array d) refl is
+few_were_read : {A : Type 0} (most : ℕ) (reason : Reason) (read : Data → Result A Fault) (d : Data) (xs : List A) → few_at most reason read d ≡ Ok xs → (array_at read d ≡ Ok xs) × (length xs ≤ most)
+few_were_read most reason read d xs is = by (as_array d) refl is
   where
     by : (found : Option Items) → as_array d ≡ found → (or_fault WrongKind found >>= λ ds. if nat_lt most (items_len ds) then Err (here reason) else items_at read 0 ds) ≡ Ok xs
         → (array_at read d ≡ Ok xs) × (length xs ≤ most)
@@ -137,7 +137,7 @@ module _ (T : List ℕ → Type 0) where
 
   listeners_read : (format : Format) → Reads T FiltersKeep (listeners_at format)
   listeners_read format d x fine is =
-      let a = few_read max_listeners TooManyListeners (listener_at format) d x is in
+      let a = few_were_read max_listeners TooManyListeners (listener_at format) d x is in
       record { few = a.1; each = array_reads T FilterKeeps (listener_at format) (listener_read format) d x fine a.0 }
 
   -- ---- scripts
@@ -160,7 +160,7 @@ module _ (T : List ℕ → Type 0) where
   scripts_read format d x fine is =
       let a = bound (few_at max_workers TooManyWorkers (array_at (command_at format)) d) counted_scripts x is in
       let same : a.0 ≡ x = all_counted a.0 x (nat_lt max_commands (command_total a.0)) a.2 in
-      let b = few_read max_workers TooManyWorkers (array_at (command_at format)) d a.0 a.1 in
+      let b = few_were_read max_workers TooManyWorkers (array_at (command_at format)) d a.0 a.1 in
       let few : length x ≤ max_workers = rw (← same) b.1 in
       let each : AllByRecursion ScriptKeeps x = subst (AllByRecursion ScriptKeeps) same (array_reads T ScriptKeeps (array_at (command_at format)) (script_read format) d a.0 fine b.0) in
       record { few = few; total = few_commands a.0 x (nat_lt max_commands (command_total a.0)) refl a.2; each = each }

@@ -17,8 +17,7 @@ use Rattle.grid_print.specs.Job.{job_value, listener_value}
 use Rattle.grid_print.specs.Readable.{IsReadable}
 use Rattle.grid_print.proofs.Rereading.{networks_are_read}
 use Rattle.grid_print.proofs.NetworkLoad.{networks_are_loaded}
-use Rattle.grid_reading_back.specs.Jobs as jobs
-use Rattle.grid_reading_back.specs.Jobs.{IsReadableFilter, IsScheduleOf, HasReadableParts, IsReadableJob}
+use Rattle.grid_reading_back.specs.Jobs.{job_draft, IsReadableFilter, IsScheduleOf, HasReadableParts, IsReadableJob}
 use Rattle.grid_reading_back.proofs.Lists.{few_back}
 use Rattle.grid_reading_back.proofs.Orders.{order_back}
 use Rattle.grid_reading_back.proofs.Listeners.{listener_back}
@@ -33,7 +32,7 @@ format_back Four = refl
 
 -- in the least format
 draft_in : (format : Format) (net : Network) (filters : List Filter) (scripts : List (List Request)) (order : Option (List ℕ)) → HasAllWords net scripts format → IsReadable net
-    → HasReadableParts filters scripts order → IfSome order (IsScheduleOf scripts) → draft_at (job_value net filters scripts order) ≡ Ok (jobs.draft_of net filters scripts order)
+    → HasReadableParts filters scripts order → IfSome order (IsScheduleOf scripts) → draft_at (job_value net filters scripts order) ≡ Ok (job_draft net filters scripts order)
 unfolding draft_at job_value members_from
 draft_in format net filters scripts None words fits parts scheduled =
     rw (
@@ -55,7 +54,7 @@ draft_in format net filters scripts (Some order) words fits parts scheduled =
 
 -- the first pass over a printed job
 pub draft_back : (net : Network) (filters : List Filter) (scripts : List (List Request)) (order : Option (List ℕ)) → IsReadable net → HasReadableParts filters scripts order
-    → draft_at (job_value net filters scripts order) ≡ Ok (jobs.draft_of net filters scripts order)
+    → draft_at (job_value net filters scripts order) ≡ Ok (job_draft net filters scripts order)
 draft_back net filters scripts order fits parts =
     let least = least_has_all net scripts in
     draft_in least.0 net filters scripts order least.1 fits parts parts.scheduled

@@ -38,5 +38,5 @@ pub record IsReadableJob (job : Job) : Type 0 where
   pub parts : HasReadableParts job.filters job.scripts job.order
 
 -- what the job is before its network is loaded
-abbrev pub draft_of : Network → List Filter → List (List Request) → Option (List ℕ) → JobDraft
-draft_of net filters scripts order = record { network = network_draft net; filters = filters; scripts = scripts; order = order }
+abbrev pub job_draft : Network → List Filter → List (List Request) → Option (List ℕ) → JobDraft
+job_draft net filters scripts order = record { network = network_draft net; filters = filters; scripts = scripts; order = order }
