@@ -1,0 +1,5 @@
+pub mod Clear
+pub mod Apart
+pub mod Reading
+pub mod Kept
+pub mod Written

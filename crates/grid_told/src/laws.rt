@@ -1,0 +1,25 @@
+//! Laws of lines, each the contract of a function that does nothing.
+
+ghost use Rattle.grid_told.specs.Laws.{LinesAreApart, LinesAreSplit, MembersAreKept, NumbersStayWhole, TextsTellTrees, TreesAreReadBack};
+
+/// No line has a byte below 32 before its newline, so that an output which is split at byte 10 gives its lines.
+#[tactic(auto, using(crate::proofs::Apart::lines_are_apart, crate::proofs::Apart::lines_are_split))]
+pub fn lines_are_apart()
+    ensures bytes { LinesAreApart }
+    ensures split { LinesAreSplit }
+{}
+
+/// The text of a tree of whole numbers is read as the value with the same members: none is lost, none comes in, and no
+/// number becomes a float.
+#[tactic(auto, using(crate::proofs::Reading::tree_read, crate::proofs::Kept::members_are_kept, crate::proofs::Kept::wholes_kept))]
+pub fn trees_are_read_back()
+    ensures values { TreesAreReadBack }
+    ensures members { MembersAreKept }
+    ensures numbers { NumbersStayWhole }
+{}
+
+/// The text of a tree of whole numbers tells the tree.
+#[tactic(auto, using(crate::proofs::Reading::tree_told))]
+pub fn texts_tell_trees()
+    ensures { TextsTellTrees }
+{}
