@@ -1,10 +1,11 @@
 -- Lines that are split at each newline.
-use Rattle.std.proofs.Common.{◌≡◌, ℕ, zero, suc, ◌≤◌, List, [], ◌∷◌, ◌++◌, All, refl, ap, ◌∙◌, arith, append_assoc}
+use Rattle.std.proofs.Common.{◌≡◌, ℕ, ◌≤◌, List, [], ◌∷◌, ◌++◌, All, refl, ap, ◌∙◌, arith, append_assoc}
 use Rattle.std.specs.Prelude.{nat_le}
-use Rattle.std.specs.List.{AllByRecursion, list_all, flat_map}
+use Rattle.std.specs.List.{AllByRecursion, list_all}
 use Rattle.std.proofs.lemmas.Bool.{and_parts, ne_eqb, leb-true}
-use Rattle.serde_json.specs.Data.{Data}
 use Rattle.serde_json.specs.Written.{compact_text}
+use Rattle.grid_print.proofs.Each.{of_each}
+use Rattle.grid_jsonl.specs.Outcomes.{lines}
 use Rattle.grid_told.specs.Splits.{onto_first, split_at_newlines}
 use Rattle.grid_told.specs.Laws.{LinesAreApart, LinesAreSplit}
 use Rattle.grid_told.proofs.Clear.{Clear, tree_clear}
@@ -12,12 +13,6 @@ use Rattle.grid_told.proofs.Clear.{Clear, tree_clear}
 each_by : (bytes : List ℕ) → Clear bytes → AllByRecursion (λ byte. 32 ≤ byte) bytes
 each_by [] h = tt
 each_by (x ∷ xs) h = let parts = and_parts (nat_le 32 x) (list_all (nat_le 32) xs) h in (leb-true 32 x parts.0, each_by xs parts.1)
-
--- (like grid_print's)
-of_each : {A : Type 0} (P : A → Type 0) (xs : List A) → AllByRecursion P xs → All P xs
-of_each P [] h k d l = absurd (omega (arith, l))
-of_each P (x ∷ xs) h zero d l = h.0
-of_each P (x ∷ xs) h (suc k) d l = of_each P xs h.1 k d (omega (arith, l))
 
 each_clear : (bytes : List ℕ) → Clear bytes → All (λ byte. 32 ≤ byte) bytes
 each_clear bytes h = of_each (λ byte. 32 ≤ byte) bytes (each_by bytes h)
@@ -33,13 +28,10 @@ first_part (x ∷ xs) rest h =
     let parts = and_parts (nat_le 32 x) (list_all (nat_le 32) xs) h in
     rw (ne_eqb x 10 (λ e. omega (arith, leb-true 32 x parts.0))) (ap (onto_first x) (first_part xs rest parts.1))
 
-abbrev line_of : Data → List ℕ
-line_of d = compact_text d ++ 10 ∷ []
-
 pub lines_are_split : LinesAreSplit
 unfolding split_at_newlines
 lines_are_split [] = refl
-lines_are_split (d ∷ objects) =
-    ap split_at_newlines (append_assoc (compact_text d) (10 ∷ []) (flat_map line_of objects))
-    ∙ first_part (compact_text d) (flat_map line_of objects) (tree_clear d)
-    ∙ ap (λ l. compact_text d ∷ l) (lines_are_split objects)
+lines_are_split (d ∷ ds) =
+    ap split_at_newlines (append_assoc (compact_text d) (10 ∷ []) (lines ds))
+    ∙ first_part (compact_text d) (lines ds) (tree_clear d)
+    ∙ ap (λ l. compact_text d ∷ l) (lines_are_split ds)

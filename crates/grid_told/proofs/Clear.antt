@@ -1,23 +1,23 @@
 -- The text of a tree has no byte below 32.
-use Rattle.std.proofs.Common.{◌≡◌, ℕ, zero, suc, ℤ, pos, negsuc, ◌+◌, ◌<◌, ◌≤◌, ◌/◌, ◌%◌, ◌==◌, Bool, true, false, ◌&&◌, List, [], ◌∷◌, ◌++◌, refl, sym, ◌∙◌, subst, inl, inr, arith}
-use Rattle.std.specs.Prelude.{decimal, nat_le, if◌then◌else◌}
-use Rattle.std.specs.Fmt.{digits, digits_onto, digit_glyph, signed_decimal}
+use Rattle.std.proofs.Common.{◌≡◌, ℕ, zero, suc, ℤ, ◌<◌, ◌≤◌, Bool, true, false, ◌&&◌, List, [], ◌∷◌, ◌++◌, refl, sym, subst, inl, inr, arith}
+use Rattle.std.specs.Prelude.{decimal, nat_le}
+use Rattle.std.specs.Fmt.{signed_decimal}
 use Rattle.std.specs.List.{list_all}
-use Rattle.std.proofs.lemmas.Bool.{and_parts, and_from, cases_lt, cases_eq, le-leb}
-use Rattle.std.proofs.lemmas.List.Folds.{list_all-append}
+use Rattle.std.proofs.lemmas.Bool.{and_parts, cases_lt, cases_eq}
+use Rattle.grid_told.proofs.Digits.{From, from_more, from_cons, lower, decimal_from, signed_from}
 use Rattle.json.specs.Print.{escape_byte, escape, quoted}
 use Rattle.json.proofs.Printed.Strings.{escape_byte_plain}
 use Rattle.serde_json.specs.Data.{Num, unsigned, negative, float, Data, null, boolean, number, string, array, object, Items, no_items, item, Members, no_members, member}
 use Rattle.serde_json.specs.Written.{number_text, comma_if, compact_text, items_text, members_text}
 
 abbrev pub Clear : List ℕ → Type 0
-Clear bytes = list_all (nat_le 32) bytes ≡ true
+Clear bytes = From 32 bytes
 
 clear_more : (xs ys : List ℕ) → Clear xs → Clear ys → Clear (xs ++ ys)
-clear_more xs ys h k = list_all-append (nat_le 32) xs ys ∙ and_from _ _ h k
+clear_more = from_more 32
 
 clear_cons : (x : ℕ) (xs : List ℕ) → 32 ≤ x → Clear xs → Clear (x ∷ xs)
-clear_cons x xs h k = and_from _ _ (le-leb 32 x h) k
+clear_cons = from_cons 32
 
 -- ---- texts
 
@@ -51,31 +51,11 @@ clear_quoted text = clear_more (escape text) (34 ∷ []) (clear_escape text) ref
 
 -- ---- numbers
 
-either_clear : (b : Bool) (xs ys : List ℕ) → Clear xs → Clear ys → Clear (if b then xs else ys)
-either_clear true xs ys h k = h
-either_clear false xs ys h k = k
-
-glyph_by : (b : Bool) (d : ℕ) → 32 ≤ (if b then 48 + d else 87 + d)
-glyph_by true d = omega arith
-glyph_by false d = omega arith
-
-glyph_clear : (d : ℕ) → 32 ≤ digit_glyph false d
-glyph_clear d = glyph_by _ d
-
-digits_clear : (k n : ℕ) (acc : List ℕ) → Clear acc → Clear (digits_onto k 10 false n acc)
-digits_clear zero n acc h = h
-digits_clear (suc k) n acc h =
-    let next = digit_glyph false (n % 10) ∷ acc in
-    let clear = clear_cons (digit_glyph false (n % 10)) acc (glyph_clear (n % 10)) h in
-    either_clear (n / 10 == 0) next (digits_onto k 10 false (n / 10) next) clear (digits_clear k (n / 10) next clear)
-
 decimal_clear : (n : ℕ) → Clear (decimal n)
-unfolding digits
-decimal_clear n = digits_clear 64 n [] refl
+decimal_clear n = lower 32 48 (decimal n) (omega arith) (decimal_from n)
 
 signed_clear : (z : ℤ) → Clear (signed_decimal z)
-signed_clear (pos n) = decimal_clear n
-signed_clear (negsuc n) = clear_cons 45 (decimal (suc n)) (omega arith) (decimal_clear (suc n))
+signed_clear z = lower 32 45 (signed_decimal z) (omega arith) (signed_from z)
 
 number_clear : (n : Num) → Clear (number_text n)
 number_clear (unsigned n) = decimal_clear n

@@ -1,23 +1,28 @@
 -- Laws of lines.
 use Rattle.std.specs.Prelude.{Some, ◌≡◌, ℕ, ◌≤◌, List, [], ◌∷◌, ◌++◌, map, All, option_map}
-use Rattle.std.specs.List.{flat_map}
 use Rattle.serde_json.specs.Data.{Data, Members, no_members, depth}
 use Rattle.serde_json.specs.Written.{compact_text}
 use Rattle.serde_json.specs.Read.{max_depth, read}
 use Rattle.serde_json.specs.Find.{get_member}
 use Rattle.grid_told.specs.Trees.{HasWholes, MemberNamesDiffer, by_name, put_by_name}
+use Rattle.grid_value.specs.Bytes.{reading}
+use Rattle.grid_core.specs.History.{History, IsHistory}
+use Rattle.grid_events.specs.declared.filter.Filter.{Filter}
+use Rattle.grid_report.specs.declared.outcome.Outcome.{Outcome}
+use Rattle.grid_report.specs.Histories.{outcome_of}
+use Rattle.grid_jsonl.specs.Outcomes.{objects, lines}
+use Rattle.grid_told.specs.Shapes.{IsReadable}
+use Rattle.grid_told.specs.Outcomes.{IsHeld, IsFitting}
+use Rattle.grid_told.specs.Told.{TellAlike}
 use Rattle.grid_told.specs.Splits.{split_at_newlines}
 
 -- whatever the object is, the text of its line has no byte below 32
 abbrev pub LinesAreApart : Type 0
-LinesAreApart = (object : Data) → All (λ byte. 32 ≤ byte) (compact_text object)
-
-abbrev line_of : Data → List ℕ
-line_of d = compact_text d ++ 10 ∷ []
+LinesAreApart = (d : Data) → All (λ byte. 32 ≤ byte) (compact_text d)
 
 -- the lines of objects, split at each newline, are the texts of the objects, and nothing stands behind the last newline
 abbrev pub LinesAreSplit : Type 0
-LinesAreSplit = (objects : List Data) → split_at_newlines (flat_map line_of objects) ≡ map compact_text objects ++ [] ∷ []
+LinesAreSplit = (ds : List Data) → split_at_newlines (lines ds) ≡ map compact_text ds ++ [] ∷ []
 
 -- ---- trees
 
@@ -36,3 +41,19 @@ NumbersStayWhole = (d : Data) → HasWholes d → HasWholes (by_name d)
 -- trees of whole numbers that have one text are one
 abbrev pub TextsTellTrees : Type 0
 TextsTellTrees = (d e : Data) → HasWholes d → HasWholes e → compact_text d ≡ compact_text e → d ≡ e
+
+-- ---- outcomes
+
+-- each object of an outcome has whole numbers and names that differ, nests at most 6 deep, and its text is read by the
+-- reading of jobs as the value with the same members
+abbrev pub ObjectsAreReadBack : Type 0
+ObjectsAreReadBack = (o : Outcome) → IsHeld o → All (λ d. IsReadable 6 d × (reading (compact_text d) ≡ Some (by_name d))) (objects o)
+
+-- in every outcome of a history a view, or components, are the reply to a request for them, and a view has the level that
+-- its request names
+abbrev pub HistoriesFit : Type 0
+HistoriesFit = (history : History) (filters : List Filter) → IsHistory history → IsFitting (outcome_of history filters)
+
+-- fitting outcomes of equal lines tell alike
+abbrev pub OutcomesAreTold : Type 0
+OutcomesAreTold = (o p : Outcome) → IsHeld o → IsHeld p → IsFitting o → IsFitting p → lines (objects o) ≡ lines (objects p) → TellAlike o p

@@ -1,6 +1,6 @@
 //! Laws of lines, each the contract of a function that does nothing.
 
-ghost use Rattle.grid_told.specs.Laws.{LinesAreApart, LinesAreSplit, MembersAreKept, NumbersStayWhole, TextsTellTrees, TreesAreReadBack};
+ghost use Rattle.grid_told.specs.Laws.{HistoriesFit, LinesAreApart, LinesAreSplit, MembersAreKept, NumbersStayWhole, ObjectsAreReadBack, OutcomesAreTold, TextsTellTrees, TreesAreReadBack};
 
 /// No line has a byte below 32 before its newline, so that an output which is split at byte 10 gives its lines.
 #[tactic(auto, using(crate::proofs::Apart::lines_are_apart, crate::proofs::Apart::lines_are_split))]
@@ -22,4 +22,23 @@ pub fn trees_are_read_back()
 #[tactic(auto, using(crate::proofs::Reading::tree_told))]
 pub fn texts_tell_trees()
     ensures { TextsTellTrees }
+{}
+
+/// Of each object of an outcome the reading of jobs reads the text as the value with the same members; it has no float,
+/// and nests at most 6 deep.
+#[tactic(auto, using(crate::proofs::ReadBack::objects_are_read_back))]
+pub fn objects_are_read_back()
+    ensures { ObjectsAreReadBack }
+{}
+
+/// In every outcome of a history a view has the level that its request names, components were asked for, and each step
+/// is by one of the workers.
+pub fn histories_fit()
+    ensures { HistoriesFit }
+{}
+
+/// Two fitting outcomes of equal lines have equal orders, equal requests, working variants and replies at each place,
+/// equal counts of workers and listeners, equal live names and views, and each listener heard the same.
+pub fn outcomes_are_told()
+    ensures { OutcomesAreTold }
 {}

@@ -1,0 +1,5 @@
+use Rattle.grid_told.proofs.Fitting.{histories_fit}
+use Rattle.grid_told.proofs.laws.histories_fit.Goals as goal
+
+pub returns : goal.returns
+returns c = histories_fit

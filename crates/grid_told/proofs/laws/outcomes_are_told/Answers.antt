@@ -1,0 +1,5 @@
+use Rattle.grid_told.proofs.Telling.{outcomes_are_told}
+use Rattle.grid_told.proofs.laws.outcomes_are_told.Goals as goal
+
+pub returns : goal.returns
+returns c = outcomes_are_told
