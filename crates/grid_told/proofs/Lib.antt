@@ -20,6 +20,7 @@ pub mod Merging
 pub mod Kinded
 pub mod Saying
 pub mod Hearing
+pub mod Lines
 pub mod Telling
 pub mod Fitting
 pub mod ReadBack

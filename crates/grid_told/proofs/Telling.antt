@@ -1,10 +1,6 @@
 -- Equal lines tell alike.
-use Rattle.std.proofs.Common.{◌≡◌, ℕ, ◌+◌, List, [], ◌∷◌, ◌++◌, map, length, drop, refl, sym, ap, ap₂, ◌∙◌, arith}
+use Rattle.std.proofs.Common.{◌≡◌, length, refl, sym, ap, ◌∙◌}
 use Rattle.std.specs.Prelude.{codes}
-use Rattle.std.specs.List.{AllByRecursion}
-use Rattle.std.proofs.lemmas.List.{length-append}
-use Rattle.serde_json.specs.Data.{Data}
-use Rattle.serde_json.specs.Written.{compact_text}
 use Rattle.grid_report.specs.declared.outcome.Outcome.{Outcome}
 use Rattle.grid_print.proofs.Each.{each_of}
 use Rattle.grid_jsonl.specs.Trees.{ordered}
@@ -12,34 +8,15 @@ use Rattle.grid_jsonl.specs.Steps.{steps}
 use Rattle.grid_jsonl.specs.Outcomes.{end_of, counts_of, end_object, objects, lines}
 use Rattle.grid_told.specs.Outcomes.{IsVariantView, IsHeld}
 use Rattle.grid_told.specs.Laws.{OutcomesAreTold}
-use Rattle.grid_told.specs.Splits.{split_at_newlines}
 use Rattle.grid_told.proofs.Fields.{natural_of, at}
-use Rattle.grid_told.proofs.Apart.{lines_are_split}
-use Rattle.grid_told.proofs.Reading.{tree_told}
-use Rattle.grid_told.proofs.Objects.{Readable, objects_readable}
+use Rattle.grid_told.proofs.Lines.{same_lines, wholes_of}
+use Rattle.grid_told.proofs.Objects.{objects_readable}
 use Rattle.grid_told.proofs.Kinded.{variants_of, same_parts}
 use Rattle.grid_told.proofs.Saying.{same_said}
 use Rattle.grid_told.proofs.Hearing.{cut, variants_cut, heard_alike}
 
-abbrev text_or : List ℕ → List (List ℕ) → List ℕ
-text_or d [] = d
-text_or d (x ∷ xs) = x
-
-abbrev texts_and_end : List Data → List (List ℕ)
-texts_and_end ds = map compact_text ds ++ [] ∷ []
-
-some_text : (ds : List Data) → length (texts_and_end ds) ≡ length (map compact_text ds) + 1
-some_text ds = length-append (map compact_text ds) ([] ∷ [])
-
-same_trees : (ds es : List Data) → AllByRecursion Readable ds → AllByRecursion Readable es → texts_and_end ds ≡ texts_and_end es → ds ≡ es
-same_trees [] [] h k e = refl
-same_trees [] (x ∷ es) h k e = let long = ap length e in absurd (omega (arith, long, some_text es))
-same_trees (d ∷ ds) [] h k e = let long = ap length e in absurd (omega (arith, long, some_text ds))
-same_trees (d ∷ ds) (x ∷ es) h k e = ap₂ (λ y ys. y ∷ ys) (tree_told d x h.0.wholes k.0.wholes (ap (text_or []) e)) (same_trees ds es h.1 k.1 (ap (drop 1) e))
-
 same_objects : (o p : Outcome) → IsHeld o → IsHeld p → lines (objects o) ≡ lines (objects p) → objects o ≡ objects p
-same_objects o p h k e =
-    same_trees (objects o) (objects p) (objects_readable o h) (objects_readable p k) (sym (lines_are_split (objects o)) ∙ ap split_at_newlines e ∙ lines_are_split (objects p))
+same_objects o p h k e = same_lines (objects o) (objects p) (wholes_of (objects o) (objects_readable o h)) (wholes_of (objects p) (objects_readable p k)) e
 
 workers_counted : (o : Outcome) → natural_of (at (codes "workers") (end_object o)) ≡ o.workers
 unfolding end_of counts_of ordered

@@ -5,13 +5,12 @@ use Rattle.serde_json.specs.Written.{compact_text}
 use Rattle.serde_json.specs.Read.{max_depth, read}
 use Rattle.serde_json.specs.Find.{get_member}
 use Rattle.grid_told.specs.Trees.{HasWholes, MemberNamesDiffer, by_name, put_by_name}
-use Rattle.grid_value.specs.Bytes.{reading}
 use Rattle.grid_core.specs.History.{History, IsHistory}
 use Rattle.grid_events.specs.declared.filter.Filter.{Filter}
 use Rattle.grid_report.specs.declared.outcome.Outcome.{Outcome}
 use Rattle.grid_report.specs.Histories.{outcome_of}
 use Rattle.grid_jsonl.specs.Outcomes.{objects, lines}
-use Rattle.grid_told.specs.Shapes.{IsReadable}
+use Rattle.grid_told.specs.Shapes.{IsReadBack}
 use Rattle.grid_told.specs.Outcomes.{IsHeld, IsFitting}
 use Rattle.grid_told.specs.Told.{TellAlike}
 use Rattle.grid_told.specs.Splits.{split_at_newlines}
@@ -47,7 +46,7 @@ TextsTellTrees = (d e : Data) → HasWholes d → HasWholes e → compact_text d
 -- each object of an outcome has whole numbers and names that differ, nests at most 6 deep, and its text is read by the
 -- reading of jobs as the value with the same members
 abbrev pub ObjectsAreReadBack : Type 0
-ObjectsAreReadBack = (o : Outcome) → IsHeld o → All (λ d. IsReadable 6 d × (reading (compact_text d) ≡ Some (by_name d))) (objects o)
+ObjectsAreReadBack = (o : Outcome) → IsHeld o → All IsReadBack (objects o)
 
 -- in every outcome of a history a view, or components, are the reply to a request for them, and a view has the level that
 -- its request names
