@@ -1,0 +1,45 @@
+-- Laws of the lines of components and of contingencies.
+use Rattle.std.specs.Prelude.{◌≡◌, ℕ, ◌^◌, ◌<◌, Bool, List, [], ◌∷◌, ◌++◌, length, map, All}
+use Rattle.std.specs.List.{flat_map}
+use Rattle.serde_json.specs.Data.{Data}
+use Rattle.grid_structure.specs.Network.{Network}
+use Rattle.grid_jsonl.specs.Outcomes.{lines}
+use Rattle.grid_hvdc.specs.declared.HvdcLine.{HvdcLine}
+use Rattle.grid_hvdc.specs.Lines.{variant_objects}
+use Rattle.grid_screen.specs.declared.Contingency.{Contingency}
+use Rattle.grid_screen.specs.declared.Finding.{Finding}
+use Rattle.grid_told.specs.Trees.{HasWholes}
+use Rattle.grid_told.specs.Shapes.{IsReadBack}
+use Rattle.grid_told_forms.specs.Findings.{IsFound, told_of, found_objects}
+use Rattle.grid_told_forms.specs.Rows.{Variant, IsVariant, row_objects, rows_of}
+
+-- ---- contingencies
+
+abbrev pub FindingsAreReadBack : Type 0
+FindingsAreReadBack = (pairs : List (Contingency × Finding)) → length pairs < 2 ^ 64 → All IsFound pairs → All IsReadBack (found_objects 0 pairs)
+
+-- between whatever first and last objects, equal lines tell equal names and findings, and equal first and last objects
+abbrev pub FindingsAreTold : Type 0
+FindingsAreTold =
+    (first also last end : Data) (pairs others : List (Contingency × Finding)) → HasWholes first → HasWholes also → HasWholes last → HasWholes end
+    → length pairs < 2 ^ 64 → length others < 2 ^ 64 → All IsFound pairs → All IsFound others
+    → lines (first ∷ (found_objects 0 pairs ++ last ∷ [])) ≡ lines (also ∷ (found_objects 0 others ++ end ∷ []))
+    → (first ≡ also) × ((map told_of pairs ≡ map told_of others) × (last ≡ end))
+
+-- ---- components
+
+-- the objects of a variant and its buses are those of its rows
+abbrev pub BusesAreRows : Type 0
+BusesAreRows = (name : List ℕ) (net : Network) (opened retained : List (List Bool)) (hvdc_lines : List HvdcLine)
+    → variant_objects name net opened retained hvdc_lines ≡ row_objects (record { name = name; rows = rows_of net opened retained hvdc_lines })
+
+abbrev pub NumbersAreReadBack : Type 0
+NumbersAreReadBack = (variants : List Variant) → All IsVariant variants → All IsReadBack (flat_map row_objects variants)
+
+-- between whatever first and last objects, equal lines tell equal variants, and equal first and last objects
+abbrev pub NumbersAreTold : Type 0
+NumbersAreTold =
+    (first also last end : Data) (variants others : List Variant) → HasWholes first → HasWholes also → HasWholes last → HasWholes end
+    → All IsVariant variants → All IsVariant others
+    → lines (first ∷ (flat_map row_objects variants ++ last ∷ [])) ≡ lines (also ∷ (flat_map row_objects others ++ end ∷ []))
+    → (first ≡ also) × ((variants ≡ others) × (last ≡ end))

@@ -1,0 +1,3 @@
+pub mod Findings
+pub mod Rows
+pub mod Laws

@@ -1,0 +1,16 @@
+//! Laws of lines, each the contract of a function that does nothing.
+
+ghost use Rattle.grid_told_forms.specs.Laws.{BusesAreRows, FindingsAreReadBack, FindingsAreTold, NumbersAreReadBack, NumbersAreTold};
+
+/// The lines of contingencies are read back, and tell each contingency's name and finding.
+pub fn findings_are_told()
+    ensures read { FindingsAreReadBack }
+    ensures told { FindingsAreTold }
+{}
+
+/// The lines of components are read back, and tell each variant, and of each bus its name and its components.
+pub fn numbers_are_told()
+    ensures rows { BusesAreRows }
+    ensures read { NumbersAreReadBack }
+    ensures told { NumbersAreTold }
+{}
