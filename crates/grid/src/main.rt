@@ -6,7 +6,7 @@ use grid_forms::Status;
 use grid_lines::{Around, Fault, ending, usage_text};
 use grid_manager::Idle;
 use grid_report::Text;
-use grid_source::{KeepingSource, StdSink, StdSource};
+use grid_source::{Input, StdSink, StdSource};
 use std::io::Read;
 use std::process::ExitCode;
 use std::{env, fs, io};
@@ -85,19 +85,18 @@ fn main(rt: HostRuntime) -> ExitCode {
         Ok(words) => words,
         Err(status) => return exit_with(&rt, None, status, &[]),
     };
-    let mut source = KeepingSource::new(rt.alloc(), StdSource::new(rt.reader()));
+    let mut input = Input::new(rt.alloc(), StdSource::new(rt.reader()));
     let mut sink = StdSink::new(io::writer(&rt));
     let mut warning = Text::empty(rt.alloc());
     let status = grid(
         &rt,
         rt.alloc(),
         words.as_slice(),
-        &mut source,
+        &mut input,
         &mut sink,
         &Idle,
         &mut warning,
     );
     warn(&rt, &warning);
-    let input = source.kept().unwrap_or(&[]);
-    exit_with(&rt, Some(words.as_slice()), status, input)
+    exit_with(&rt, Some(words.as_slice()), status, input.bytes())
 }

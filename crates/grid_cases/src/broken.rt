@@ -3,23 +3,17 @@ use crate::words::words_of;
 use grid_cli::grid_once;
 use grid_forms::Status;
 use grid_report::Text;
-use grid_source::{SureSink, SureSource};
+use grid_source::{Input, SureSink, SureSource};
 use std::alloc::Global;
 use std::io;
 
 /// How a check of these bytes ends, where nothing is written.
 fn checked(alloc: Global, bytes: Vec<u8>) -> io::Result<Option<Status>> {
     let words = words_of(alloc, "check")?;
-    let mut source = SureSource::new(bytes, 4096);
+    let mut input = Input::new(alloc, SureSource::new(bytes, 4096));
     let mut sink = SureSink::new(Vec::new(alloc), 4096);
     let mut warning = Text::empty(alloc);
-    let status = grid_once(
-        alloc,
-        words.as_slice(),
-        &mut source,
-        &mut sink,
-        &mut warning,
-    );
+    let status = grid_once(alloc, words.as_slice(), &mut input, &mut sink, &mut warning);
     Ok(if sink.bytes().is_empty() {
         Some(status)
     } else {

@@ -5,7 +5,7 @@ use grid_forms::Status;
 use grid_lines::{Around, ending};
 use grid_manager::Idle;
 use grid_report::Text;
-use grid_source::{KeepingSource, SureSink, SureSource};
+use grid_source::{Input, SureSink, SureSource};
 use std::alloc::Global;
 use std::io;
 use std::sync::Wait;
@@ -62,20 +62,20 @@ pub(crate) fn run<R: Threads + Wait + Sync>(
     job: Vec<u8>,
 ) -> io::Result<Ending> {
     let list = words_of(alloc, words)?;
-    let mut source = KeepingSource::new(alloc, SureSource::new(job, 4096));
+    let mut input = Input::new(alloc, SureSource::new(job, 4096));
     let mut sink = SureSink::new(Vec::new(alloc), 4096);
     let mut warning = Text::empty(alloc);
     let status = grid(
         threads,
         alloc,
         list.as_slice(),
-        &mut source,
+        &mut input,
         &mut sink,
         &Idle,
         &mut warning,
     );
     let fault = fault_of(alloc, &status)?;
-    let (number, line) = told(alloc, list.as_slice(), status, source.kept().unwrap_or(&[]))?;
+    let (number, line) = told(alloc, list.as_slice(), status, input.bytes())?;
     Ok(Ending {
         status: format!(in alloc; "{number}")?,
         fault,

@@ -4,7 +4,7 @@ use grid_cli::grid;
 use grid_forms::Status;
 use grid_manager::Idle;
 use grid_report::Text;
-use grid_source::{MemorySink, MemorySource, SureSink, SureSource};
+use grid_source::{Input, MemorySink, MemorySource, SureSink, SureSource};
 use std::alloc::Global;
 use std::io;
 use std::sync::Wait;
@@ -24,14 +24,15 @@ fn with_a_read_failing<R: Threads + Wait + Sync>(
     let list = words_of(alloc, words)?;
     let mut fails = Vec::new(alloc);
     fails.push(call)?;
-    let mut source = MemorySource::new(job.to_vec(alloc)?, 7, fails);
+    let source = MemorySource::new(job.to_vec(alloc)?, 7, fails);
+    let mut input = Input::new(alloc, source);
     let mut sink = SureSink::new(Vec::new(alloc), 4096);
     let mut warning = Text::empty(alloc);
     let status = grid(
         threads,
         alloc,
         list.as_slice(),
-        &mut source,
+        &mut input,
         &mut sink,
         &Idle,
         &mut warning,
@@ -50,7 +51,8 @@ fn with_a_write_failing<R: Threads + Wait + Sync>(
     let list = words_of(alloc, words)?;
     let mut fails = Vec::new(alloc);
     fails.push(call)?;
-    let mut source = SureSource::new(job.to_vec(alloc)?, 4096);
+    let source = SureSource::new(job.to_vec(alloc)?, 4096);
+    let mut input = Input::new(alloc, source);
     let room = Vec::with_capacity(alloc, 65_536)?;
     let mut sink = MemorySink::new(room, 10, fails);
     let mut warning = Text::empty(alloc);
@@ -58,7 +60,7 @@ fn with_a_write_failing<R: Threads + Wait + Sync>(
         threads,
         alloc,
         list.as_slice(),
-        &mut source,
+        &mut input,
         &mut sink,
         &Idle,
         &mut warning,

@@ -2,7 +2,7 @@
 use crate::words::words_of;
 use grid_cli::grid_once;
 use grid_report::Text;
-use grid_source::{Failed, Sink, SureSource};
+use grid_source::{Failed, Input, Sink, SureSource};
 use std::alloc::Global;
 use std::io;
 
@@ -34,18 +34,12 @@ impl Sink for Sizes {
 /// The sizes of the pieces in which a replay of a job hands out its report.
 pub(crate) fn pieces_of(alloc: Global, job: Vec<u8>) -> io::Result<Vec<usize>> {
     let words = words_of(alloc, "replay")?;
-    let mut source = SureSource::new(job, 4096);
+    let mut input = Input::new(alloc, SureSource::new(job, 4096));
     let mut sink = Sizes {
         sizes: Vec::new(alloc),
         faults: 0,
     };
     let mut warning = Text::empty(alloc);
-    grid_once(
-        alloc,
-        words.as_slice(),
-        &mut source,
-        &mut sink,
-        &mut warning,
-    );
+    grid_once(alloc, words.as_slice(), &mut input, &mut sink, &mut warning);
     Ok(sink.sizes)
 }

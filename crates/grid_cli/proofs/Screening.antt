@@ -1,10 +1,11 @@
 -- The initial variant is always live, and what is found of contingencies on it.
-use Rattle.std.proofs.Common.{◌≡◌, refl, sym, ap, ◌∙◌, ℕ, Bool, true, false, cond, List, [], ◌∷◌, ◌++◌, map, Some, None}
-use Rattle.std.specs.Prelude.{not, ◌&&◌, ◌||◌, filter}
-use Rattle.std.specs.List.{list_any, flat_map}
+use Rattle.std.proofs.Common.{◌≡◌, refl, sym, ap, ◌∙◌, ℕ, ◌+◌, Bool, true, false, cond, List, [], ◌∷◌, ◌++◌, map, length, take, Some, None, arith}
+use Rattle.std.specs.Prelude.{not, ◌&&◌, ◌||◌, filter, codes, slice_get, option_map}
+use Rattle.std.specs.List.{list_any, flat_map, zip, enumerate_from}
 use Rattle.std.proofs.lemmas.Bool.{and_parts, false≢true, true≢false}
 use Rattle.std.proofs.lemmas.Slice.Eq.{bytes_eq-Decides}
 use Rattle.grid_lemmas.proofs.Bools.{or_right}
+use Rattle.grid_lemmas.proofs.Lists.{map_one_more}
 use Rattle.grid_ids.specs.Name.{same_id, has_id, id_below}
 use Rattle.grid_slots.specs.Names.{initial_state, with_name, without_name, may_clone, may_remove}
 use Rattle.grid_requests.specs.declared.request.Request.{Request}
@@ -12,16 +13,27 @@ use Rattle.grid_requests.specs.declared.request.Request.TheVariants as requests
 use Rattle.grid_core.specs.declared.case.Case.{Case}
 use Rattle.grid_core.specs.Cases.{case_of, case_seen}
 use Rattle.grid_core.specs.History.{History, Command, live_after, live, is_live}
+use Rattle.grid_core.specs.Journals.{journal_of}
 use Rattle.grid_core.specs.Replies.{state_of}
 use Rattle.grid_core.specs.Solo.{State}
 use Rattle.grid_json.specs.declared.whole.Job.{Job}
 use Rattle.grid_report.specs.Histories.{history_of}
 use Rattle.grid_screen.specs.declared.Contingency.{Contingency}
 use Rattle.grid_screen.specs.declared.Finding.{Finding}
+use Rattle.grid_print.specs.Job.{line_of}
+use Rattle.grid_jsonl.specs.Steps.{state_value}
+use Rattle.grid_jsonl.specs.Outcomes.{lines}
+use Rattle.grid_screen.specs.declared.ScreenJob.{ScreenJob}
 use Rattle.grid_screen.specs.Findings.{finding_of, state_in, AreFindings}
+use Rattle.grid_screen.specs.Lines.{contingency_object}
+use Rattle.grid_screen.proofs.Listed.{enumerate_got}
 use Rattle.grid_structure.specs.Network.{Network}
 use Rattle.grid_cli.specs.Orders.{order_of}
-use Rattle.grid_cli.specs.Screen.{contingency_text, initial_after, initial_case, pair_line, lines_of, AreFound}
+use Rattle.grid_forms.specs.declared.words.Layout.{Layout}
+use Rattle.grid_forms.specs.declared.words.Layout.TheVariants as layouts
+use Rattle.grid_cli.specs.declared.screen.Screened.{Screened}
+use Rattle.grid_cli.specs.Screen.{contingency_text, found_object, findings_in, findings_objects, findings_text, found_text, initial_after, initial_case, end_object, pair_line, pair_object, lines_of, screen_text, AreFound, IsScreenedOf}
+use Rattle.grid_cli.proofs.Numbering.{last_text}
 
 -- ---- names
 
@@ -112,3 +124,35 @@ pub lines_are : (state : State) (contingencies : List Contingency) → lines_of 
 unfolding contingency_text
 lines_are state [] = refl
 lines_are state (contingency ∷ rest) = ap (λ t. pair_line (contingency, finding_of state contingency) ++ t) (lines_are state rest)
+
+-- their objects at places
+objects_are : (state : State) (at : ℕ) (contingencies : List Contingency)
+    → map pair_object (enumerate_from at (zip contingencies (map (finding_of state) contingencies))) ≡ map (found_object state) (enumerate_from at contingencies)
+unfolding found_object
+objects_are state at [] = refl
+objects_are state at (contingency ∷ rest) = ap (λ t. contingency_object at contingency (finding_of state contingency) ∷ t) (objects_are state (at + 1) rest)
+
+-- what was found is what is written of the job
+pub found_in : (layout : Layout) (screen : ScreenJob) (came : Screened) (contingencies : List Contingency) → contingencies ≡ screen.contingencies → IsScreenedOf screen.job screen.contingencies came
+    → found_text layout came.journal contingencies came.findings ≡ screen_text layout screen
+unfolding screen_text findings_text findings_objects
+found_in layout screen came contingencies same is =
+    let cs = screen.contingencies in
+    let h = history_of screen.job.network screen.job.scripts (order_of screen.job) in
+    ap (λ l. found_text layout came.journal l came.findings) same
+    ∙ ap (λ j. found_text layout j cs came.findings) is.journal
+    ∙ ap (found_text layout (journal_of h.origin h.steps) cs) is.found
+    ∙ by layout h cs
+  where
+    by : (layout : Layout) (h : History) (cs : List Contingency) → found_text layout (journal_of h.origin h.steps) cs (map (finding_of (initial_after h)) cs) ≡ findings_in layout h cs
+    by layouts.Text h cs = ap (λ t. t ++ codes "end\n") (lines_are (initial_after h) cs)
+    by layouts.Lines h cs = ap (λ l. lines (state_value (journal_of h.origin h.steps) ∷ (l ++ end_object (length cs) ∷ []))) (objects_are (initial_after h) 0 cs)
+
+-- one contingency's line more
+pub next_found : (pairs : List (Contingency × Finding)) (k : ℕ) (pair : Contingency × Finding) → slice_get pairs k ≡ Some pair
+    → lines (map pair_object (take (k + 1) (enumerate_from 0 pairs))) ≡ lines (map pair_object (take k (enumerate_from 0 pairs))) ++ line_of (pair_object (k, pair))
+next_found pairs k pair is =
+    let all = enumerate_from 0 pairs in
+    let zero : 0 + k ≡ k = omega arith in
+    let there : option_map pair_object (slice_get all k) ≡ Some (pair_object (k, pair)) = ap (option_map pair_object) (enumerate_got pairs 0 k pair is) ∙ ap (λ n. Some (pair_object (n, pair))) zero in
+    ap lines (map_one_more pair_object all k (pair_object (k, pair)) there) ∙ last_text line_of (map pair_object (take k all)) (pair_object (k, pair))

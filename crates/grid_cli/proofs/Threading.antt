@@ -1,5 +1,5 @@
 -- What is written of a job that ran on threads: the report of an order of its steps.
-use Rattle.std.proofs.Common.{◌≡◌, refl, sym, ap, ◌∙◌, ℕ, List, [], length, reverse, Option, Some, None, Result, false}
+use Rattle.std.proofs.Common.{◌≡◌, refl, sym, ap, ◌∙◌, ℕ, List, [], length, Option, Some, None, Result, false}
 use Rattle.std.specs.Prelude.{slice_get, unwrap_or, OnOk, OnErr}
 use Rattle.std.specs.Io.KnownBytes.{Appends}
 use Rattle.std.proofs.lemmas.List.{length-reverse}
@@ -18,7 +18,7 @@ use Rattle.grid_forms.specs.declared.words.Layout.{Layout}
 use Rattle.grid_forms.specs.declared.status.Status.TheVariants as statuses
 use Rattle.grid_cli.specs.Layouts.{outcome_text}
 use Rattle.grid_cli.specs.Orders.{IsScheduled, order_of, replay_text}
-use Rattle.grid_cli.specs.Once.{Writes, WritesReport, status_after}
+use Rattle.grid_cli.specs.Once.{WritesReport, status_after}
 use Rattle.grid_cli.specs.Threaded.{IsOutcomeOf}
 use Rattle.grid_cli.proofs.Written.{handed}
 

@@ -26,12 +26,18 @@ use Rattle.grid_cli.specs.Orders.{order_of, replay_text}
 use Rattle.grid_cli.specs.Hvdc.{hvdc_text}
 use Rattle.grid_cli.specs.Screen.{screen_text}
 use Rattle.grid_cli.specs.Configured.{configured_job_text}
-use Rattle.grid_cli.specs.Once.{ReadsWhole, ReadsJob, ReadsHvdc, ReadsScreen, ReadsConfigured, ReadsNone, ReadsPart, Writes, WritesReport, OutcomeOf, IsOutput, fault_in, fault_of, job_fault, form_for, text_of, status_after, status_for}
+use Rattle.grid_cli.specs.Once.{ReadsWhole, ReadsJob, ReadsHvdc, ReadsScreen, ReadsConfigured, ReadsNone, ReadsPart, TellsOf, Writes, WritesReport, OutcomeOf, IsOutput, fault_in, fault_of, job_fault, form_for, text_of, status_after, status_for}
 
 pub handed : (written : Result (Unit {0}) ReportFault) (text : List ℕ) (old new : Option (List ℕ)) → OnOk written (Appends old new text) → OnErr written (IsBegun old text new) → Writes text old new (status_after written)
 handed (Ok done) text old new ok err = ok
 handed (Err Stopped) text old new ok err = err
 handed (Err Memory) text old new ok err = err
+
+-- what is so where a text was written whole is so where the status is Done
+pub done_after : {P : Type 0} (written : Result (Unit {0}) ReportFault) → OnOk written P → status_after written ≡ statuses.Done → P
+done_after (Ok done) p is = p
+done_after (Err Stopped) p is = absurd (cc)
+done_after (Err Memory) p is = absurd (cc)
 
 -- the count of faults stays where the sink is not told to have failed
 pub calm : (written : Result (Unit {0}) ReportFault) (before now : ℕ) → (written ≢ Err Stopped → now ≡ before) → status_after written ≢ statuses.WriteFault → now ≡ before
@@ -124,6 +130,38 @@ faulty {A} read left left' bytes result fault whole is gives = by fault (subst (
     by jobs.BadJson given = (bytes, whole, ap fault_in given)
     by (jobs.BadJob place reason) given = (bytes, whole, ap fault_in given)
     by jobs.Memory given = record { bytes = bytes; consumed = whole.read.consumed; few = whole.within }
+
+-- ---- what a status tells of
+
+-- no status tells of bytes where the input was not read whole
+pub part_silent : {A : Type 0} (left left' : Option (List ℕ)) (status : Status) → ReadsPart left left' status → TellsOf status → A
+part_silent left left' statuses.Done r t = absurd t
+part_silent left left' statuses.Usage r t = absurd t
+part_silent left left' statuses.ReadFault r t = absurd t
+part_silent left left' statuses.TooLong r t = absurd t
+part_silent left left' statuses.BadJson r t = absurd r
+part_silent left left' (statuses.BadJob place reason) r t = absurd r
+part_silent left left' statuses.WriteFault r t = absurd t
+part_silent left left' statuses.NoMemory r t = absurd t
+
+-- nor where a text was written
+pub write_silent : {A : Type 0} (text : List ℕ) (old new : Option (List ℕ)) (status : Status) → Writes text old new status → TellsOf status → A
+write_silent text old new statuses.Done w t = absurd t
+write_silent text old new statuses.Usage w t = absurd t
+write_silent text old new statuses.ReadFault w t = absurd t
+write_silent text old new statuses.TooLong w t = absurd t
+write_silent text old new statuses.BadJson w t = absurd w
+write_silent text old new (statuses.BadJob place reason) w t = absurd w
+write_silent text old new statuses.WriteFault w t = absurd t
+write_silent text old new statuses.NoMemory w t = absurd t
+
+pub report_silent : {A : Type 0} (layout : Layout) (job : Job) (old new : Option (List ℕ)) (status : Status) → WritesReport layout job old new status → TellsOf status → A
+report_silent layout job old new status w t = write_silent w.0 old new status w.2 t
+
+pub after_silent : {A : Type 0} (written : Result (Unit {0}) ReportFault) → TellsOf (status_after written) → A
+after_silent (Ok done) t = absurd t
+after_silent (Err Stopped) t = absurd t
+after_silent (Err Memory) t = absurd t
 
 -- ---- bytes that are handed over
 

@@ -1,5 +1,5 @@
 -- What a run has read and written, by the status that it ends with.
-use Rattle.std.specs.Prelude.{◌≡◌, ℕ, ◌≤◌, ◌⊎◌, List, length, Option, Some, None, Result, Ok, Err, nat_lt, if◌then◌else◌}
+use Rattle.std.specs.Prelude.{◌≡◌, ℕ, ◌≤◌, ◌⊎◌, ⊤, List, length, Option, Some, None, Result, Ok, Err, nat_lt, if◌then◌else◌}
 use Rattle.std.specs.Io.KnownBytes.{Appends, Keeps}
 use Rattle.grid_source.specs.declared.whole.TheConstants.{MOST}
 use Rattle.grid_source.specs.Whole.{ReadsToEnd, ReadsMoreThan, ReadsUpTo, IsBegun}
@@ -133,6 +133,12 @@ ReadsPart left left' statuses.ReadFault = ReadsUpTo MOST left left'
 ReadsPart left left' statuses.TooLong = ReadsMoreThan MOST left left'
 ReadsPart left left' statuses.NoMemory = ReadsUpTo MOST left left'
 ReadsPart left left' other = ⊥
+
+-- the status tells of the bytes that were read
+abbrev pub TellsOf : Status → Type 0
+TellsOf statuses.BadJson = ⊤
+TellsOf (statuses.BadJob place reason) = ⊤
+TellsOf other = ⊥
 
 -- for the input, whole, there is an output, of which this holds
 abbrev pub HasOutput : Form → (List ℕ → Type 0) → Option (List ℕ) → Option (List ℕ) → Type 0

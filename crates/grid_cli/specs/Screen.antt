@@ -1,5 +1,5 @@
 -- What the form `screen` writes.
-use Rattle.std.specs.Prelude.{◌≡◌, ℕ, suc, List, [], ◌∷◌, ◌++◌, length, codes, map}
+use Rattle.std.specs.Prelude.{◌≡◌, ℕ, List, [], ◌∷◌, ◌++◌, length, codes, map}
 use Rattle.std.specs.List.{flat_map, zip, enumerate_from}
 use Rattle.serde_json.specs.Data.{Data}
 use Rattle.grid_slots.specs.Names.{initial_state}

@@ -11,9 +11,9 @@ ghost use Rattle.grid_configured.specs.Names.{IsConfiguredRequest};
 ghost use Rattle.grid_configured.specs.Reports.{history_of, report_after};
 ghost use Rattle.grid_forms.specs.declared.words.Form.{Form};
 ghost use Rattle.grid_cli.specs.Configured.{IsRunnable, configured_in, configured_job_text};
-ghost use Rattle.grid_cli.specs.Once.{OutcomeOf, Writes, ReadsConfigured, ReadsNone, configured_fault};
+ghost use Rattle.grid_cli.specs.Once.{OutcomeOf, Writes, ReadsConfigured, ReadsNone, ReadsWhole, TellsOf, configured_fault};
 
-use crate::once::{read_source, status_for, status_of};
+use crate::once::{read_input, status_for, status_of};
 use crate::running::chosen_order;
 use grid_configured::{
     ConfiguredJob, ConfiguredNetwork, ConfiguredOutcome, read_configured, run_configured,
@@ -24,7 +24,7 @@ use grid_forms::{Layout, Status};
 use grid_ids::Memory;
 use grid_json::Order;
 use grid_report::ReportFault;
-use grid_source::{Sink, Source};
+use grid_source::{Input, Sink, Source};
 use std::alloc::Global;
 
 /// What comes of scripts on a network, in the order that is given or else the workers in turn.
@@ -93,45 +93,52 @@ fn write_report_of<K: Sink>(
     }
 }
 
-/// The job of the source's bytes, which are given up then, or why there is none.
-#[tactic(auto, using(crate::proofs::Written::partly, crate::proofs::Written::faulty))]
-fn read_configured_from<S: Source>(alloc: Global, source: &mut S) -> Result<ConfiguredJob, Status>
-    ensures job { IfOk result (ReadsConfigured (S.left source.old) (S.left source.new)) }
+/// The job of the input's bytes, or why there is none.
+#[tactic(auto, using(crate::proofs::Written::partly, crate::proofs::Written::faulty, crate::proofs::Written::part_silent))]
+fn read_configured_from<S: Source>(
+    alloc: Global,
+    input: &mut Input<S>,
+) -> Result<ConfiguredJob, Status>
+    ensures job { IfOk result (ReadsConfigured (S.left input.old.source)
+        (S.left input.new.source)) }
     ensures runnable { IfOk result IsRunnable }
-    ensures none { IfErr result (ReadsNone configured_fault (S.left source.old)
-        (S.left source.new)) }
+    ensures none { IfErr result (ReadsNone configured_fault (S.left input.old.source)
+        (S.left input.new.source)) }
+    ensures kept { IfErr result (λ status. TellsOf status → ReadsWhole (S.left input.old.source)
+        (S.left input.new.source) input.new.bytes) }
     ensures fault { result ≡ Err Status.ReadFault
-        → Rose (S.faults source.old) (S.faults source.new) }
-    ensures stays { result ≢ Err Status.ReadFault → S.faults source.new ≡ S.faults source.old }
+        → Rose (S.faults input.old.source) (S.faults input.new.source) }
+    ensures stays { result ≢ Err Status.ReadFault
+        → S.faults input.new.source ≡ S.faults input.old.source }
 {
-    let bytes = match read_source(alloc, source) {
-        Ok(bytes) => bytes,
-        Err(status) => return Err(status),
-    };
-    match read_configured(alloc, bytes.as_slice()) {
+    read_input(input)?;
+    match read_configured(alloc, input.bytes()) {
         Ok(job) => Ok(job),
         Err(fault) => Err(status_for(fault)),
     }
 }
 
 /// Reads a job of a network with configured buses, and writes what came of it.
-#[tactic(auto, using(crate::proofs::Written::configured, crate::proofs::Written::unread))]
+#[tactic(auto, using(crate::proofs::Written::configured, crate::proofs::Written::unread, crate::proofs::Written::write_silent))]
 pub(crate) fn read_and_configure<S: Source, K: Sink>(
     alloc: Global,
     layout: Layout,
-    source: &mut S,
+    input: &mut Input<S>,
     sink: &mut K,
 ) -> Status
-    ensures outcome { OutcomeOf (Form.Configured layout) (S.left source.old) (S.left source.new)
-        (K.written sink.old) (K.written sink.new) result }
+    ensures outcome { OutcomeOf (Form.Configured layout) (S.left input.old.source)
+        (S.left input.new.source) (K.written sink.old) (K.written sink.new) result }
+    ensures kept { TellsOf result → ReadsWhole (S.left input.old.source) (S.left input.new.source)
+        input.new.bytes }
     ensures read_fault { result ≡ Status.ReadFault
-        → Rose (S.faults source.old) (S.faults source.new) }
-    ensures reads_stay { result ≢ Status.ReadFault → S.faults source.new ≡ S.faults source.old }
+        → Rose (S.faults input.old.source) (S.faults input.new.source) }
+    ensures reads_stay { result ≢ Status.ReadFault
+        → S.faults input.new.source ≡ S.faults input.old.source }
     ensures write_fault { result ≡ Status.WriteFault
         → Rose (K.faults sink.old) (K.faults sink.new) }
     ensures writes_stay { result ≢ Status.WriteFault → K.faults sink.new ≡ K.faults sink.old }
 {
-    match read_configured_from(alloc, source) {
+    match read_configured_from(alloc, input) {
         Ok(job) => write_report_of(alloc, layout, job, sink),
         Err(status) => status,
     }

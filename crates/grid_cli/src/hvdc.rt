@@ -11,13 +11,13 @@ ghost use Rattle.grid_jsonl.specs.Outcomes.{lines};
 ghost use Rattle.grid_report.specs.Histories.{history_of};
 ghost use Rattle.grid_forms.specs.declared.words.Form.{Form};
 ghost use Rattle.grid_cli.specs.Orders.{IsScheduled, order_of};
-ghost use Rattle.grid_cli.specs.Once.{OutcomeOf, Writes, ReadsHvdc, ReadsNone, hvdc_fault};
+ghost use Rattle.grid_cli.specs.Once.{OutcomeOf, Writes, ReadsHvdc, ReadsNone, ReadsWhole, TellsOf, hvdc_fault};
 ghost use Rattle.grid_cli.specs.Hvdc.{end_object, named_count, named_objects, named_text, numbers_in, numbers_objects, numbers_text, hvdc_text, part_lines, part_text};
 ghost use Rattle.grid_cli.specs.Layouts.{in_layout};
 ghost use Rattle.grid_cli.specs.Warnings.{replay_warning, warning_after, WarnsDone};
 
 use crate::layout::write_parts;
-use crate::once::{read_source, status_for, status_of};
+use crate::once::{read_input, status_for, status_of};
 use crate::running::replayed;
 use grid_core::{Entry, World};
 use grid_forms::{Layout, Status};
@@ -26,7 +26,7 @@ use grid_ids::{Id, Memory};
 use grid_json::Job;
 use grid_jsonl::{Lined, open_with, put_number, put_state, put_warning};
 use grid_report::{ReportFault, Shown, Text};
-use grid_source::{Sink, Source};
+use grid_source::{Input, Sink, Source};
 use std::alloc::Global;
 
 /// A part of what is written.
@@ -139,11 +139,16 @@ fn count_all(alloc: Global, layout: Layout, world: &World) -> Result<u64, Memory
     ensures { IfOk result (λ count. layout ≡ Layout.Lines
         → count ≡ sum_by (named_count world.now) (live world.now.steps)) }
 {
+    if layout == Layout::Text {
+        return Ok(0);
+    }
     let mut count = 0u64;
-    if layout == Layout::Lines {
-        for place in 0..world.variant_count() {
-            count += count_named(alloc, world, world.variant_name(place))?;
-        }
+    for place in 0..world.variant_count() {
+        let buses = count_named(alloc, world, world.variant_name(place))?;
+        let Some(sum) = count.checked_add(buses) else {
+            return Err(Memory);
+        };
+        count = sum;
     }
     Ok(count)
 }
@@ -196,6 +201,7 @@ fn write_numbers<K: Sink>(
 }
 
 /// Puts the warning of a world's refused commands, and then writes the components of each live variant's buses.
+#[tactic(auto, using(grid_report::proofs::Begun::at_start))]
 fn write_warned<K: Sink>(
     alloc: Global,
     layout: Layout,
@@ -248,48 +254,52 @@ fn write_hvdc<K: Sink>(
     }
 }
 
-/// The job with HVDC lines of the source's bytes, which are given up then, or why there is none.
-#[tactic(auto, using(crate::proofs::Written::partly, crate::proofs::Written::faulty))]
-fn read_hvdc_from<S: Source>(alloc: Global, source: &mut S) -> Result<HvdcJob, Status>
-    ensures job { IfOk result (ReadsHvdc (S.left source.old) (S.left source.new)) }
+/// The job with HVDC lines of the input's bytes, or why there is none.
+#[tactic(auto, using(crate::proofs::Written::partly, crate::proofs::Written::faulty, crate::proofs::Written::part_silent))]
+fn read_hvdc_from<S: Source>(alloc: Global, input: &mut Input<S>) -> Result<HvdcJob, Status>
+    ensures job { IfOk result (ReadsHvdc (S.left input.old.source) (S.left input.new.source)) }
     ensures scheduled { IfOk result (λ hvdc. IsScheduled hvdc.job) }
-    ensures none { IfErr result (ReadsNone hvdc_fault (S.left source.old) (S.left source.new)) }
+    ensures none { IfErr result (ReadsNone hvdc_fault (S.left input.old.source)
+        (S.left input.new.source)) }
+    ensures kept { IfErr result (λ status. TellsOf status → ReadsWhole (S.left input.old.source)
+        (S.left input.new.source) input.new.bytes) }
     ensures fault { result ≡ Err Status.ReadFault
-        → Rose (S.faults source.old) (S.faults source.new) }
-    ensures stays { result ≢ Err Status.ReadFault → S.faults source.new ≡ S.faults source.old }
+        → Rose (S.faults input.old.source) (S.faults input.new.source) }
+    ensures stays { result ≢ Err Status.ReadFault
+        → S.faults input.new.source ≡ S.faults input.old.source }
 {
-    let bytes = match read_source(alloc, source) {
-        Ok(bytes) => bytes,
-        Err(status) => return Err(status),
-    };
-    match read_hvdc(alloc, bytes.as_slice()) {
+    read_input(input)?;
+    match read_hvdc(alloc, input.bytes()) {
         Ok(hvdc) => Ok(hvdc),
         Err(fault) => Err(status_for(fault)),
     }
 }
 
 /// Reads a job with HVDC lines, and writes the components of each live variant's buses.
-#[tactic(auto, using(crate::proofs::Written::numbered, crate::proofs::Written::unread))]
+#[tactic(auto, using(crate::proofs::Written::numbered, crate::proofs::Written::unread, crate::proofs::Written::write_silent))]
 pub(crate) fn read_and_number<S: Source, K: Sink>(
     alloc: Global,
     layout: Layout,
-    source: &mut S,
+    input: &mut Input<S>,
     sink: &mut K,
     warning: &mut Text,
 ) -> Status
     requires { warning.old ≡ [] }
-    ensures outcome { OutcomeOf (Form.Hvdc layout) (S.left source.old) (S.left source.new)
-        (K.written sink.old) (K.written sink.new) result }
-    ensures warning { result ≡ Status.Done → WarnsDone (Form.Hvdc layout) (S.left source.old)
-        (S.left source.new) warning.new }
+    ensures outcome { OutcomeOf (Form.Hvdc layout) (S.left input.old.source)
+        (S.left input.new.source) (K.written sink.old) (K.written sink.new) result }
+    ensures kept { TellsOf result → ReadsWhole (S.left input.old.source) (S.left input.new.source)
+        input.new.bytes }
+    ensures warning { result ≡ Status.Done → WarnsDone (Form.Hvdc layout) (S.left input.old.source)
+        (S.left input.new.source) warning.new }
     ensures read_fault { result ≡ Status.ReadFault
-        → Rose (S.faults source.old) (S.faults source.new) }
-    ensures reads_stay { result ≢ Status.ReadFault → S.faults source.new ≡ S.faults source.old }
+        → Rose (S.faults input.old.source) (S.faults input.new.source) }
+    ensures reads_stay { result ≢ Status.ReadFault
+        → S.faults input.new.source ≡ S.faults input.old.source }
     ensures write_fault { result ≡ Status.WriteFault
         → Rose (K.faults sink.old) (K.faults sink.new) }
     ensures writes_stay { result ≢ Status.WriteFault → K.faults sink.new ≡ K.faults sink.old }
 {
-    match read_hvdc_from(alloc, source) {
+    match read_hvdc_from(alloc, input) {
         Ok(hvdc) => write_hvdc(alloc, layout, hvdc, sink, warning),
         Err(status) => status,
     }

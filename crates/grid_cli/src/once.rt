@@ -1,5 +1,5 @@
 // The top call on one thread.
-ghost use Rattle.std.specs.Prelude.{◌≡◌, ◌≢◌, ◌↔◌, ◌≤◌, [], None, Some, Err, IfOk, IfErr, map, string_bytes};
+ghost use Rattle.std.specs.Prelude.{◌≡◌, ◌≢◌, ◌↔◌, ◌≤◌, [], None, Some, Err, IfOk, IfErr, OnOk, map, string_bytes};
 ghost use Rattle.grid_source.specs.Causes.{Rose};
 ghost use Rattle.grid_json.specs.Job.{command_total};
 ghost use Rattle.grid_print.specs.Job.{network_text};
@@ -7,7 +7,7 @@ ghost use Rattle.grid_forms.specs.declared.words.TheConstants.{MOST_SEED, MOST_S
 ghost use Rattle.grid_cli.specs.Forms.{form_alone, ReadsNothing};
 ghost use Rattle.grid_cli.specs.Orders.{IsScheduled, replay_text};
 ghost use Rattle.grid_cli.specs.Once as once;
-ghost use Rattle.grid_cli.specs.Once.{Outcome, OutcomeOf, form_for, Exact, Writes, ReadsWhole, ReadsPart, ReadsNone, ReadsJob, job_fault, status_after, text_of, made_text};
+ghost use Rattle.grid_cli.specs.Once.{Outcome, OutcomeOf, form_for, Exact, Writes, ReadsWhole, ReadsPart, ReadsNone, ReadsJob, TellsOf, job_fault, status_after, text_of, made_text};
 ghost use Rattle.grid_cli.specs.Warnings.{Warns};
 
 use crate::configured::read_and_configure;
@@ -22,45 +22,52 @@ use grid_json::{Job, JobFault, read_job};
 use grid_make::make_job;
 use grid_print::{print_job, print_network};
 use grid_report::{ReportFault, Text};
-use grid_source::{ReadAllFault, Sink, Source, read_all, write_all};
+use grid_source::{Input, ReadAllFault, Sink, Source, write_all};
 use grid_structure::Structure;
 use std::alloc::Global;
 
-/// Does what the words ask for, from the source to the sink, on the calling thread. It serves every form but `run` and
-/// `screen`, which are Usage here as words of no form are. It takes no lock. The warning is the line that tells which
-/// commands were refused where the output tells none of them: after `hvdc` that is Done. It is made before the first byte
-/// is written, and else empty.
+/// Does what the words ask for, from the input to the sink, on the calling thread. It serves every form but `run` and
+/// `screen`, which are Usage here as words of no form are. It takes no lock. The input's bytes are all that was read after
+/// BadJson and BadJob, so what such a status names is found in them; after a fault of the source they are a front of it.
+/// A form that reads nothing leaves them. The warning is the line that tells which commands were refused where the output
+/// tells none of them: after `hvdc` that is Done. It is made before the first byte is written, and else empty.
 pub fn grid_once<S: Source, K: Sink>(
     alloc: Global,
     words: &[String],
-    source: &mut S,
+    input: &mut Input<S>,
     sink: &mut K,
     warning: &mut Text,
 ) -> Status
     ensures usage { (result ≡ Status.Usage) ↔ (form_alone (map string_bytes words.now) ≡ None) }
 
     // What was read and what was written, by the status.
-    ensures outcome { Outcome (form_alone (map string_bytes words.now)) (S.left source.old)
-        (S.left source.new) (K.written sink.old) (K.written sink.new) result }
+    ensures outcome { Outcome (form_alone (map string_bytes words.now)) (S.left input.old.source)
+        (S.left input.new.source) (K.written sink.old) (K.written sink.new) result }
 
     // Where the source tells its bytes, they decide the status, but for faults and want of memory.
-    ensures exact { Exact (form_alone (map string_bytes words.now)) (S.left source.old) result }
+    ensures exact { Exact (form_alone (map string_bytes words.now))
+        (S.left input.old.source) result }
+
+    // A status that tells of the bytes tells of those that the input has.
+    ensures kept { TellsOf result → ReadsWhole (S.left input.old.source) (S.left input.new.source)
+        input.new.bytes }
 
     // The warning is that of the job in the bytes that were read.
-    ensures warning { Warns (form_alone (map string_bytes words.now)) (S.left source.old)
-        (S.left source.new) result warning.new }
+    ensures warning { Warns (form_alone (map string_bytes words.now)) (S.left input.old.source)
+        (S.left input.new.source) result warning.new }
 
     ensures read_fault { result ≡ Status.ReadFault
-        → Rose (S.faults source.old) (S.faults source.new) }
-    ensures reads_stay { result ≢ Status.ReadFault → S.faults source.new ≡ S.faults source.old }
+        → Rose (S.faults input.old.source) (S.faults input.new.source) }
+    ensures reads_stay { result ≢ Status.ReadFault
+        → S.faults input.new.source ≡ S.faults input.old.source }
     ensures write_fault { result ≡ Status.WriteFault
         → Rose (K.faults sink.old) (K.faults sink.new) }
     ensures writes_stay { result ≢ Status.WriteFault → K.faults sink.new ≡ K.faults sink.old }
     ensures untouched { ReadsNothing (form_alone (map string_bytes words.now))
-        → S.faults source.new ≡ S.faults source.old }
+        → S.faults input.new.source ≡ S.faults input.old.source }
 {
     warning.clear();
-    let status = run(alloc, words, source, sink, warning);
+    let status = run(alloc, words, input, sink, warning);
     keep_if_done(warning, &status);
     status
 }
@@ -76,38 +83,42 @@ pub(crate) fn keep_if_done(warning: &mut Text, status: &Status)
 }
 
 // The same, without what follows from the other clauses, and with a warning that stays where the status is not Done.
+#[tactic(auto, using(crate::proofs::Written::write_silent, crate::proofs::Written::after_silent))]
 fn run<S: Source, K: Sink>(
     alloc: Global,
     words: &[String],
-    source: &mut S,
+    input: &mut Input<S>,
     sink: &mut K,
     warning: &mut Text,
 ) -> Status
     requires { warning.old ≡ [] }
     ensures warning { result ≡ Status.Done → Warns (form_alone (map string_bytes words.now))
-        (S.left source.old) (S.left source.new) Status.Done warning.new }
+        (S.left input.old.source) (S.left input.new.source) Status.Done warning.new }
     ensures usage { (result ≡ Status.Usage) ↔ (form_alone (map string_bytes words.now) ≡ None) }
-    ensures outcome { Outcome (form_alone (map string_bytes words.now)) (S.left source.old)
-        (S.left source.new) (K.written sink.old) (K.written sink.new) result }
+    ensures outcome { Outcome (form_alone (map string_bytes words.now)) (S.left input.old.source)
+        (S.left input.new.source) (K.written sink.old) (K.written sink.new) result }
+    ensures kept { TellsOf result → ReadsWhole (S.left input.old.source) (S.left input.new.source)
+        input.new.bytes }
     ensures read_fault { result ≡ Status.ReadFault
-        → Rose (S.faults source.old) (S.faults source.new) }
-    ensures reads_stay { result ≢ Status.ReadFault → S.faults source.new ≡ S.faults source.old }
+        → Rose (S.faults input.old.source) (S.faults input.new.source) }
+    ensures reads_stay { result ≢ Status.ReadFault
+        → S.faults input.new.source ≡ S.faults input.old.source }
     ensures write_fault { result ≡ Status.WriteFault
         → Rose (K.faults sink.old) (K.faults sink.new) }
     ensures writes_stay { result ≢ Status.WriteFault → K.faults sink.new ≡ K.faults sink.old }
     ensures untouched { ReadsNothing (form_alone (map string_bytes words.now))
-        → S.faults source.new ≡ S.faults source.old }
+        → S.faults input.new.source ≡ S.faults input.old.source }
 {
     let Some(form) = read_words(words) else {
         return Status::Usage;
     };
     match form {
-        Form::Check => read_and_answer(alloc, Answer::Counts, source, sink),
-        Form::Replay(layout) => read_and_answer(alloc, Answer::Outcome(layout), source, sink),
+        Form::Check => read_and_answer(alloc, Answer::Counts, input, sink),
+        Form::Replay(layout) => read_and_answer(alloc, Answer::Outcome(layout), input, sink),
         Form::Run(_) | Form::Screen(_) => Status::Usage,
-        Form::Print => read_and_answer(alloc, Answer::Network, source, sink),
-        Form::Hvdc(layout) => read_and_number(alloc, layout, source, sink, warning),
-        Form::Configured(layout) => read_and_configure(alloc, layout, source, sink),
+        Form::Print => read_and_answer(alloc, Answer::Network, input, sink),
+        Form::Hvdc(layout) => read_and_number(alloc, layout, input, sink, warning),
+        Form::Configured(layout) => read_and_configure(alloc, layout, input, sink),
         Form::Make { seed, size } => make(alloc, seed, size, sink),
         Form::Trial { seed, size } => status_of(write_trial(alloc, seed, size, sink)),
     }
@@ -123,39 +134,43 @@ enum Answer {
 }
 
 // Reads a job, and writes what is written for it.
-#[tactic(auto, using(crate::proofs::Written::answered, crate::proofs::Written::unanswered))]
+#[tactic(auto, using(crate::proofs::Written::answered, crate::proofs::Written::unanswered, crate::proofs::Written::write_silent))]
 fn read_and_answer<S: Source, K: Sink>(
     alloc: Global,
     wanted: Answer,
-    source: &mut S,
+    input: &mut Input<S>,
     sink: &mut K,
 ) -> Status
-    ensures outcome { OutcomeOf (form_for wanted) (S.left source.old) (S.left source.new)
-        (K.written sink.old) (K.written sink.new) result }
+    ensures outcome { OutcomeOf (form_for wanted) (S.left input.old.source)
+        (S.left input.new.source) (K.written sink.old) (K.written sink.new) result }
+    ensures kept { TellsOf result → ReadsWhole (S.left input.old.source) (S.left input.new.source)
+        input.new.bytes }
     ensures read_fault { result ≡ Status.ReadFault
-        → Rose (S.faults source.old) (S.faults source.new) }
-    ensures reads_stay { result ≢ Status.ReadFault → S.faults source.new ≡ S.faults source.old }
+        → Rose (S.faults input.old.source) (S.faults input.new.source) }
+    ensures reads_stay { result ≢ Status.ReadFault
+        → S.faults input.new.source ≡ S.faults input.old.source }
     ensures write_fault { result ≡ Status.WriteFault
         → Rose (K.faults sink.old) (K.faults sink.new) }
     ensures writes_stay { result ≢ Status.WriteFault → K.faults sink.new ≡ K.faults sink.old }
 {
-    match read_from(alloc, source) {
+    match read_from(alloc, input) {
         Ok(job) => write_answer(alloc, wanted, job, sink),
         Err(status) => status,
     }
 }
 
-/// The source's bytes, read to their end, or why they were not.
-pub(crate) fn read_source<S: Source>(alloc: Global, source: &mut S) -> Result<Vec<u8>, Status>
-    ensures whole { IfOk result (λ bytes. ReadsWhole (S.left source.old) (S.left source.new)
-        bytes.items) }
-    ensures part { IfErr result (ReadsPart (S.left source.old) (S.left source.new)) }
+/// Reads the input to its end, or tells why it was not.
+pub(crate) fn read_input<S: Source>(input: &mut Input<S>) -> Result<(), Status>
+    ensures whole { OnOk result (ReadsWhole (S.left input.old.source) (S.left input.new.source)
+        input.new.bytes) }
+    ensures part { IfErr result (ReadsPart (S.left input.old.source) (S.left input.new.source)) }
     ensures fault { result ≡ Err Status.ReadFault
-        → Rose (S.faults source.old) (S.faults source.new) }
-    ensures stays { result ≢ Err Status.ReadFault → S.faults source.new ≡ S.faults source.old }
+        → Rose (S.faults input.old.source) (S.faults input.new.source) }
+    ensures stays { result ≢ Err Status.ReadFault
+        → S.faults input.new.source ≡ S.faults input.old.source }
 {
-    match read_all(alloc, source) {
-        Ok(bytes) => Ok(bytes),
+    match input.read_all() {
+        Ok(()) => Ok(()),
         Err(ReadAllFault::Fault) => Err(Status::ReadFault),
         Err(ReadAllFault::TooLong) => Err(Status::TooLong),
         Err(ReadAllFault::Memory) => Err(Status::NoMemory),
@@ -173,22 +188,23 @@ pub(crate) fn status_for(fault: JobFault) -> Status
     }
 }
 
-/// The job of the source's bytes, which are given up then, or why there is none.
-#[tactic(auto, using(crate::proofs::Written::partly, crate::proofs::Written::faulty))]
-pub(crate) fn read_from<S: Source>(alloc: Global, source: &mut S) -> Result<Job, Status>
-    ensures job { IfOk result (ReadsJob (S.left source.old) (S.left source.new)) }
+/// The job of the input's bytes, or why there is none.
+#[tactic(auto, using(crate::proofs::Written::partly, crate::proofs::Written::faulty, crate::proofs::Written::part_silent))]
+pub(crate) fn read_from<S: Source>(alloc: Global, input: &mut Input<S>) -> Result<Job, Status>
+    ensures job { IfOk result (ReadsJob (S.left input.old.source) (S.left input.new.source)) }
     ensures few { IfOk result (λ job. command_total job.scripts ≤ 20000) }
     ensures scheduled { IfOk result IsScheduled }
-    ensures none { IfErr result (ReadsNone job_fault (S.left source.old) (S.left source.new)) }
+    ensures none { IfErr result (ReadsNone job_fault (S.left input.old.source)
+        (S.left input.new.source)) }
+    ensures kept { IfErr result (λ status. TellsOf status → ReadsWhole (S.left input.old.source)
+        (S.left input.new.source) input.new.bytes) }
     ensures fault { result ≡ Err Status.ReadFault
-        → Rose (S.faults source.old) (S.faults source.new) }
-    ensures stays { result ≢ Err Status.ReadFault → S.faults source.new ≡ S.faults source.old }
+        → Rose (S.faults input.old.source) (S.faults input.new.source) }
+    ensures stays { result ≢ Err Status.ReadFault
+        → S.faults input.new.source ≡ S.faults input.old.source }
 {
-    let bytes = match read_source(alloc, source) {
-        Ok(bytes) => bytes,
-        Err(status) => return Err(status),
-    };
-    match read_job(alloc, bytes.as_slice()) {
+    read_input(input)?;
+    match read_job(alloc, input.bytes()) {
         Ok(job) => Ok(job),
         Err(fault) => Err(status_for(fault)),
     }

@@ -11,13 +11,13 @@ ghost use Rattle.grid_report.specs.Histories.{history_of};
 ghost use Rattle.grid_screen.specs.Findings.{CaseFits};
 ghost use Rattle.grid_forms.specs.declared.words.Form.{Form};
 ghost use Rattle.grid_cli.specs.Orders.{IsScheduled, order_of};
-ghost use Rattle.grid_cli.specs.Once.{OutcomeOf, Writes, ReadsScreen, ReadsNone, screen_fault};
+ghost use Rattle.grid_cli.specs.Once.{OutcomeOf, Writes, ReadsScreen, ReadsNone, ReadsWhole, TellsOf, screen_fault};
 ghost use Rattle.grid_cli.specs.Screen.{IsScreenedOf, end_object, found_text, lines_of, objects_of, part_lines, part_text, screen_text};
 ghost use Rattle.grid_cli.specs.Warnings.{replay_warning, WarnsDone};
 ghost use Rattle.grid_cli.specs.Screen as screens;
 
 use crate::layout::write_parts;
-use crate::once::{read_source, status_for, status_of};
+use crate::once::{read_input, status_for, status_of};
 use crate::running::replayed;
 use grid_core::{Case, Entry, Journal, World};
 use grid_forms::{Layout, Status};
@@ -31,7 +31,7 @@ use grid_screen::{
     read_screen, screen,
 };
 use grid_slots::INITIAL_STATE;
-use grid_source::{Sink, Source};
+use grid_source::{Input, Sink, Source};
 use std::alloc::Global;
 use std::thread::Threads;
 
@@ -183,6 +183,7 @@ fn find_all<R: Threads + Sync>(
 }
 
 /// Puts the warning of refused commands, and then writes what was found of the contingencies.
+#[tactic(auto, using(grid_report::proofs::Begun::at_start))]
 fn write_warned<K: Sink>(
     alloc: Global,
     layout: Layout,
@@ -238,49 +239,53 @@ fn write_screen<R: Threads + Sync, K: Sink>(
     }
 }
 
-/// The job with contingencies of the source's bytes, which are given up then, or why there is none.
-#[tactic(auto, using(crate::proofs::Written::partly, crate::proofs::Written::faulty))]
-fn read_screen_from<S: Source>(alloc: Global, source: &mut S) -> Result<ScreenJob, Status>
-    ensures job { IfOk result (ReadsScreen (S.left source.old) (S.left source.new)) }
+/// The job with contingencies of the input's bytes, or why there is none.
+#[tactic(auto, using(crate::proofs::Written::partly, crate::proofs::Written::faulty, crate::proofs::Written::part_silent))]
+fn read_screen_from<S: Source>(alloc: Global, input: &mut Input<S>) -> Result<ScreenJob, Status>
+    ensures job { IfOk result (ReadsScreen (S.left input.old.source) (S.left input.new.source)) }
     ensures scheduled { IfOk result (λ screened. IsScheduled screened.job) }
-    ensures none { IfErr result (ReadsNone screen_fault (S.left source.old) (S.left source.new)) }
+    ensures none { IfErr result (ReadsNone screen_fault (S.left input.old.source)
+        (S.left input.new.source)) }
+    ensures kept { IfErr result (λ status. TellsOf status → ReadsWhole (S.left input.old.source)
+        (S.left input.new.source) input.new.bytes) }
     ensures fault { result ≡ Err Status.ReadFault
-        → Rose (S.faults source.old) (S.faults source.new) }
-    ensures stays { result ≢ Err Status.ReadFault → S.faults source.new ≡ S.faults source.old }
+        → Rose (S.faults input.old.source) (S.faults input.new.source) }
+    ensures stays { result ≢ Err Status.ReadFault
+        → S.faults input.new.source ≡ S.faults input.old.source }
 {
-    let bytes = match read_source(alloc, source) {
-        Ok(bytes) => bytes,
-        Err(status) => return Err(status),
-    };
-    match read_screen(alloc, bytes.as_slice()) {
+    read_input(input)?;
+    match read_screen(alloc, input.bytes()) {
         Ok(screened) => Ok(screened),
         Err(fault) => Err(status_for(fault)),
     }
 }
 
 /// Reads a job with contingencies, and writes what each does to the initial variant, found by several threads.
-#[tactic(auto, using(crate::proofs::Written::screened, crate::proofs::Written::unread))]
+#[tactic(auto, using(crate::proofs::Written::screened, crate::proofs::Written::unread, crate::proofs::Written::write_silent))]
 pub(crate) fn read_and_screen<R: Threads + Sync, S: Source, K: Sink>(
     rt: &R,
     alloc: Global,
     layout: Layout,
-    source: &mut S,
+    input: &mut Input<S>,
     sink: &mut K,
     warning: &mut Text,
 ) -> Status
     requires { warning.old ≡ [] }
-    ensures outcome { OutcomeOf (Form.Screen layout) (S.left source.old) (S.left source.new)
-        (K.written sink.old) (K.written sink.new) result }
-    ensures warning { result ≡ Status.Done → WarnsDone (Form.Screen layout) (S.left source.old)
-        (S.left source.new) warning.new }
+    ensures outcome { OutcomeOf (Form.Screen layout) (S.left input.old.source)
+        (S.left input.new.source) (K.written sink.old) (K.written sink.new) result }
+    ensures kept { TellsOf result → ReadsWhole (S.left input.old.source) (S.left input.new.source)
+        input.new.bytes }
+    ensures warning { result ≡ Status.Done → WarnsDone (Form.Screen layout)
+        (S.left input.old.source) (S.left input.new.source) warning.new }
     ensures read_fault { result ≡ Status.ReadFault
-        → Rose (S.faults source.old) (S.faults source.new) }
-    ensures reads_stay { result ≢ Status.ReadFault → S.faults source.new ≡ S.faults source.old }
+        → Rose (S.faults input.old.source) (S.faults input.new.source) }
+    ensures reads_stay { result ≢ Status.ReadFault
+        → S.faults input.new.source ≡ S.faults input.old.source }
     ensures write_fault { result ≡ Status.WriteFault
         → Rose (K.faults sink.old) (K.faults sink.new) }
     ensures writes_stay { result ≢ Status.WriteFault → K.faults sink.new ≡ K.faults sink.old }
 {
-    match read_screen_from(alloc, source) {
+    match read_screen_from(alloc, input) {
         Ok(screened) => write_screen(rt, alloc, layout, screened, sink, warning),
         Err(status) => status,
     }

@@ -6,7 +6,7 @@ ghost use Rattle.grid_source.specs.Whole.{IsBegun};
 ghost use Rattle.grid_forms.specs.Words.{form_of};
 ghost use Rattle.grid_cli.specs.Forms.{ReadsNothing};
 ghost use Rattle.grid_cli.specs.Orders.{IsScheduled};
-ghost use Rattle.grid_cli.specs.Once.{Outcome, OutcomeOf, Exact, WritesReport};
+ghost use Rattle.grid_cli.specs.Once.{Outcome, OutcomeOf, Exact, ReadsWhole, TellsOf, WritesReport};
 ghost use Rattle.grid_cli.specs.Layouts.{outcome_text};
 ghost use Rattle.grid_cli.specs.Warnings.{Warns};
 ghost use Rattle.grid_cli.specs.Threaded.{IsOutcomeOf, IsServed};
@@ -19,23 +19,25 @@ use grid_ids::Memory;
 use grid_json::Job;
 use grid_jsonl::write_lines;
 use grid_manager::Gate;
-use grid_report::{Outcome, ReportFault, Text, write_report_on_threads};
-use grid_source::{Sink, Source};
+use grid_report::{ReportFault, Text, write_report_on_threads};
+use grid_source::{Input, Sink, Source};
 use grid_workers::run_scripts;
 use std::alloc::Global;
 use std::sync::Wait;
 use std::thread::Threads;
 
-/// Does what the words ask for, from the source to the sink. For `run` each worker makes its script's calls on a thread of
+/// Does what the words ask for, from the input to the sink. For `run` each worker makes its script's calls on a thread of
 /// its own, all on one board, and every thread has ended when it returns; the gate sees each worker at work. For `screen` the
 /// contingencies are looked at by several threads, which take no lock. Every other form is served by `grid_once`. The
-/// warning is the line that tells which commands were refused where the output tells none of them: after `hvdc` and
-/// `screen` that are Done. It is made before the first byte is written, and else empty.
+/// input's bytes are all that was read after BadJson and BadJob, so what such a status names is found in them; after a
+/// fault of the source they are a front of it. A form that reads nothing leaves them. The warning is the line that tells
+/// which commands were refused where the output tells none of them: after `hvdc` and `screen` that are Done. It is made
+/// before the first byte is written, and else empty.
 pub fn grid<R: Threads + Wait + Sync, S: Source, K: Sink, G: Gate>(
     rt: &R,
     alloc: Global,
     words: &[String],
-    source: &mut S,
+    input: &mut Input<S>,
     sink: &mut K,
     gate: &G,
     warning: &mut Text,
@@ -44,33 +46,69 @@ pub fn grid<R: Threads + Wait + Sync, S: Source, K: Sink, G: Gate>(
 
     // What was read and what was written, by the status. For `run` it is what is written of some order of the job, which
     // the first line tells.
-    ensures outcome { Outcome (form_of (map string_bytes words.now)) (S.left source.old)
-        (S.left source.new) (K.written sink.old) (K.written sink.new) result }
+    ensures outcome { Outcome (form_of (map string_bytes words.now)) (S.left input.old.source)
+        (S.left input.new.source) (K.written sink.old) (K.written sink.new) result }
 
     // Where the source tells its bytes, they decide the status, but for faults and want of memory.
-    ensures exact { Exact (form_of (map string_bytes words.now)) (S.left source.old) result }
+    ensures exact { Exact (form_of (map string_bytes words.now)) (S.left input.old.source) result }
+
+    // A status that tells of the bytes tells of those that the input has.
+    ensures kept { TellsOf result → ReadsWhole (S.left input.old.source) (S.left input.new.source)
+        input.new.bytes }
 
     // The warning is that of the job in the bytes that were read.
-    ensures warning { Warns (form_of (map string_bytes words.now)) (S.left source.old)
-        (S.left source.new) result warning.new }
+    ensures warning { Warns (form_of (map string_bytes words.now)) (S.left input.old.source)
+        (S.left input.new.source) result warning.new }
 
     ensures read_fault { result ≡ Status.ReadFault
-        → Rose (S.faults source.old) (S.faults source.new) }
-    ensures reads_stay { result ≢ Status.ReadFault → S.faults source.new ≡ S.faults source.old }
+        → Rose (S.faults input.old.source) (S.faults input.new.source) }
+    ensures reads_stay { result ≢ Status.ReadFault
+        → S.faults input.new.source ≡ S.faults input.old.source }
     ensures write_fault { result ≡ Status.WriteFault
         → Rose (K.faults sink.old) (K.faults sink.new) }
     ensures writes_stay { result ≢ Status.WriteFault → K.faults sink.new ≡ K.faults sink.old }
     ensures untouched { ReadsNothing (form_of (map string_bytes words.now))
-        → S.faults source.new ≡ S.faults source.old }
+        → S.faults input.new.source ≡ S.faults input.old.source }
 {
     warning.clear();
-    let status = match served_by(read_words(words)) {
-        Served::ByWorkers(layout) => read_and_run(rt, alloc, layout, source, sink, gate),
-        Served::ByScreening(layout) => read_and_screen(rt, alloc, layout, source, sink, warning),
-        Served::ByOneThread => grid_once(alloc, words, source, sink, warning),
-    };
+    let status = serve(rt, alloc, words, input, sink, gate, warning);
     keep_if_done(warning, &status);
     status
+}
+
+// The same, without what follows from the other clauses, and with a warning that stays where the status is not Done.
+fn serve<R: Threads + Wait + Sync, S: Source, K: Sink, G: Gate>(
+    rt: &R,
+    alloc: Global,
+    words: &[String],
+    input: &mut Input<S>,
+    sink: &mut K,
+    gate: &G,
+    warning: &mut Text,
+) -> Status
+    requires { warning.old ≡ [] }
+    ensures warning { result ≡ Status.Done → Warns (form_of (map string_bytes words.now))
+        (S.left input.old.source) (S.left input.new.source) Status.Done warning.new }
+    ensures usage { (result ≡ Status.Usage) ↔ (form_of (map string_bytes words.now) ≡ None) }
+    ensures outcome { Outcome (form_of (map string_bytes words.now)) (S.left input.old.source)
+        (S.left input.new.source) (K.written sink.old) (K.written sink.new) result }
+    ensures kept { TellsOf result → ReadsWhole (S.left input.old.source) (S.left input.new.source)
+        input.new.bytes }
+    ensures read_fault { result ≡ Status.ReadFault
+        → Rose (S.faults input.old.source) (S.faults input.new.source) }
+    ensures reads_stay { result ≢ Status.ReadFault
+        → S.faults input.new.source ≡ S.faults input.old.source }
+    ensures write_fault { result ≡ Status.WriteFault
+        → Rose (K.faults sink.old) (K.faults sink.new) }
+    ensures writes_stay { result ≢ Status.WriteFault → K.faults sink.new ≡ K.faults sink.old }
+    ensures untouched { ReadsNothing (form_of (map string_bytes words.now))
+        → S.faults input.new.source ≡ S.faults input.old.source }
+{
+    match served_by(read_words(words)) {
+        Served::ByWorkers(layout) => read_and_run(rt, alloc, layout, input, sink, gate),
+        Served::ByScreening(layout) => read_and_screen(rt, alloc, layout, input, sink, warning),
+        Served::ByOneThread => grid_once(alloc, words, input, sink, warning),
+    }
 }
 
 // Which threads serve a form.
@@ -104,25 +142,28 @@ fn served_by(form: Option<Form>) -> Served
 }
 
 // Reads a job, and writes what came of it in the order in which its workers' steps happened.
-#[tactic(auto, using(crate::proofs::Written::ran, crate::proofs::Written::unread))]
+#[tactic(auto, using(crate::proofs::Written::ran, crate::proofs::Written::unread, crate::proofs::Written::report_silent))]
 fn read_and_run<R: Threads + Wait + Sync, S: Source, K: Sink, G: Gate>(
     rt: &R,
     alloc: Global,
     layout: Layout,
-    source: &mut S,
+    input: &mut Input<S>,
     sink: &mut K,
     gate: &G,
 ) -> Status
-    ensures outcome { OutcomeOf (Form.Run layout) (S.left source.old) (S.left source.new)
-        (K.written sink.old) (K.written sink.new) result }
+    ensures outcome { OutcomeOf (Form.Run layout) (S.left input.old.source)
+        (S.left input.new.source) (K.written sink.old) (K.written sink.new) result }
+    ensures kept { TellsOf result → ReadsWhole (S.left input.old.source) (S.left input.new.source)
+        input.new.bytes }
     ensures read_fault { result ≡ Status.ReadFault
-        → Rose (S.faults source.old) (S.faults source.new) }
-    ensures reads_stay { result ≢ Status.ReadFault → S.faults source.new ≡ S.faults source.old }
+        → Rose (S.faults input.old.source) (S.faults input.new.source) }
+    ensures reads_stay { result ≢ Status.ReadFault
+        → S.faults input.new.source ≡ S.faults input.old.source }
     ensures write_fault { result ≡ Status.WriteFault
         → Rose (K.faults sink.old) (K.faults sink.new) }
     ensures writes_stay { result ≢ Status.WriteFault → K.faults sink.new ≡ K.faults sink.old }
 {
-    match read_from(alloc, source) {
+    match read_from(alloc, input) {
         Ok(job) => write_run(rt, alloc, layout, job, sink, gate),
         Err(status) => status,
     }
@@ -134,7 +175,7 @@ fn write_on_threads<R: Threads + Sync, K: Sink>(
     rt: &R,
     alloc: Global,
     layout: Layout,
-    outcome: &Outcome,
+    outcome: &grid_report::Outcome,
     sink: &mut K,
 ) -> Result<(), ReportFault>
     ensures ok { OnOk result (Appends (K.written sink.old) (K.written sink.new)
@@ -178,7 +219,7 @@ fn run_job_on_threads<R: Threads + Wait + Sync, G: Gate>(
     alloc: Global,
     job: Job,
     gate: &G,
-) -> Result<Outcome, Memory>
+) -> Result<grid_report::Outcome, Memory>
     requires { IsScheduled job }
     ensures { IfOk result (IsOutcomeOf job) }
 {

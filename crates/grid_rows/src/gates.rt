@@ -6,7 +6,7 @@ use grid_forms::Status;
 use grid_ids::Id;
 use grid_manager::Gate;
 use grid_report::Text;
-use grid_source::{SureSink, SureSource};
+use grid_source::{Input, SureSink, SureSource};
 use std::alloc::Global;
 use std::process::Abort;
 use std::sync::Wait;
@@ -24,14 +24,14 @@ fn ran<R: Threads + Wait + Sync + Abort, G: Gate>(
 ) -> Result<String, Fail> {
     let mut words = Vec::new(alloc);
     words.push(String::from_str(alloc, "run")?)?;
-    let mut source = SureSource::new(job, 4096);
+    let mut input = Input::new(alloc, SureSource::new(job, 4096));
     let mut sink = SureSink::new(Vec::new(alloc), 4096);
     let mut warning = Text::empty(alloc);
     let status = grid(
         rt,
         alloc,
         words.as_slice(),
-        &mut source,
+        &mut input,
         &mut sink,
         gate,
         &mut warning,

@@ -1,5 +1,5 @@
 use Rattle.std.proofs.Common.{sym, ap, ◌∙◌, subst}
-use Rattle.grid_core.proofs.Making.{each_ok}
+use Rattle.grid_core.specs.Journals.{journal_of}
 use Rattle.grid_report.specs.Histories.{IsOrder, chosen_order, history_of}
 use Rattle.grid_cli.specs.Orders.{order_of}
 use Rattle.grid_cli.proofs.Screening.{found}
@@ -14,5 +14,7 @@ unfolding order_of
 returns g c =
     let job = c.args.job in
     let world = c.in_ok-world.ensures ∙ ap (λ s. history_of job.network s (chosen_order s job.order)) c.slice.ensures in
-    each_ok c.screen.result c.screen.ensures
-    (λ findings are. found job c.in_ok-world.world c.in_ok-case.case c.args.contingencies.now findings world c.in_ok-case.ensures.case are)
+    record {
+      journal = c.into_journal.ensures ∙ ap (λ h. journal_of h.origin h.steps) world;
+      found = found job c.in_ok-world.world c.in_ok-case.case c.args.contingencies.now c.in_ok-findings.findings world c.in_ok-case.ensures.case c.in_ok-findings.ensures;
+    }
