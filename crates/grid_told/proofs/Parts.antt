@@ -75,10 +75,10 @@ naturals_back : (ns : List ℕ) → naturals_in (array_of natural ns) ≡ ns
 naturals_back [] = refl
 naturals_back (n ∷ ns) = ap (λ l. n ∷ l) (naturals_back ns)
 
-abbrev terminals_in : Data → List Terminal
+abbrev pub terminals_in : Data → List Terminal
 terminals_in d = map terminal_in (list_of d)
 
-terminals_back : (ts : List Terminal) → terminals_in (array_of terminal_value ts) ≡ ts
+pub terminals_back : (ts : List Terminal) → terminals_in (array_of terminal_value ts) ≡ ts
 terminals_back [] = refl
 terminals_back (t ∷ ts) = rw (terminal_back t, terminals_back ts) refl
 

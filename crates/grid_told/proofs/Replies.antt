@@ -238,7 +238,7 @@ module _ (r : Request) (d : Data) where
   unfolding reply_by
   says_refused = refl
 
-texts_back : (ids : List (List ℕ)) → map text_of (list_of (array_of string ids)) ≡ ids
+pub texts_back : (ids : List (List ℕ)) → map text_of (list_of (array_of string ids)) ≡ ids
 texts_back [] = refl
 texts_back (id ∷ ids) = ap (λ l. id ∷ l) (texts_back ids)
 
@@ -264,7 +264,7 @@ components_back : (level : List ℕ) (buses : List BusComponent) → All IsCompo
 unfolding components_in reply_value components_value ordered
 components_back level buses h = items_back IsComponent (component_value level) (component_in level) (component_back level) buses (each_of IsComponent buses h)
 
-refused_back : (refusal : Refusal) → IsRefusal refusal → refusal_in (refused_value refusal) ≡ refusal
+pub refused_back : (refusal : Refusal) → IsRefusal refusal → refusal_in (refused_value refusal) ≡ refusal
 unfolding refusal_in ordered
 refused_back refusal h = refusal_back refusal h
 

@@ -1,3 +1,5 @@
 pub mod Between
 pub mod Findings
 pub mod Rows
+pub mod Views
+pub mod Reports

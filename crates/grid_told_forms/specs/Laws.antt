@@ -11,6 +11,9 @@ use Rattle.grid_screen.specs.declared.Finding.{Finding}
 use Rattle.grid_told.specs.Trees.{HasWholes}
 use Rattle.grid_told.specs.Shapes.{IsReadBack}
 use Rattle.grid_told_forms.specs.Findings.{IsFound, told_of, found_objects}
+use Rattle.grid_configured.specs.Texts.{Report}
+use Rattle.grid_configured.specs.Lines.{objects}
+use Rattle.grid_told_forms.specs.Reports.{IsHeld, IsFitting}
 use Rattle.grid_told_forms.specs.Rows.{Variant, IsVariant, row_objects, rows_of}
 
 -- ---- contingencies
@@ -43,3 +46,13 @@ NumbersAreTold =
     → All IsVariant variants → All IsVariant others
     → lines (first ∷ (flat_map row_objects variants ++ last ∷ [])) ≡ lines (also ∷ (flat_map row_objects others ++ end ∷ []))
     → (first ≡ also) × ((variants ≡ others) × (last ≡ end))
+
+-- ---- configured outcomes
+
+abbrev pub ReportsAreReadBack : Type 0
+ReportsAreReadBack = (r : Report) → IsHeld r → All IsReadBack (objects r)
+
+-- fitting configured outcomes of equal lines are equal: their steps with working variants, requests and replies, their counts
+-- of workers, and their live names and views
+abbrev pub ReportsAreTold : Type 0
+ReportsAreTold = (r s : Report) → IsHeld r → IsHeld s → IsFitting r → IsFitting s → lines (objects r) ≡ lines (objects s) → r ≡ s

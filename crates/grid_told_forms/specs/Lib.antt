@@ -1,3 +1,4 @@
 pub mod Findings
 pub mod Rows
+pub mod Reports
 pub mod Laws

@@ -1,6 +1,6 @@
 //! Laws of lines, each the contract of a function that does nothing.
 
-ghost use Rattle.grid_told_forms.specs.Laws.{BusesAreRows, FindingsAreReadBack, FindingsAreTold, NumbersAreReadBack, NumbersAreTold};
+ghost use Rattle.grid_told_forms.specs.Laws.{BusesAreRows, FindingsAreReadBack, FindingsAreTold, NumbersAreReadBack, NumbersAreTold, ReportsAreReadBack, ReportsAreTold};
 
 /// The lines of contingencies are read back, and tell each contingency's name and finding.
 pub fn findings_are_told()
@@ -13,4 +13,10 @@ pub fn numbers_are_told()
     ensures rows { BusesAreRows }
     ensures read { NumbersAreReadBack }
     ensures told { NumbersAreTold }
+{}
+
+/// The lines of a configured outcome are read back, and tell the outcome.
+pub fn reports_are_told()
+    ensures read { ReportsAreReadBack }
+    ensures told { ReportsAreTold }
 {}

@@ -1,4 +1,5 @@
-//! What the JSON Lines of the further forms tell: laws of the lines of components over HVDC lines and of contingencies.
+//! What the JSON Lines of the further forms tell: laws of the lines of components over HVDC lines, of contingencies and of
+//! configured outcomes.
 #![tactic(auto)]
 
 pub mod laws;
