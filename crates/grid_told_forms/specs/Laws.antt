@@ -12,6 +12,8 @@ use Rattle.grid_told.specs.Trees.{HasWholes}
 use Rattle.grid_told.specs.Shapes.{IsReadBack}
 use Rattle.grid_told_forms.specs.Findings.{IsFound, told_of, found_objects}
 use Rattle.grid_configured.specs.Texts.{Report}
+use Rattle.grid_configured.specs.Histories.{ConfiguredHistory}
+use Rattle.grid_configured.specs.Reports.{report_after}
 use Rattle.grid_configured.specs.Lines.{objects}
 use Rattle.grid_told_forms.specs.Reports.{IsHeld, IsFitting}
 use Rattle.grid_told_forms.specs.Rows.{Variant, IsVariant, row_objects, rows_of}
@@ -56,3 +58,7 @@ ReportsAreReadBack = (r : Report) → IsHeld r → All IsReadBack (objects r)
 -- of workers, and their live names and views
 abbrev pub ReportsAreTold : Type 0
 ReportsAreTold = (r s : Report) → IsHeld r → IsHeld s → IsFitting r → IsFitting s → lines (objects r) ≡ lines (objects s) → r ≡ s
+
+-- in what comes of every history with configured buses, whose steps are by its workers, a view has the level that its request names
+abbrev pub ConfiguredHistoriesFit : Type 0
+ConfiguredHistoriesFit = (history : ConfiguredHistory) → All (λ step. step.worker < history.workers) history.steps → IsFitting (report_after history)

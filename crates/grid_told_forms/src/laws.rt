@@ -1,6 +1,6 @@
 //! Laws of lines, each the contract of a function that does nothing.
 
-ghost use Rattle.grid_told_forms.specs.Laws.{BusesAreRows, FindingsAreReadBack, FindingsAreTold, NumbersAreReadBack, NumbersAreTold, ReportsAreReadBack, ReportsAreTold};
+ghost use Rattle.grid_told_forms.specs.Laws.{BusesAreRows, ConfiguredHistoriesFit, FindingsAreReadBack, FindingsAreTold, NumbersAreReadBack, NumbersAreTold, ReportsAreReadBack, ReportsAreTold};
 
 /// The lines of contingencies are read back, and tell each contingency's name and finding.
 pub fn findings_are_told()
@@ -19,4 +19,9 @@ pub fn numbers_are_told()
 pub fn reports_are_told()
     ensures read { ReportsAreReadBack }
     ensures told { ReportsAreTold }
+{}
+
+/// In what comes of every history with configured buses a view has the level that its request names.
+pub fn configured_histories_fit()
+    ensures { ConfiguredHistoriesFit }
 {}

@@ -1,0 +1,5 @@
+use Rattle.grid_told_forms.proofs.Fitting.{configured_histories_fit}
+use Rattle.grid_told_forms.proofs.laws.configured_histories_fit.Goals as goal
+
+pub returns : goal.returns
+returns c = configured_histories_fit
