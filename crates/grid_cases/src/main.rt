@@ -1,7 +1,7 @@
-//! Runs whole jobs by the top call. Each folder of `data/` is a case: the words, the job, and the exit status, the output and
-//! the line or the warning on standard error that they must give, and for a job with a fault also its place and reason. Then come what is
-//! told by many calls each: broken input, sources and sinks that fail, the pieces of a long output, a run on threads that is
-//! replayed by its order, and many contingencies at once.
+//! Runs whole jobs by the top call. Each folder of `data/` is a case: the words, the job, and the exit status, the
+//! output and the line or the warning on standard error that they must give, and for a job with a fault also its place
+//! and reason. Then come what is told by many calls each: broken input, sources and sinks that fail, the pieces of a
+//! long output, a run on threads that is replayed by its order, and many contingencies at once.
 #![tactic(auto)]
 
 mod broken;

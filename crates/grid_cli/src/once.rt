@@ -28,10 +28,9 @@ use std::alloc::Global;
 
 /// Does what the words ask for, from the input to the sink, on the calling thread. It serves every form but `run` and
 /// `screen`, which are Usage here as words of no form are. It takes no lock. The input's bytes are all that was read
-/// after BadJson and BadJob, so what such a status names is found in them; after a fault of the source they are a
-/// front of it. A form that reads nothing leaves them. The warning is the line that tells which commands were refused
-/// where the output tells none of them: after `hvdc` that is Done. It is made before the first byte is written, and
-/// else empty.
+/// after BadJson and BadJob, so what such a status names is found in them. The warning is the line that tells which
+/// commands were refused where the output tells none of them: after `hvdc` that is Done. It is made before the first
+/// byte is written, and else empty.
 pub fn grid_once<S: Source, K: Sink>(
     alloc: Global,
     words: &[String],

@@ -26,13 +26,12 @@ use std::alloc::Global;
 use std::sync::Wait;
 use std::thread::Threads;
 
-/// Does what the words ask for, from the input to the sink. For `run` each worker makes its script's calls on a
-/// thread of its own, all on one board, and every thread has ended when it returns; the gate sees each worker at
-/// work. For `screen` the contingencies are looked at by several threads, which take no lock. Every other form is
-/// served by `grid_once`. The input's bytes are all that was read after BadJson and BadJob, so what such a status
-/// names is found in them; after a fault of the source they are a front of it. A form that reads nothing leaves them.
-/// The warning is the line that tells which commands were refused where the output tells none of them: after `hvdc`
-/// and `screen` that are Done. It is made before the first byte is written, and else empty.
+/// Does what the words ask for, from the input to the sink. For `run` each worker makes its script's calls on a thread
+/// of its own, all on one board, and every thread has ended when it returns; the gate sees each worker at work. For
+/// `screen` the contingencies are looked at by several threads, which take no lock. Every other form is served by
+/// `grid_once`. The input's bytes are all that was read after BadJson and BadJob, so what such a status names is found
+/// in them. The warning is the line that tells which commands were refused where the output tells none of them: after
+/// `hvdc` and `screen` that are Done. It is made before the first byte is written, and else empty.
 pub fn grid<R: Threads + Wait + Sync, S: Source, K: Sink, G: Gate>(
     rt: &R,
     alloc: Global,
