@@ -40,7 +40,7 @@ IsSaid e = IsEntry e × Fits e.request e.reply
 abbrev step_said : Step → Said
 step_said s = said_of s.entry
 
-said_back : (s : Step) → IsSaid s.entry → said_in (command_object s) ≡ step_said s
+pub said_back : (s : Step) → IsSaid s.entry → said_in (command_object s) ≡ step_said s
 unfolding command_object step_fields ordered said_in
 said_back s h =
     ap (λ (q : Request). record { worker = s.entry.worker; variant = s.entry.variant; request = q; reply = reply_in q (reply_value s.entry.request s.entry.reply) }) (request_back s.entry.request)

@@ -1,0 +1,4 @@
+pub mod Steps
+pub mod Hvdc
+pub mod Screen
+pub mod Laws
