@@ -21,7 +21,7 @@ use Rattle.grid_told.proofs.ReadBack.{all_read}
 use Rattle.grid_told.proofs.Readable.{word_readable, natural_readable, ordered_readable}
 use Rattle.grid_told_forms.specs.Rows.{row_objects}
 use Rattle.grid_told_forms.proofs.Rows.{buses_are_rows, numbers_are_read_back, numbers_are_told}
-use Rattle.grid_told_outputs.specs.Hvdc.{variant_of, variants_of, IsHeld, TellAlike}
+use Rattle.grid_told_outputs.specs.Hvdc.{variant_of, variants_of, IsHeld}
 use Rattle.grid_told_outputs.specs.Laws.{HvdcIsReadBack, HvdcIsTold}
 use Rattle.grid_told_outputs.proofs.Steps.{state_readable, state_told}
 

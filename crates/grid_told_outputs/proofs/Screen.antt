@@ -19,7 +19,7 @@ use Rattle.grid_told.proofs.ReadBack.{all_read}
 use Rattle.grid_told.proofs.Readable.{word_readable, natural_readable, ordered_readable}
 use Rattle.grid_told_forms.specs.Findings.{found_objects}
 use Rattle.grid_told_forms.proofs.Findings.{findings_are_read_back, findings_are_told}
-use Rattle.grid_told_outputs.specs.Screen.{pair_of, pairs_of, IsHeld, TellAlike}
+use Rattle.grid_told_outputs.specs.Screen.{pair_of, pairs_of, IsHeld}
 use Rattle.grid_told_outputs.specs.Laws.{ScreenIsReadBack, ScreenIsTold}
 use Rattle.grid_told_outputs.proofs.Steps.{state_readable, state_told}
 
