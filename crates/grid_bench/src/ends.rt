@@ -43,8 +43,8 @@ fn same_pairs(list: &[(u16, u16)], others: &[(u16, u16)]) -> bool
     differences == 0
 }
 
-/// Whether both levels have the same nodes, and their switches and internal connections stand between the same ones. The
-/// switches' nodes are read from the level's list of them. It reads each once, and takes no memory.
+/// Whether both levels have the same nodes, and their switches and internal connections stand between the same ones.
+/// The switches' nodes are read from the level's list of them. It reads each once, and takes no memory.
 pub(crate) fn same_ends(level: &Level, other: &Level) -> bool
     ensures { IsTrue result ↔ SameEnds level.now other.now }
 {

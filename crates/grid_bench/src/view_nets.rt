@@ -44,8 +44,8 @@ impl Model for ViewNets {
     ghost view = { λ nets. net_pair nets.bus (unwrap_or nets.breaker nets.bus) };
 }
 
-// The net of a level under a second rule, where it passes other switches than the first. It costs two visits per node at
-// most.
+// The net of a level under a second rule, where it passes other switches than the first. It costs two visits per node
+// at most.
 fn second_net<L: Ledger>(
     alloc: Global,
     indices: &NodeIndices,
@@ -64,8 +64,8 @@ fn second_net<L: Ledger>(
     Ok(Some(Labelled::of(alloc, indices, second, steps)?))
 }
 
-// Lets an edge pass or not in the second of two nets, where another flag is set in the first one thereafter. None for the
-// second net says that it is the first, and it becomes one of its own where the two flags differ.
+// Lets an edge pass or not in the second of two nets, where another flag is set in the first one thereafter. None for
+// the second net says that it is the first, and it becomes one of its own where the two flags differ.
 fn set_second<L: Ledger, W: Ledger>(
     alloc: Global,
     second: &mut Option<Labelled>,
@@ -99,7 +99,8 @@ fn set_second<L: Ledger, W: Ledger>(
 }
 
 impl ViewNets {
-    /// The nets of a level whose switches pass where their flag for the view is set. They cost four visits per node at most.
+    /// The nets of a level whose switches pass where their flag for the view is set. They cost four visits per node at
+    /// most.
     pub(crate) fn of<L: Ledger>(
         alloc: Global,
         indices: &NodeIndices,

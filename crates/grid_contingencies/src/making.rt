@@ -104,10 +104,10 @@ fn push_made(list: &mut Contingencies, alloc: Global, role: Role, ids: &[Id]) ->
 }
 
 /// The contingencies that are made of a network's pieces: for each item in order, one for each piece of its kind in
-/// structure order, with the piece's id as its name and as its one id; an item that equals an earlier one counts once. The
-/// pieces are the lines, by list; the transformers of two or of three windings, by substation, by list; the generators,
-/// loads or busbar sections, by place of level, in each by rising node; or the breakers that are not fictitious, open ones
-/// too, by place of level, in each by place. The rule is this project's own.
+/// structure order, with the piece's id as its name and as its one id; an item that equals an earlier one counts once.
+/// The pieces are the lines, by list; the transformers of two or of three windings, by substation, by list; the
+/// generators, loads or busbar sections, by place of level, in each by rising node; or the breakers that are not
+/// fictitious, open ones too, by place of level, in each by place. The rule is this project's own.
 #[tactic(auto, unfolding(crate::specs::Made::made))]
 pub fn made(alloc: Global, structure: &Structure, each: &Eaches) -> Result<Contingencies, Memory>
     ensures { IfOk result (λ list. list ≡ specs.made structure.now each.now) }

@@ -366,15 +366,15 @@ fn read_root(alloc: Global, value: &Value) -> Result<ScreenJob, ReadError>
     read_in(alloc, format, value)
 }
 
-/// The job of the bytes with its contingencies: BadJson exactly where `serde_json` has no reading of them, BadJob exactly
-/// where there is a fault, with the first one. The root's member `format`, 1 or 2, is read first, and is 1 where it is
-/// absent; then members that the format does not have are Unknown (63). Then `job` is read whole, with its loading, before
-/// `variant`, an id, `contingencies`, `each` and `only`. More than 20,000 contingencies are TooManyContingencies (73),
-/// before the items are looked at; each is an object with `name` and `out`, an array of ids, and in format 2 with `fault`
-/// and `stuck`, arrays of ids, too: `out` must be there where `fault` is not, and `fault` where `stuck` is. An item of `each`
-/// has `kind`, a word of a piece, and `as`, `out` or `fault`; where the listed contingencies and those that the loaded
-/// network has by the items are more than 20,000 together, that is TooManyContingencies at `each`. `only` is `all` or
-/// `losses`. The rules and their order are this project's own.
+/// The job of the bytes with its contingencies: BadJson exactly where `serde_json` has no reading of them, BadJob
+/// exactly where there is a fault, with the first one. The root's member `format`, 1 or 2, is read first, and is 1
+/// where it is absent; then members that the format does not have are Unknown (63). Then `job` is read whole, with its
+/// loading, before `variant`, an id, `contingencies`, `each` and `only`. More than 20,000 contingencies are
+/// TooManyContingencies (73), before the items are looked at; each is an object with `name` and `out`, an array of ids,
+/// and in format 2 with `fault` and `stuck`, arrays of ids, too: `out` must be there where `fault` is not, and `fault`
+/// where `stuck` is. An item of `each` has `kind`, a word of a piece, and `as`, `out` or `fault`; where the listed
+/// contingencies and those that the loaded network has by the items are more than 20,000 together, that is
+/// TooManyContingencies at `each`. `only` is `all` or `losses`. The rules and their order are this project's own.
 #[tactic(auto, unfolding(crate::specs::Jobs::screen_job_of))]
 pub fn read_screen(alloc: Global, bytes: &[u8]) -> Result<ScreenJob, JobFault>
     ensures job { JobGives result (screen_job_of bytes.now) }

@@ -32,11 +32,11 @@ pub enum Form {
     Run(Layout),
     /// Reads a job, and writes its network as a job of the network alone.
     Print,
-    /// Reads a job with HVDC lines, runs its commands in order, and writes the components of each live variant's buses, over
-    /// the branches alone and over the lines too.
+    /// Reads a job with HVDC lines, runs its commands in order, and writes the components of each live variant's buses,
+    /// over the branches alone and over the lines too.
     Hvdc(Layout),
-    /// Reads a job with contingencies, runs its commands in order, and writes what each contingency would do to the initial
-    /// variant, found by several threads.
+    /// Reads a job with contingencies, runs its commands in order, and writes what each contingency would do to the
+    /// initial variant, found by several threads.
     Screen(Layout),
     /// Reads a job of a network with configured buses, runs its commands in order, and writes what came of it.
     Configured(Layout),
@@ -47,9 +47,9 @@ pub enum Form {
 }
 
 /// What the words ask for; None exactly where they are no form. The forms are `check`, `print`, `make SEED SIZE`,
-/// `trial SEED SIZE`, and with `--json` behind them or without `replay`, `run`, `hvdc`, `screen` and `configured`. A number
-/// is written in decimal digits without a leading zero; a seed is from 0 to `MOST_SEED`, a size from 1 to `MOST_SIZE`. The
-/// program's name is not among the words. It takes no memory.
+/// `trial SEED SIZE`, and with `--json` behind them or without `replay`, `run`, `hvdc`, `screen` and `configured`. A
+/// number is written in decimal digits without a leading zero; a seed is from 0 to `MOST_SEED`, a size from 1 to
+/// `MOST_SIZE`. The program's name is not among the words. It takes no memory.
 pub fn read_words(words: &[String]) -> Option<Form>
     ensures form { result ≡ form_of (map string_bytes words.now) }
     ensures within { IfSome result IsWithin }

@@ -9,8 +9,8 @@ use crate::whole::{MOST, ReadAllFault, read_to_end};
 use std::alloc::Global;
 use std::marker::Model;
 
-/// A source with the bytes that were read of it. They are there once: what they mean is read from them where they stand,
-/// and so is the place of a fault that is told afterwards.
+/// A source with the bytes that were read of it. They are there once: what they mean is read from them where they
+/// stand, and so is the place of a fault that is told afterwards.
 #[derive(Drop)]
 pub struct Input<S> {
     source: S,
@@ -45,9 +45,9 @@ impl<S> Input<S> {
 }
 
 impl<S: Source> Input<S> {
-    /// Reads to the end, in place of what was read before. Fault comes only where the source's count of faults rose, and
-    /// after every other answer the count is as before. TooLong comes exactly where more than `MOST` bytes were read, which
-    /// are at most `PIECE` more.
+    /// Reads to the end, in place of what was read before. Fault comes only where the source's count of faults rose,
+    /// and after every other answer the count is as before. TooLong comes exactly where more than `MOST` bytes were
+    /// read, which are at most `PIECE` more.
     pub fn read_all(&mut self) -> Result<(), ReadAllFault>
         ensures read { OnOk result (ReadsToEnd (S.left self.old.source) (S.left self.new.source)
             self.new.bytes) }
