@@ -36,7 +36,7 @@ impl<S> Input<S> {
         }
     }
 
-    /// The bytes of the last reading: all of them after Ok, and a front of them after a fault.
+    /// The bytes of the last reading: all of them after Ok, and those before the fault after Fault.
     pub fn bytes(&self) -> &[u8]
         ensures { result.now ≡ self.now.bytes }
     {
