@@ -79,18 +79,17 @@ fn is_part(
 // Whether the base is this level alone.
 fn is_alone(
     structure: &Structure,
-    opened: &States,
-    retained: &States,
+    states: &States,
     powers: &Powers,
     place: u32,
     base: &Base,
     known: bool,
 ) -> bool
-    requires fits { StateFits (state_seen structure.now opened.now retained.now powers.now.listed) }
+    requires fits { StateFits (state_seen structure.now states.now.opened states.now.retained powers.now.listed) }
     requires level { place < length (levels structure.now) }
     requires known { IsTrue known → IsLevelAt structure.now place base.now.levels }
     ensures { IsTrue result
-        ↔ (questions.alone (state_seen structure.now opened.now retained.now powers.now.listed)
+        ↔ (questions.alone (state_seen structure.now states.now.opened states.now.retained powers.now.listed)
         place ≡ Some base.now) }
 {
     let parts = base.levels();
@@ -102,8 +101,8 @@ fn is_alone(
     }
     is_part(
         structure.level(place),
-        opened.row(place),
-        retained.row(place),
+        states.opened_row(place),
+        states.retained_row(place),
         powers,
         &parts[0],
         known,
@@ -113,16 +112,15 @@ fn is_alone(
 // Whether the parts are the levels as they stand.
 fn same_parts(
     structure: &Structure,
-    opened: &States,
-    retained: &States,
+    states: &States,
     powers: &Powers,
     parts: &[BaseLevel],
     known: bool,
 ) -> bool
-    requires fits { StateFits (state_seen structure.now opened.now retained.now powers.now.listed) }
+    requires fits { StateFits (state_seen structure.now states.now.opened states.now.retained powers.now.listed) }
     requires known { IsTrue known → AreLevels structure.now parts.now }
     ensures { IsTrue result
-        ↔ (questions.parts_of (state_seen structure.now opened.now retained.now powers.now.listed)
+        ↔ (questions.parts_of (state_seen structure.now states.now.opened states.now.retained powers.now.listed)
         ≡ parts.now) }
 {
     if structure.level_count() as usize != parts.len() {
@@ -131,8 +129,8 @@ fn same_parts(
     for place in 0..structure.level_count() {
         if !is_part(
             structure.level(place),
-            opened.row(place),
-            retained.row(place),
+            states.opened_row(place),
+            states.retained_row(place),
             powers,
             &parts[place as usize],
             known,
@@ -186,19 +184,18 @@ fn are_branches(structure: &Structure, list: &[BenchBranch], known: bool) -> boo
 #[tactic(auto, unfolding(crate::specs::Questions::whole))]
 fn is_whole(
     structure: &Structure,
-    opened: &States,
-    retained: &States,
+    states: &States,
     powers: &Powers,
     base: &Base,
     known: bool,
 ) -> bool
-    requires fits { StateFits (state_seen structure.now opened.now retained.now powers.now.listed) }
+    requires fits { StateFits (state_seen structure.now states.now.opened states.now.retained powers.now.listed) }
     requires known { IsTrue known → WasWhole structure.now base.now }
     ensures { IsTrue result
-        ↔ (questions.whole (state_seen structure.now opened.now retained.now powers.now.listed)
+        ↔ (questions.whole (state_seen structure.now states.now.opened states.now.retained powers.now.listed)
         ≡ base.now) }
 {
-    same_parts(structure, opened, retained, powers, base.levels(), known)
+    same_parts(structure, states, powers, base.levels(), known)
         && are_branches(structure, base.branches(), known)
 }
 
@@ -207,30 +204,21 @@ fn is_whole(
 #[tactic(auto, unfolding(crate::specs::Questions::base_of, grid_bench::specs::Tasks::level_of))]
 pub(crate) fn is_base_of(
     structure: &Structure,
-    opened: &States,
-    retained: &States,
+    states: &States,
     powers: &Powers,
     task: Task,
     base: &Base,
     known: bool,
 ) -> bool
-    requires fits { StateFits (state_seen structure.now opened.now retained.now powers.now.listed) }
+    requires fits { StateFits (state_seen structure.now states.now.opened states.now.retained powers.now.listed) }
     requires level { level_of task < length (levels structure.now) }
     requires known { IsTrue known → IsTaken structure.now task base.now }
     ensures { IsTrue result
-        ↔ (questions.base_of (state_seen structure.now opened.now retained.now powers.now.listed)
+        ↔ (questions.base_of (state_seen structure.now states.now.opened states.now.retained powers.now.listed)
         task ≡ Some base.now) }
 {
     match task {
-        Task::Components { .. } => is_whole(structure, opened, retained, powers, base, known),
-        _ => is_alone(
-            structure,
-            opened,
-            retained,
-            powers,
-            level_of(task),
-            base,
-            known,
-        ),
+        Task::Components { .. } => is_whole(structure, states, powers, base, known),
+        _ => is_alone(structure, states, powers, level_of(task), base, known),
     }
 }

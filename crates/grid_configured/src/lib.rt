@@ -5,6 +5,7 @@
 mod checks;
 mod commands;
 mod contents;
+mod copies;
 pub mod laws;
 mod lined;
 mod lists;

@@ -6,7 +6,7 @@ use grid_json::Order;
 use grid_kinds::Injection;
 
 /// A switch between two configured buses of its level.
-#[derive(Debug, Drop)]
+#[derive(Clone, Debug, Drop)]
 pub struct BusSwitch {
     pub id: Id,
     /// The bus at side 1.
@@ -21,7 +21,7 @@ pub struct BusSwitch {
 pub type BusSwitches = Seq<BusSwitch>;
 
 /// An injection at a configured bus of its level.
-#[derive(Debug, Drop)]
+#[derive(Clone, Debug, Drop)]
 pub struct Item {
     pub id: Id,
     /// The bus at which its terminal stands.
@@ -36,7 +36,7 @@ pub struct Item {
 pub type Items = Seq<Item>;
 
 /// An end of a line at a configured bus.
-#[derive(Debug, Drop)]
+#[derive(Clone, Debug, Drop)]
 pub struct BusEnd {
     /// The level of the bus.
     pub level: Id,
@@ -47,7 +47,7 @@ pub struct BusEnd {
 }
 
 /// A line between configured buses of two levels, which may be one level.
-#[derive(Debug, Drop)]
+#[derive(Clone, Debug, Drop)]
 pub struct ConfiguredLine {
     pub id: Id,
     /// The end of side 1.
@@ -60,7 +60,7 @@ pub struct ConfiguredLine {
 pub type ConfiguredLines = Seq<ConfiguredLine>;
 
 /// A level with configured buses: named buses, switches between them, and injections at them.
-#[derive(Debug, Drop)]
+#[derive(Clone, Debug, Drop)]
 pub struct ConfiguredLevel {
     pub id: Id,
     /// The nominal voltage, in V.

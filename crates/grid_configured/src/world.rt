@@ -131,16 +131,16 @@ impl ConfiguredWorld {
         }
     }
 
-    // The view of the level at a place, where the switches of the node/breaker form have these positions.
-    fn seen(&self, opened: &States, place: u32) -> Result<ConfiguredView, Memory>
+    // The view of the level at a place, where the switches of the node/breaker form have the flags of these states.
+    fn seen(&self, states: &States, place: u32) -> Result<ConfiguredView, Memory>
         requires inside { place < length self.now.network.levels }
-        requires rows { RowsFit (translated self.now.network) opened.now }
-        ensures { IfOk result (λ view. seen_at self.now.network opened.now place ≡ Some view) }
+        requires rows { RowsFit (translated self.now.network) states.now.opened }
+        ensures { IfOk result (λ view. seen_at self.now.network states.now.opened place ≡ Some view) }
     {
         let alloc = self.world.allocator();
         let level = self.world.structure().level(place);
         let watts = record_watts(alloc, level)?;
-        let view = bus_view(alloc, level, opened.row(place), watts.slice())?;
+        let view = bus_view(alloc, level, states.opened_row(place), watts.slice())?;
         tell_view(alloc, view, self.bus_total(place))
     }
 
@@ -156,7 +156,7 @@ impl ConfiguredWorld {
             return Ok(ConfiguredReply::Refused(Refusal::NoVariant));
         }
         match structure.find_level(level) {
-            Some(place) => Ok(ConfiguredReply::View(self.seen(self.world.opened(worker), place)?)),
+            Some(place) => Ok(ConfiguredReply::View(self.seen(self.world.states(worker), place)?)),
             None => Ok(ConfiguredReply::Refused(Refusal::NoLevel)),
         }
     }
@@ -270,7 +270,7 @@ impl ConfiguredWorld {
         ensures { IfOk result (λ view. configured.view self.now.network self.now.steps name.now
             level ≡ Some view) }
     {
-        self.seen(self.world.opened_in(name), level)
+        self.seen(self.world.states_in(name), level)
     }
 
     /// The journal of the node/breaker form: of each step, in order, the worker, its working variant before it, and the

@@ -11,7 +11,8 @@ use Rattle.grid_slots.specs.Answers.{IsClone}
 use Rattle.grid_slots.specs.Names.{initial_state, max_variants}
 use Rattle.grid_slots.specs.Places.{variant}
 use Rattle.grid_powers.specs.Listed.{PowerList}
-use Rattle.grid_core.specs.Solo.{powers_of, opening, after, solo}
+use Rattle.grid_states.specs.Rows.{Rows}
+use Rattle.grid_core.specs.Solo.{flags_of, powers_of, opening, after, solo}
 use Rattle.grid_core.specs.History.{Command, lineage}
 use Rattle.grid_core.specs.Replies.{state_of}
 use Rattle.grid_core.specs.Slotted.{HoldsBySlot, target_slot}
@@ -60,12 +61,12 @@ powers_cloned origin before step from to old new kept cloned powers c is differ 
 -- ---- the start
 
 -- no watts are listed for the initial variant
-pub powers_start : (origin : Network) → HoldsBySlot (told origin []) (variant initial_state 0 (opening origin).opened ∷ []) (replicate max_variants (powers_of (opening origin)))
+pub powers_start : (origin : Network) → HoldsBySlot (told origin []) (variant initial_state 0 (flags_of (opening origin)) ∷ []) (replicate max_variants (powers_of (opening origin)))
 unfolding state_of lineage after
 powers_start origin v slot h = by (same_id v initial_state) refl
   where
-    rows : List (List Bool)
-    rows = (opening origin).opened
+    rows : Rows
+    rows = flags_of (opening origin)
 
     by : (t : Bool) → same_id v initial_state ≡ t → slice_get (replicate max_variants (powers_of (opening origin))) slot ≡ Some (powers_of (opening origin))
     by true e =

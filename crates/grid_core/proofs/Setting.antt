@@ -20,7 +20,7 @@ use Rattle.grid_core.specs.declared.reply.Reply.TheVariants as replies
 use Rattle.grid_core.specs.declared.reply.Refusal.TheVariants as refusals
 use Rattle.grid_core.specs.declared.machine.Machine.{Machine}
 use Rattle.grid_core.specs.declared.machine.Made.{Made}
-use Rattle.grid_core.specs.Solo.{State, powers_of, refused, with_power, power_from, power_set, totals, solo}
+use Rattle.grid_core.specs.Solo.{State, flags_of, powers_of, refused, with_power, power_from, power_set, totals, solo}
 use Rattle.grid_core.specs.History.{command, is_live, is_switching, working}
 use Rattle.grid_core.specs.Replies.{state_of, reply_on, events_of}
 use Rattle.grid_core.specs.Made.{made_of}
@@ -59,21 +59,21 @@ module _ (m : Machine) (worker slot : ℕ) (v : List ℕ) (works : WorksOn m wor
   unfolding of_variant events_of solo totals
   totals_made powers made held is =
       stays_powered m worker slot v requests.Totals (replies.Totals powers.load powers.generation) made refl works at
-      (λ state st op re po. ap (λ (p : PowerList). (state, replies.Totals p.load p.generation)) (sym (held ∙ got_is m.powers.items slot (powers_of state) powers po))) refl is
+      (λ state st fl po. ap (λ (p : PowerList). (state, replies.Totals p.load p.generation)) (sym (held ∙ got_is m.powers.items slot (powers_of state) powers po))) refl is
 
   module _ (id : List ℕ) (new : ℤ) where
     pub set_nowhere : (made : Made) → sides m.structure id ≡ None → made ≡ made_of (replies.Refused refusals.NoEquipment) [] → Steps m m worker (requests.SetPower id new) made
     unfolding of_variant
     set_nowhere made none is =
         stays m worker slot v (requests.SetPower id new) (replies.Refused refusals.NoEquipment) made refl works at
-        (λ state st op re. power_nowhere state id new (ap (λ (n : Network). sides n id) (sym st) ∙ none)) (refused_events v (requests.SetPower id new) refusals.NoEquipment) is
+        (λ state st fl. power_nowhere state id new (ap (λ (n : Network). sides n id) (sym st) ∙ none)) (refused_events v (requests.SetPower id new) refusals.NoEquipment) is
 
     module _ (count : ℕ) (there : sides m.structure id ≡ Some count) where
       pub set_none : (made : Made) → powered m.structure id ≡ None → made ≡ made_of (replies.Refused refusals.NoPower) [] → Steps m m worker (requests.SetPower id new) made
       unfolding of_variant
       set_none made none is =
           stays m worker slot v (requests.SetPower id new) (replies.Refused refusals.NoPower) made refl works at
-          (λ state st op re. power_none state id new count (ap (λ (n : Network). sides n id) (sym st) ∙ there) (ap (λ (n : Network). powered n id) (sym st) ∙ none)) (refused_events v (requests.SetPower id new) refusals.NoPower) is
+          (λ state st fl. power_none state id new count (ap (λ (n : Network). sides n id) (sym st) ∙ there) (ap (λ (n : Network). powered n id) (sym st) ∙ none)) (refused_events v (requests.SetPower id new) refusals.NoPower) is
 
       module _ (p : Placed) (found : powered m.structure id ≡ Some p) (powers : PowerList) (held : powers ≡ get_or m.powers.items slot powers) where
         -- what the machine of one variant does, by the watts now
@@ -86,7 +86,7 @@ module _ (m : Machine) (worker slot : ℕ) (v : List ℕ) (works : WorksOn m wor
 
         pub set_same : (made : Made) → int_eq (watts_at powers.listed p) new ≡ true → made ≡ made_of replies.Unchanged [] → Steps m m worker (requests.SetPower id new) made
         unfolding of_variant events_of
-        set_same made now is = stays_powered m worker slot v (requests.SetPower id new) replies.Unchanged made refl works at (λ state st op re po. asked state true st po now) refl is
+        set_same made now is = stays_powered m worker slot v (requests.SetPower id new) replies.Unchanged made refl works at (λ state st fl po. asked state true st po now) refl is
 
         -- the watts that are set are those of the state
         set_is : (state : State) → m.structure ≡ state.structure → slice_get m.powers.items slot ≡ Some (powers_of state) → IsSummed m.structure (set_to id p new powers) → powers_of (with_power state id new) ≡ set_to id p new powers
@@ -97,10 +97,10 @@ module _ (m : Machine) (worker slot : ℕ) (v : List ℕ) (works : WorksOn m wor
             ∙ sym (summed_is m.structure (set_to id p new powers) sums)
 
         pub set_made : (next : Machine) (made : Made) → IsTable m.slots → int_eq (watts_at powers.listed p) new ≡ false → is_narrow new ≡ true → made ≡ made_of replies.Done []
-            → next.structure ≡ m.structure → next.slots ≡ m.slots → next.retained.items ≡ m.retained.items → next.working.items ≡ m.working.items → next.powers.items ≡ slice_set m.powers.items slot (set_to id p new powers)
+            → next.structure ≡ m.structure → next.slots ≡ m.slots → next.working.items ≡ m.working.items → next.powers.items ≡ slice_set m.powers.items slot (set_to id p new powers)
             → Steps m next worker (requests.SetPower id new) made
         unfolding of_variant is_switching events_of with_power
-        set_made next made table now few is st sl re wo po origin before h =
+        set_made next made table now few is st sl wo po origin before h =
             let s = at.1 origin before h in
             let state = state_of origin before v in
             let same = working_of origin before m worker v h works in
@@ -109,14 +109,13 @@ module _ (m : Machine) (worker slot : ℕ) (v : List ℕ) (works : WorksOn m wor
             let switched = subst (λ (n : List ℕ). Switched origin before (command worker (requests.SetPower id new)) n) same (switched_step origin before worker (requests.SetPower id new) refl alive) in
             let own : IsSummed m.structure powers = subst (IsSummed m.structure) (sym held) (h.summed slot powers (slice_get_within m.powers.items slot (powers_of state) s.powers)) in
             let sums = set_summed m.structure id p new powers (present_sound origin before m h) found few own in
-            let parts = parts_powered origin before (command worker (requests.SetPower id new)) v m.structure m.slots m.retained.items m.working.items switched (ap (λ (z : State × Reply). z.0.opened) does) (ap (λ (z : State × Reply). z.0.retained) does) h.parts in
+            let parts = parts_powered origin before (command worker (requests.SetPower id new)) v m.structure m.slots m.working.items switched (ap (λ (z : State × Reply). flags_of z.0) does) h.parts in
             let lists = powers_set origin before (command worker (requests.SetPower id new)) v m.slots m.powers.items slot (set_to id p new powers) switched table.differ at.0
             (ap (λ (z : State × Reply). powers_of z.0) does ∙ set_is state s.structure_is s.powers sums) h.powers in
             makes origin before worker (requests.SetPower id new) replies.Done [] made next is
             (variant_reply origin before worker (requests.SetPower id new) refl ∙ ap (λ n. reply_on origin before n (requests.SetPower id new)) same ∙ reply_live origin before v (requests.SetPower id new) s.alive ∙ ap (λ (z : State × Reply). z.1) does) refl
             (record {
-              parts = rw (st, sl, re, wo) parts;
-              room = ap length re ∙ h.room;
+              parts = rw (st, sl, wo) parts;
               powers = rw (sl, po) lists;
               summed = rw (st, po) (All-set (IsSummed m.structure) m.powers.items slot (set_to id p new powers) sums h.summed);
               power_room = ap length po ∙ length-set m.powers.items slot (set_to id p new powers) ∙ h.power_room;

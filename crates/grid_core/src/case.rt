@@ -8,8 +8,8 @@ use grid_powers::Powers;
 use grid_states::States;
 use grid_structure::Structure;
 
-/// What a variant stands at: the structure, the positions of its switches, true for open, one row per level and one flag
-/// per switch, and the watts that it lists, with the sums over the structure.
+/// What a variant stands at: the structure, the flags of its switches, opened and retained, one row of each per level and
+/// one flag per switch, and the watts that it lists, with the sums over the structure.
 #[derive(Drop)]
 pub struct Case {
     pub structure: Structure,
@@ -26,7 +26,7 @@ impl World {
         if !self.is_live(name) {
             return Ok(None);
         }
-        let states = self.opened_in(name).copy()?;
+        let states = self.states_in(name).copy()?;
         let powers = self.powers_in(name).copy()?;
         let structure = self.structure().copy()?;
         Ok(Some(Case {

@@ -50,14 +50,14 @@ pub fn disconnect_verdict(level: u32, plan: DisconnectPlan) -> Verdict
 pub(crate) fn plan_verdict(
     alloc: Global,
     structure: &Structure,
-    opened: &States,
+    states: &States,
     id: &Id,
     side: i64,
     opens: bool,
 ) -> Result<Verdict, Memory>
-    requires { RowsFit structure.now opened.now }
+    requires { RowsFit structure.now states.now.opened }
     ensures { IfOk result (λ verdict. (retained : List (List Bool)) (powers : Listed)
-        → IsFound (state_seen structure.now opened.now retained powers)
+        → IsFound (state_seen structure.now states.now.opened retained powers)
         (operating id.now side opens) verdict) }
 {
     let at = match find_site(structure, id, side) {
@@ -66,7 +66,7 @@ pub(crate) fn plan_verdict(
     };
     let level = structure.level(at.level);
     level.keeps();
-    let row = opened.row(at.level);
+    let row = states.opened_row(at.level);
     if opens {
         let plan = plan_disconnect(alloc, level, row, at.node)?;
         Ok(disconnect_verdict(at.level, plan))

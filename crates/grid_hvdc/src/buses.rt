@@ -38,21 +38,21 @@ fn push_names(names: &mut Seq<BusName>, level: u32, leasts: &[u16]) -> Result<()
     Ok(())
 }
 
-/// The buses of all levels, whose switches have these flags `opened`.
+/// The buses of all levels, whose switches have the flags opened of these states.
 pub(crate) fn list_buses(
     alloc: Global,
     structure: &Structure,
-    opened: &States,
+    states: &States,
 ) -> Result<NetworkBuses, Memory>
-    requires rows { length opened.now ≡ length (levels structure.now) }
-    requires flags { FlagsFit structure.now opened.now }
-    ensures numbered { IfOk result (λ all. all.numbered ≡ numbered structure.now opened.now) }
-    ensures names { IfOk result (λ all. all.names ≡ bus_names structure.now opened.now) }
+    requires rows { length states.now.opened ≡ length (levels structure.now) }
+    requires flags { FlagsFit structure.now states.now.opened }
+    ensures numbered { IfOk result (λ all. all.numbered ≡ numbered structure.now states.now.opened) }
+    ensures names { IfOk result (λ all. all.names ≡ bus_names structure.now states.now.opened) }
 {
     let mut numbered = Numbered::empty(alloc);
     let mut names = Seq::empty(alloc);
     for place in 0..structure.level_count() {
-        let buses = node_buses(alloc, structure.level(place), opened.row(place))?;
+        let buses = node_buses(alloc, structure.level(place), states.opened_row(place))?;
         numbered.add(alloc, &buses)?;
         push_names(&mut names, place, buses.leasts.slice())?;
     }

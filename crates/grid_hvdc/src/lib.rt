@@ -11,7 +11,9 @@ mod read;
 mod stations;
 mod write;
 
-use grid_ids::{Id, Seq};
+ghost use Rattle.std.proofs.Common.{rules};
+
+use grid_ids::{Duplicate, Id, Seq};
 use grid_json::Job;
 pub use lines::{count_buses, put_variant_lines};
 pub use numbers::hvdc_numbers;
@@ -37,7 +39,7 @@ pub struct HvdcNumber {
 pub type HvdcNumbers = Seq<HvdcNumber>;
 
 /// An HVDC line between two converter stations, which it names by their ids.
-#[derive(Debug, Drop)]
+#[derive(Clone, Debug, Drop)]
 pub struct HvdcLine {
     pub id: Id,
     pub station1: Id,
@@ -52,4 +54,12 @@ pub type HvdcLines = Seq<HvdcLine>;
 pub struct HvdcJob {
     pub job: Job,
     pub lines: HvdcLines,
+}
+
+impl Duplicate for HvdcNumber {
+    ghost clone_equals = { Prim.search rules };
+}
+
+impl Duplicate for HvdcLine {
+    ghost clone_equals = { Prim.search rules };
 }

@@ -67,15 +67,15 @@ pub fn put_variant_lines(
     alloc: Global,
     name: &Id,
     structure: &Structure,
-    opened: &States,
+    states: &States,
     lines: &[HvdcLine],
 ) -> Result<(), Memory>
-    requires { RowsFit structure.now opened.now }
+    requires { RowsFit structure.now states.now.opened }
     ensures ok { OnOk result ((retained : List (List Bool)) → out.new
-        ≡ out.old ++ outcomes.lines (variant_objects name.now structure.now opened.now retained lines.now)) }
+        ≡ out.old ++ outcomes.lines (variant_objects name.now structure.now states.now.opened retained lines.now)) }
     ensures err { OnErr result (out.new ≡ []) }
 {
-    let buses = match number_buses(alloc, structure, opened, lines) {
+    let buses = match number_buses(alloc, structure, states, lines) {
         Ok(buses) => buses,
         Err(memory) => {
             out.clear();
@@ -92,12 +92,12 @@ pub fn put_variant_lines(
     )
 }
 
-/// How many buses a network has, whose switches have these flags `opened`.
-pub fn count_buses(alloc: Global, structure: &Structure, opened: &States) -> Result<u64, Memory>
-    requires { RowsFit structure.now opened.now }
+/// How many buses a network has, whose switches have the flags opened of these states.
+pub fn count_buses(alloc: Global, structure: &Structure, states: &States) -> Result<u64, Memory>
+    requires { RowsFit structure.now states.now.opened }
     ensures { IfOk result (λ count. (retained : List (List Bool)) → count
-        ≡ length (network_buses structure.now opened.now retained)) }
+        ≡ length (network_buses structure.now states.now.opened retained)) }
 {
-    let all = list_buses(alloc, structure, opened)?;
+    let all = list_buses(alloc, structure, states)?;
     Ok(all.names.len() as u64)
 }

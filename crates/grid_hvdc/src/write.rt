@@ -74,15 +74,15 @@ pub(crate) struct NumberedBuses {
 pub(crate) fn number_buses(
     alloc: Global,
     structure: &Structure,
-    opened: &States,
+    states: &States,
     lines: &[HvdcLine],
 ) -> Result<NumberedBuses, Memory>
-    requires { RowsFit structure.now opened.now }
-    ensures names { IfOk result (λ buses. buses.names ≡ bus_names structure.now opened.now) }
+    requires { RowsFit structure.now states.now.opened }
+    ensures names { IfOk result (λ buses. buses.names ≡ bus_names structure.now states.now.opened) }
     ensures numbers { IfOk result (λ buses. (retained : List (List Bool)) → NumbersOf structure.now
-        (islands.network_buses structure.now opened.now retained) lines.now buses.numbers) }
+        (islands.network_buses structure.now states.now.opened retained) lines.now buses.numbers) }
 {
-    let all = list_buses(alloc, structure, opened)?;
+    let all = list_buses(alloc, structure, states)?;
     let branches = bus_pairs(alloc, structure, all.numbered.rows.slice())?;
     let links = link_pairs(alloc, structure, all.numbered.rows.slice(), lines)?;
     let numbers = hvdc_numbers(alloc, all.numbered.count, branches.slice(), links.slice())?;
@@ -103,24 +103,24 @@ fn put_name(out: &mut Text, name: &Id) -> Result<(), Memory>
 }
 
 /// Puts a variant's name and the line of each bus of its network last, by place of level, then by least node: the bus
-/// with its connected and its synchronous component. The switches have these flags `opened`: a row for each level, a flag
-/// for each switch; the flags `retained` are of no account. An HVDC line connects the two buses in which its stations
-/// stand. Where memory is wanting, no text is left. The time is that of the network's nodes, switches, branches and HVDC
-/// lines.
+/// with its connected and its synchronous component. The switches have the flags opened of these states: a row for
+/// each level, a flag for each switch; the flags retained are of no account. An HVDC line connects the two buses in
+/// which its stations stand. Where memory is wanting, no text is left. The time is that of the network's nodes,
+/// switches, branches and HVDC lines.
 pub fn put_variant(
     out: &mut Text,
     alloc: Global,
     name: &Id,
     structure: &Structure,
-    opened: &States,
+    states: &States,
     lines: &[HvdcLine],
 ) -> Result<(), Memory>
-    requires { RowsFit structure.now opened.now }
+    requires { RowsFit structure.now states.now.opened }
     ensures ok { OnOk result ((retained : List (List Bool)) → out.new
-        ≡ out.old ++ variant_text name.now structure.now opened.now retained lines.now) }
+        ≡ out.old ++ variant_text name.now structure.now states.now.opened retained lines.now) }
     ensures err { OnErr result (out.new ≡ []) }
 {
-    let buses = match number_buses(alloc, structure, opened, lines) {
+    let buses = match number_buses(alloc, structure, states, lines) {
         Ok(buses) => buses,
         Err(memory) => {
             out.clear();

@@ -112,21 +112,26 @@ impl KeptBuses {
         &mut self,
         alloc: Global,
         structure: &Structure,
-        opened: &States,
+        states: &States,
     ) -> Result<Counts, Memory>
-        requires rows { length opened.now ≡ length (levels structure.now) }
-        requires flags { FlagsFit structure.now opened.now }
+        requires rows { length states.now.opened ≡ length (levels structure.now) }
+        requires flags { FlagsFit structure.now states.now.opened }
         requires kept { AreBusesOf structure.now self.old }
         ensures value { IfOk result (λ counts. counts
-            ≡ counts_before opened.now (levels structure.now) (length (levels structure.now))) }
+            ≡ counts_before states.now.opened (levels structure.now) (length (levels structure.now))) }
         ensures few { IfOk result (λ counts. counts.count < 2 ^ 32) }
-        ensures every { OnOk result (AreKeptBefore structure.now opened.now
+        ensures every { OnOk result (AreKeptBefore structure.now states.now.opened
             (length (levels structure.now)) self.new) }
         ensures kept { AreBusesOf structure.now self.new }
     {
         let mut counts = Counts::with_room(alloc, structure.level_count())?;
         for place in 0..structure.level_count() {
-            self.keep(alloc, place, structure.level(place), opened.row(place))?;
+            self.keep(
+                alloc,
+                place,
+                structure.level(place),
+                states.opened_row(place),
+            )?;
             counts.add(self.buses(place).leasts.len())?;
         }
         Ok(counts)

@@ -27,4 +27,4 @@ pub use network::item_of;
 pub use place::Place;
 pub use read::{FromJson, member, member_otherwise, object, only, optional};
 pub use seen::SeenIds;
-pub use whole::{Job, JobFault, job_member, read_job};
+pub use whole::{Job, JobFault, job_member, read_job, read_value};

@@ -2,7 +2,8 @@
 // line, command or the like at a time. What does not go so (a fault, want of memory, a format that stands behind what
 // it chooses) is read again over a tree of the whole, which names the first fault. So nothing is owed of the first way
 // but that what it gives is the draft. Then the network is loaded by edits.
-ghost use Rattle.std.specs.Prelude.{◌≡◌, ◌≤◌, None, codes, IfOk, IsTrue};
+ghost use Rattle.std.specs.Prelude.{◌≡◌, ◌≤◌, None, Result, Ok, codes, IfOk, IsTrue};
+ghost use Rattle.grid_json.specs.declared.fault.Fault.{Fault};
 ghost use Rattle.grid_value.specs.Bytes.{reading};
 ghost use Rattle.grid_value.specs.View.{view};
 ghost use Rattle.grid_json.specs.Job.{command_total, max_commands, draft_at};
@@ -39,19 +40,27 @@ pub enum JobFault {
     Memory,
 }
 
-/// The first pass over a value.
-fn read_first(alloc: Global, value: &Value) -> Result<JobDraft, JobFault>
-    ensures draft { JobGives result (or_bad_job (draft_at (view value.now))) }
-    ensures total { IfOk result (λ draft. command_total draft.scripts ≤ max_commands) }
+/// What a reading gives, with the fault of a job.
+fn of_job<T>(read: Result<T, ReadError>) -> Result<T, JobFault>
+    ensures job { (wanted : Result T Fault) → Gives read wanted → JobGives result (or_bad_job wanted) }
+    ensures value { IfOk result (λ x. read ≡ Ok x) }
 {
-    match read_draft(alloc, value) {
-        Ok(draft) => Ok(draft),
+    match read {
+        Ok(value) => Ok(value),
         Err(ReadError::Memory) => Err(JobFault::Memory),
         Err(ReadError::Fault(fault)) => Err(JobFault::BadJob {
             place: fault.place,
             reason: fault.reason,
         }),
     }
+}
+
+/// The first pass over a value.
+fn read_first(alloc: Global, value: &Value) -> Result<JobDraft, JobFault>
+    ensures draft { JobGives result (or_bad_job (draft_at (view value.now))) }
+    ensures total { IfOk result (λ draft. command_total draft.scripts ≤ max_commands) }
+{
+    of_job(read_draft(alloc, value))
 }
 
 /// The first pass over a tree of all that the bytes spell.
@@ -116,14 +125,7 @@ fn read_second(alloc: Global, draft: JobDraft) -> Result<Job, JobFault>
     ensures job { JobGives result (or_bad_job (loaded draft)) }
     ensures scripts { IfOk result (λ job. job.scripts ≡ draft.scripts) }
 {
-    match load(alloc, draft) {
-        Ok(job) => Ok(job),
-        Err(ReadError::Memory) => Err(JobFault::Memory),
-        Err(ReadError::Fault(fault)) => Err(JobFault::BadJob {
-            place: fault.place,
-            reason: fault.reason,
-        }),
-    }
+    of_job(load(alloc, draft))
 }
 
 /// The job of a value: both passes.
@@ -149,6 +151,14 @@ pub fn job_member(alloc: Global, value: &Value) -> Result<Job, ReadError>
             Err(e) => Err(e.under(alloc, "job")),
         },
     }
+}
+
+/// The job of a value: BadJob exactly where the job has a fault, with the first one; never BadJson.
+pub fn read_value(alloc: Global, value: &Value) -> Result<Job, JobFault>
+    ensures job { JobGives result (or_bad_job (whole_job_at (view value.now))) }
+    ensures total { IfOk result (λ job. command_total job.scripts ≤ max_commands) }
+{
+    of_job(read_whole(alloc, value))
 }
 
 /// The job of the bytes: BadJson exactly where `serde_json` has no reading of them, BadJob exactly where the job has a

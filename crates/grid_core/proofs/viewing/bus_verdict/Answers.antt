@@ -14,13 +14,13 @@ use Rattle.grid_core.proofs.Finding.{bus_refused, bus_is}
 use Rattle.grid_core.proofs.viewing.bus_verdict.Goals as goal
 
 pub returns-in-None : goal.returns-in-None
-returns-in-None c retained = bus_refused (state_seen c.args.structure.now c.args.opened.now retained c.args.powers.now.listed) c.args.id.now (sym c.in-None.ensures.place)
+returns-in-None c retained = bus_refused (state_seen c.args.structure.now c.args.states.now.opened retained c.args.powers.now.listed) c.args.id.now (sym c.in-None.ensures.place)
 
-pub row-requires : goal.row-requires
-row-requires c = (fits_at c.args.structure.now c.args.opened.now c.in-Some.place c.level-level.result.now c.requires c.level-level.ensures).0
+pub opened_row-requires : goal.opened_row-requires
+opened_row-requires c = (fits_at c.args.structure.now c.args.states.now.opened c.in-Some.place c.level-level.result.now c.requires c.level-level.ensures).0
 
 pub bus_view-requires-clause-states : goal.bus_view-requires-clause-states
-bus_view-requires-clause-states c = ap length c.row.ensures ∙ (fits_at c.args.structure.now c.args.opened.now c.in-Some.place c.level-level.result.now c.requires c.level-level.ensures).1
+bus_view-requires-clause-states c = ap length c.opened_row.ensures ∙ (fits_at c.args.structure.now c.args.states.now.opened c.in-Some.place c.level-level.result.now c.requires c.level-level.ensures).1
 
 pub bus_view-requires-clause-powers : goal.bus_view-requires-clause-powers
 unfolding level_watts
@@ -29,8 +29,8 @@ bus_view-requires-clause-powers c = ap length (c.slice.ensures ∙ c.in_ok-watts
 pub returns : goal.returns
 unfolding level_at
 returns c retained v =
-    let state = state_seen c.args.structure.now c.args.opened.now retained c.args.powers.now.listed in
+    let state = state_seen c.args.structure.now c.args.states.now.opened retained c.args.powers.now.listed in
     let level = c.level-level.result.now in
     subst (λ (z : BusView). IsVerdict state v (requests.BusView c.args.id.now) (verdicts.Stays (replies.Bus z)))
-    (sym (c.in_ok-shared.ensures ∙ c.in_ok-view.ensures ∙ ap (bus_view_of (positioned level c.row.result.now)) (c.slice.ensures ∙ c.in_ok-watts.ensures) ∙ ap (λ (row : List Bool). bus_view_of (positioned level row) (level_watts c.args.powers.now.listed level)) c.row.ensures))
+    (sym (c.in_ok-shared.ensures ∙ c.in_ok-view.ensures ∙ ap (bus_view_of (positioned level c.opened_row.result.now)) (c.slice.ensures ∙ c.in_ok-watts.ensures) ∙ ap (λ (row : List Bool). bus_view_of (positioned level row) (level_watts c.args.powers.now.listed level)) c.opened_row.ensures))
     (bus_is state c.args.id.now c.in-Some.place level (sym c.in-Some.ensures.place) c.level-level.ensures v)

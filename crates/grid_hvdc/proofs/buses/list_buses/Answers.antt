@@ -14,21 +14,21 @@ use Rattle.grid_hvdc.proofs.buses.list_buses.Goals as goal
 
 pub loop-place-init : goal.loop-place-init
 loop-place-init c = record {
-  numbers = c.empty-numbered.ensures ∙ numbered_none c.args.opened.now (levels c.args.structure.now);
+  numbers = c.empty-numbered.ensures ∙ numbered_none c.args.states.now.opened (levels c.args.structure.now);
   names = c.empty-names.ensures;
 }
 
 pub add-requires : goal.add-requires
-add-requires c = subst PlacesFit (sym c.in_ok-buses.ensures) (places_fit (positioned c.level.result.now c.row.result.now))
+add-requires c = subst PlacesFit (sym c.in_ok-buses.ensures) (places_fit (positioned c.level.result.now c.opened_row.result.now))
 
 pub loop-place-preserved : goal.loop-place-preserved
 unfolding standing level_names node_buses_of
 loop-place-preserved c =
     let all = levels c.args.structure.now in
-    let opened = c.args.opened.now in
+    let opened = c.args.states.now.opened in
     let k = c.loop-place.place in
     let level = c.level.result.now in
-    let found : c.in_ok-buses.buses ≡ node_buses_of (standing opened (k, level)) = c.in_ok-buses.ensures ∙ ap (λ z. node_buses_of (positioned level z)) c.row.ensures in
+    let found : c.in_ok-buses.buses ≡ node_buses_of (standing opened (k, level)) = c.in_ok-buses.ensures ∙ ap (λ z. node_buses_of (positioned level z)) c.opened_row.ensures in
     let leasts : c.slice.result.now ≡ bus_leasts (standing opened (k, level)) = c.slice.ensures ∙ ap (λ z. z.leasts) found in
     record {
       numbers = c.in_ok-add.ensures.added ∙ ap (λ z. with_buses z c.in_ok-buses.buses) c.loop-place.invariant.numbers
@@ -41,7 +41,7 @@ pub returns : goal.returns
 unfolding bus_names
 returns c =
     let all = levels c.args.structure.now in
-    let opened = c.args.opened.now in
+    let opened = c.args.states.now.opened in
     let end : c.loop-place.place ≡ length all = omega (arith, c.loop-place-test.false, c.loop-place.auto.place-end, c.level_count-place-end.ensures) in
     record {
       numbered = c.loop-place.invariant.numbers ∙ ap (numbered_before opened all) end ∙ numbered_all c.args.structure.now opened;

@@ -8,6 +8,6 @@ use Rattle.grid_hvdc.proofs.buses.list_buses.Given as goal
 
 abbrev pub invariant-loop-place : goal.invariant-loop-place
 invariant-loop-place l = record {
-  numbers : l.numbered ≡ numbered_before l.opened (levels l.structure) l.place;
-  names : l.names ≡ flat_map (level_names l.opened) (take l.place (enumerate_from 0 (levels l.structure)));
+  numbers : l.numbered ≡ numbered_before l.states.opened (levels l.structure) l.place;
+  names : l.names ≡ flat_map (level_names l.states.opened) (take l.place (enumerate_from 0 (levels l.structure)));
 }

@@ -7,13 +7,13 @@ use Rattle.grid_hvdc.proofs.Naming.{name_of, names_as}
 use Rattle.grid_hvdc.proofs.lines.count_buses.Goals as goal
 
 pub list_buses-requires-clause-rows : goal.list_buses-requires-clause-rows
-list_buses-requires-clause-rows c = rows_of_levels c.args.structure.now c.args.opened.now c.requires
+list_buses-requires-clause-rows c = rows_of_levels c.args.structure.now c.args.states.now.opened c.requires
 
 pub list_buses-requires-clause-flags : goal.list_buses-requires-clause-flags
-list_buses-requires-clause-flags c = flags_fit c.args.structure.now c.args.opened.now c.requires
+list_buses-requires-clause-flags c = flags_fit c.args.structure.now c.args.states.now.opened c.requires
 
 pub returns : goal.returns
 returns c retained =
     let net = c.args.structure.now in
-    let opened = c.args.opened.now in
+    let opened = c.args.states.now.opened in
     c.len.ensures ∙ ap length (c.in_ok-all.ensures.names ∙ names_as opened retained net) ∙ length-map (network_buses net opened retained) name_of

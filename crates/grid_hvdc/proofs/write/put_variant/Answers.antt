@@ -6,12 +6,12 @@ use Rattle.grid_hvdc.proofs.Writing.{variant_as}
 use Rattle.grid_hvdc.proofs.write.put_variant.Goals as goal
 
 pub put_lines-requires : goal.put_lines-requires
-put_lines-requires c = subst (LevelsThere c.args.structure.now) (sym (c.slice.ensures ∙ c.in-Ok.ensures.names)) (levels_there c.args.structure.now c.args.opened.now)
+put_lines-requires c = subst (LevelsThere c.args.structure.now) (sym (c.slice.ensures ∙ c.in-Ok.ensures.names)) (levels_there c.args.structure.now c.args.states.now.opened)
 
 pub returns-clause-ok : goal.returns-clause-ok
 returns-clause-ok c =
     on_ok_weaker c.put_lines.result
     (λ e retained.
-    variant_as c.args.name.now c.args.structure.now c.args.opened.now retained c.args.lines.now c.slice.result.now c.slice-2.result.now c.args.out.now c.put_name.new.out c.put_lines.new.out
+    variant_as c.args.name.now c.args.structure.now c.args.states.now.opened retained c.args.lines.now c.slice.result.now c.slice-2.result.now c.args.out.now c.put_name.new.out c.put_lines.new.out
     (c.slice.ensures ∙ c.in-Ok.ensures.names) (c.slice-2.ensures ∙ c.in-Ok.ensures.numbers retained) c.in_ok-put_name.ensures.ok e)
     c.put_lines.ensures.ok

@@ -12,15 +12,15 @@ use Rattle.grid_configured.proofs.world.ConfiguredWorld.seen.Goals as goal
 pub level-level-requires : goal.level-level-requires
 level-level-requires c = level_inside c.self.inside.network c.self.inside.world c.args.self.now c.self.view_is c.self.invariant c.structure.result.now c.structure.ensures c.args.place c.requires.inside
 
-pub row-requires : goal.row-requires
-row-requires c =
-    let rows = subst (λ (z : Network). RowsFit z c.args.opened.now) (sym (now_structure c.self.inside.network c.self.inside.world c.args.self.now c.self.view_is c.self.invariant c.structure.result.now c.structure.ensures)) c.requires.rows in
-    (fits_at c.structure.result.now c.args.opened.now c.args.place c.level-level.result.now rows c.level-level.ensures).0
+pub opened_row-requires : goal.opened_row-requires
+opened_row-requires c =
+    let rows = subst (λ (z : Network). RowsFit z c.args.states.now.opened) (sym (now_structure c.self.inside.network c.self.inside.world c.args.self.now c.self.view_is c.self.invariant c.structure.result.now c.structure.ensures)) c.requires.rows in
+    (fits_at c.structure.result.now c.args.states.now.opened c.args.place c.level-level.result.now rows c.level-level.ensures).0
 
 pub bus_view-requires-clause-states : goal.bus_view-requires-clause-states
 bus_view-requires-clause-states c =
-    let rows = subst (λ (z : Network). RowsFit z c.args.opened.now) (sym (now_structure c.self.inside.network c.self.inside.world c.args.self.now c.self.view_is c.self.invariant c.structure.result.now c.structure.ensures)) c.requires.rows in
-    ap length c.row.ensures ∙ (fits_at c.structure.result.now c.args.opened.now c.args.place c.level-level.result.now rows c.level-level.ensures).1
+    let rows = subst (λ (z : Network). RowsFit z c.args.states.now.opened) (sym (now_structure c.self.inside.network c.self.inside.world c.args.self.now c.self.view_is c.self.invariant c.structure.result.now c.structure.ensures)) c.requires.rows in
+    ap length c.opened_row.ensures ∙ (fits_at c.structure.result.now c.args.states.now.opened c.args.place c.level-level.result.now rows c.level-level.ensures).1
 
 pub bus_view-requires-clause-powers : goal.bus_view-requires-clause-powers
 unfolding record_watts
@@ -28,7 +28,7 @@ bus_view-requires-clause-powers c = ap length (c.slice.ensures ∙ c.in_ok-watts
 
 pub returns : goal.returns
 returns c =
-    IfOk-weaker c.tell_view.result (λ told. told ≡ told_view c.bus_total.result c.in_ok-view.view) (λ view. seen_at c.args.self.now.network c.args.opened.now c.args.place ≡ Some view)
-    (λ told e. seen_level c.self.inside.network c.self.inside.world c.args.self.now c.self.view_is c.self.invariant c.structure.result.now c.structure.ensures c.args.place c.level-level.result.now c.level-level.ensures c.requires.inside c.args.opened.now c.row.result.now c.slice.result.now c.in_ok-view.view c.bus_total.result
-    c.row.ensures (c.slice.ensures ∙ c.in_ok-watts.ensures) c.in_ok-view.ensures c.bus_total.ensures ∙ ap Some (sym e))
+    IfOk-weaker c.tell_view.result (λ told. told ≡ told_view c.bus_total.result c.in_ok-view.view) (λ view. seen_at c.args.self.now.network c.args.states.now.opened c.args.place ≡ Some view)
+    (λ told e. seen_level c.self.inside.network c.self.inside.world c.args.self.now c.self.view_is c.self.invariant c.structure.result.now c.structure.ensures c.args.place c.level-level.result.now c.level-level.ensures c.requires.inside c.args.states.now.opened c.opened_row.result.now c.slice.result.now c.in_ok-view.view c.bus_total.result
+    c.opened_row.ensures (c.slice.ensures ∙ c.in_ok-watts.ensures) c.in_ok-view.ensures c.bus_total.ensures ∙ ap Some (sym e))
     c.tell_view.ensures

@@ -51,7 +51,7 @@ set-requires c = subst HasRoom (sym c.index_mut.ensures.value) (all_room c.args.
 pub returns-in_err-set-clause-same : goal.returns-in_err-set-clause-same
 returns-in_err-set-clause-same c =
     on_err c.from_residual-in_err-set.result
-    (refl, refl, refl, refl, ap (λ p. set c.args.self.now.powers.items c.in-Some.slot p) (c.in_err-set.ensures.err ∙ c.index_mut.ensures.value) ∙ set-get_or c.args.self.now.powers.items c.in-Some.slot c.index_mut.result.now)
+    (refl, refl, refl, ap (λ p. set c.args.self.now.powers.items c.in-Some.slot p) (c.in_err-set.ensures.err ∙ c.index_mut.ensures.value) ∙ set-get_or c.args.self.now.powers.items c.in-Some.slot c.index_mut.result.now)
 
 pub returns-clause-made : goal.returns-clause-made
 returns-clause-made c =
@@ -59,5 +59,5 @@ returns-clause-made c =
     let wide = to_z-of_z w64 c.args.watts c.ranges.watts in
     let was = c.index.ensures ∙ sym (same_get c.args.self.now.powers.items c.in-Some.slot c.index.result.now c.index_mut.result.now (powers_within c.args.self.now c.args.variant.now c.in-Some.slot c.requires.held c.in-Some.ensures)) ∙ sym c.index_mut.ensures.value in
     set_made c.args.self.now c.args.worker c.in-Some.slot c.args.variant.now c.requires.works c.in-Some.ensures c.args.id.now c.args.watts count.0 count.1 c.in-Some-powered.placed.now (sym c.in-Some-powered.ensures) c.index_mut.result.now c.index_mut.ensures.value _ _ c.keeps.ensures
-    (ap (λ (p : PowerList). int_eq (watts_at p.listed c.in-Some-powered.placed.now) c.args.watts) (sym was) ∙ search (rules)) (subst (λ w. IsTrue (is_narrow w)) wide c.in_ok-set.ensures.narrow) c.in_ok-made.ensures refl refl refl refl
+    (ap (λ (p : PowerList). int_eq (watts_at p.listed c.in-Some-powered.placed.now) c.args.watts) (sym was) ∙ search (rules)) (subst (λ w. IsTrue (is_narrow w)) wide c.in_ok-set.ensures.narrow) c.in_ok-made.ensures refl refl refl
     (ap (λ p. set c.args.self.now.powers.items c.in-Some.slot p) (c.in_ok-set.ensures.ok ∙ ap (λ w. set_to c.in_ok-id.id c.in-Some-powered.placed.now w c.index_mut.result.now) wide ∙ ap (λ i. set_to i c.in-Some-powered.placed.now c.args.watts c.index_mut.result.now) c.in_ok-id.ensures))

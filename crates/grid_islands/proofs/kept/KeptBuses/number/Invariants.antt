@@ -6,9 +6,9 @@ use Rattle.grid_islands.proofs.kept.KeptBuses.number.Given as goal
 
 abbrev pub invariant-loop-place : goal.invariant-loop-place
 invariant-loop-place l = record {
-  counted : l.counts ≡ counts_before l.opened (levels l.structure) l.place;
+  counted : l.counts ≡ counts_before l.states.opened (levels l.structure) l.place;
   few : l.counts.count < 2 ^ 32;
   kept : AreBusesOf l.structure l.self;
-  every : AreKeptBefore l.structure l.opened l.place l.self;
+  every : AreKeptBefore l.structure l.states.opened l.place l.self;
   long : l.place ≤ length l.self.levels;
 }
