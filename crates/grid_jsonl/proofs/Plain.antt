@@ -1,11 +1,11 @@
 -- Texts that stand between quotes as they are.
-use Rattle.std.proofs.Common.{◌≡◌, refl, ap, ◌∙◌, ℕ, zero, suc, ℤ, pos, negsuc, ◌+◌, ◌<◌, ◌/◌, ◌%◌, List, [], ◌∷◌, ◌++◌, Bool, true, false, arith}
-use Rattle.std.specs.Prelude.{◌==◌, decimal, codes, if◌then◌else◌}
+use Rattle.std.proofs.Common.{◌≡◌, refl, ap, ◌∙◌, ℕ, zero, suc, ℤ, pos, negsuc, ◌+◌, ◌<◌, ◌/◌, ◌%◌, List, [], ◌∷◌, ◌++◌, Bool, true, false, Result, Ok, Err, arith, sym, append_assoc}
+use Rattle.std.specs.Prelude.{◌==◌, decimal, codes, if◌then◌else◌, OnOk}
 use Rattle.std.specs.Fmt.{digits, digits_onto, digit_glyph}
 use Rattle.std.proofs.lemmas.List.Concat.{flat_map-append}
 use Rattle.std.proofs.lemmas.Bool.{lt-ltb}
 use Rattle.json.proofs.Printed.Strings.{escape_byte_plain}
-use Rattle.json.specs.Print.{escape, escape_byte}
+use Rattle.json.specs.Print.{escape, escape_byte, quoted}
 use Rattle.serde_json.specs.Data.{string}
 use Rattle.serde_json.specs.Written.{compact_text}
 use Rattle.grid_print.specs.Objects.{whole}
@@ -89,3 +89,13 @@ bus_name_escaped level least = named_escaped level (codes "_") least refl
 pub terminal_escaped : (t : Terminal) → escape (terminal_text t) ≡ escape t.equipment ++ codes "." ++ decimal t.side
 unfolding escape_byte
 terminal_escaped t = named_escaped t.equipment (codes ".") t.side refl
+
+-- a text is put where an id in it, a mark and digits are, and the closing quote
+pub quoted_ends : {T E : Type 0} (r : Result T E) (before name mark digits text old named numbered next : List ℕ) → 34 ∷ escape text ≡ before ++ escape name ++ mark ++ digits
+    → named ≡ old ++ (before ++ escape name ++ mark) → numbered ≡ named ++ digits → OnOk r (next ≡ numbered ++ 34 ∷ []) → OnOk r (next ≡ old ++ quoted text)
+quoted_ends (Err x) before name mark digits text old named numbered next is a b c = tt
+quoted_ends (Ok x) before name mark digits text old named numbered next is a b c =
+    let parts : (before ++ escape name ++ mark) ++ digits ≡ before ++ escape name ++ mark ++ digits = simp append_assoc in
+    c
+    ∙ ap (λ l. l ++ 34 ∷ []) (b ∙ ap (λ l. l ++ digits) a ∙ append_assoc old (before ++ escape name ++ mark) digits ∙ ap (λ l. old ++ l) (parts ∙ sym is))
+    ∙ append_assoc old (34 ∷ escape text) (34 ∷ [])

@@ -9,7 +9,7 @@ ghost use Rattle.grid_jsonl.specs.Trees.{field_text};
 use crate::member::put_name;
 use crate::string::put_string;
 use grid_ids::{Id, Memory};
-use grid_report::Text;
+use grid_report::{Text, put_numbers};
 
 /// What is put as a value of JSON.
 pub trait Written {
@@ -20,6 +20,19 @@ pub trait Written {
     fn put(&self, out: &mut Text) -> Result<(), Memory>
         ensures ok { OnOk result (out.new ≡ out.old ++ compact_text (written self.now)) }
         ensures err { OnErr result (out.new ≡ []) };
+
+    /// Puts the text of each value last, behind a comma. Where memory is wanting, the text is empty.
+    fn put_others(out: &mut Text, items: &[Self]) -> Result<(), Memory>
+        ensures ok { OnOk result (out.new
+            ≡ out.old ++ flat_map (λ x. 44 ∷ compact_text (written x)) items.now) }
+        ensures err { OnErr result (out.new ≡ []) }
+    {
+        for item in items {
+            out.put(",")?;
+            item.put(out)?;
+        }
+        Ok(())
+    }
 }
 
 /// What is put as a value of JSON that names the buses of a level by the level's id.
@@ -48,19 +61,11 @@ impl Written for u16 {
     fn put(&self, out: &mut Text) -> Result<(), Memory> {
         out.put_unsigned(u64::from(*self))
     }
-}
 
-/// Puts each item behind a comma.
-fn put_others<T: Written>(out: &mut Text, items: &[T]) -> Result<(), Memory>
-    ensures ok { OnOk result (out.new
-        ≡ out.old ++ flat_map (λ x. 44 ∷ compact_text (T.written x)) items.now) }
-    ensures err { OnErr result (out.new ≡ []) }
-{
-    for item in items {
-        out.put(",")?;
-        item.put(out)?;
+    // Sixteen are put at once.
+    fn put_others(out: &mut Text, items: &[u16]) -> Result<(), Memory> {
+        put_numbers(out, b',', items)
     }
-    Ok(())
 }
 
 /// Puts an array last. Where memory is wanting, the text is empty.
@@ -73,7 +78,7 @@ pub fn put_items<T: Written>(out: &mut Text, items: &[T]) -> Result<(), Memory>
         [first, others @ ..] => {
             out.put("[")?;
             first.put(out)?;
-            put_others(out, others)?;
+            T::put_others(out, others)?;
             out.put("]")
         }
     }
@@ -110,6 +115,7 @@ pub fn put_items_in<T: WrittenIn>(out: &mut Text, level: &Id, items: &[T]) -> Re
 }
 
 /// Puts a member that is an array, behind a comma. Where memory is wanting, the text is empty.
+#[inline(always)]
 #[tactic(auto, unfolding(crate::specs::Trees::field_text))]
 pub fn put_array<T: Written>(out: &mut Text, name: &str, items: &[T]) -> Result<(), Memory>
     ensures ok { OnOk result (out.new
@@ -121,6 +127,7 @@ pub fn put_array<T: Written>(out: &mut Text, name: &str, items: &[T]) -> Result<
 }
 
 /// Puts a member that is an array of items of a level, behind a comma. Where memory is wanting, the text is empty.
+#[inline(always)]
 #[tactic(auto, unfolding(crate::specs::Trees::field_text))]
 pub fn put_array_in<T: WrittenIn>(
     out: &mut Text,

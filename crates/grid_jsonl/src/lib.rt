@@ -12,6 +12,7 @@ mod member;
 mod numbered;
 mod part;
 mod reply;
+mod scan;
 mod step;
 mod string;
 mod sum;

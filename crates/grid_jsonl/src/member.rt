@@ -1,40 +1,39 @@
-// The members of objects.
+// The members of objects. Their names are literals at nearly every call: where it is inlined, no name is looked through.
 ghost use Rattle.std.specs.Prelude.{◌≡◌, ◌++◌, ◌∷◌, OnOk, OnErr, [], true, false};
 ghost use Rattle.serde_json.specs.Data.{boolean, string};
 ghost use Rattle.serde_json.specs.Written.{compact_text};
 ghost use Rattle.grid_print.specs.Objects.{given, natural, whole};
 ghost use Rattle.grid_jsonl.specs.Trees.{field_text, more_text, name_text, sum_value};
 
-use crate::string::put_string;
+use crate::string::{put_escaped, put_string};
 use crate::sum::put_sum;
 use grid_ids::{Id, Memory};
 use grid_report::Text;
 
 /// Puts a comma and the name of a member. Where memory is wanting, the text is empty.
+#[inline(always)]
 #[tactic(auto, unfolding(crate::specs::Trees::name_text))]
 pub fn put_name(out: &mut Text, name: &str) -> Result<(), Memory>
     ensures ok { OnOk result (out.new ≡ out.old ++ name_text true name.now) }
     ensures err { OnErr result (out.new ≡ []) }
 {
-    out.put(",")?;
-    put_string(out, name)?;
-    out.put(":")
+    put_escaped(out, ",\"", name, "\":")
 }
 
 /// Opens an object with a text. Where memory is wanting, the text is empty.
+#[inline(always)]
 #[tactic(auto, unfolding(crate::specs::Trees::field_text, crate::specs::Trees::name_text))]
 pub fn open_with(out: &mut Text, name: &str, text: &str) -> Result<(), Memory>
     ensures ok { OnOk result (out.new
         ≡ out.old ++ 123 ∷ field_text false (name.now, string text.now)) }
     ensures err { OnErr result (out.new ≡ []) }
 {
-    out.put("{")?;
-    put_string(out, name)?;
-    out.put(":")?;
+    put_escaped(out, "{\"", name, "\":")?;
     put_string(out, text)
 }
 
 /// Opens an object with an id. Where memory is wanting, the text is empty.
+#[inline(always)]
 pub fn open_id(out: &mut Text, name: &str, id: &Id) -> Result<(), Memory>
     ensures ok { OnOk result (out.new ≡ out.old ++ 123 ∷ field_text false (name.now, string id.now)) }
     ensures err { OnErr result (out.new ≡ []) }
@@ -43,6 +42,7 @@ pub fn open_id(out: &mut Text, name: &str, id: &Id) -> Result<(), Memory>
 }
 
 /// Puts a member that is a text, behind a comma. Where memory is wanting, the text is empty.
+#[inline(always)]
 #[tactic(auto, unfolding(crate::specs::Trees::field_text))]
 pub fn put_text(out: &mut Text, name: &str, text: &str) -> Result<(), Memory>
     ensures ok { OnOk result (out.new ≡ out.old ++ field_text true (name.now, string text.now)) }
@@ -53,6 +53,7 @@ pub fn put_text(out: &mut Text, name: &str, text: &str) -> Result<(), Memory>
 }
 
 /// Puts a member that is an id, behind a comma. Where memory is wanting, the text is empty.
+#[inline(always)]
 pub fn put_id(out: &mut Text, name: &str, id: &Id) -> Result<(), Memory>
     ensures ok { OnOk result (out.new ≡ out.old ++ field_text true (name.now, string id.now)) }
     ensures err { OnErr result (out.new ≡ []) }
@@ -61,6 +62,7 @@ pub fn put_id(out: &mut Text, name: &str, id: &Id) -> Result<(), Memory>
 }
 
 /// Puts a member that is a number, behind a comma. Where memory is wanting, the text is empty.
+#[inline(always)]
 #[tactic(auto, unfolding(crate::specs::Trees::field_text))]
 pub fn put_number(out: &mut Text, name: &str, number: u64) -> Result<(), Memory>
     ensures ok { OnOk result (out.new ≡ out.old ++ field_text true (name.now, natural number)) }
@@ -79,6 +81,7 @@ pub(crate) fn put_whole_number(out: &mut Text, number: &i64) -> Result<(), Memor
 }
 
 /// Puts a member that is a number, which may be below 0, behind a comma. Where memory is wanting, the text is empty.
+#[inline(always)]
 #[tactic(auto, unfolding(crate::specs::Trees::field_text))]
 pub fn put_whole(out: &mut Text, name: &str, number: &i64) -> Result<(), Memory>
     ensures ok { OnOk result (out.new ≡ out.old ++ field_text true (name.now, whole number.now)) }
@@ -89,6 +92,7 @@ pub fn put_whole(out: &mut Text, name: &str, number: &i64) -> Result<(), Memory>
 }
 
 /// Puts a member that is a flag, behind a comma. Where memory is wanting, the text is empty.
+#[inline(always)]
 #[tactic(auto, unfolding(crate::specs::Trees::field_text))]
 pub fn put_flag(out: &mut Text, name: &str, flag: bool) -> Result<(), Memory>
     ensures ok { OnOk result (out.new ≡ out.old ++ field_text true (name.now, boolean flag)) }
@@ -114,6 +118,7 @@ pub fn put_given(out: &mut Text, name: &str, number: &Option<i64>) -> Result<(),
 }
 
 /// Puts a member that is a sum, behind a comma. Where memory is wanting, the text is empty.
+#[inline(always)]
 #[tactic(auto, unfolding(crate::specs::Trees::field_text))]
 pub fn put_sum_of(out: &mut Text, name: &str, sum: &i128) -> Result<(), Memory>
     ensures ok { OnOk result (out.new ≡ out.old ++ field_text true (name.now, sum_value sum.now)) }

@@ -32,9 +32,7 @@ pub fn put_bus_id(out: &mut Text, level: &Id, least: u32) -> Result<(), Memory>
     ensures ok { OnOk result (out.new ≡ out.old ++ quoted (bus_name level.now least)) }
     ensures err { OnErr result (out.new ≡ []) }
 {
-    out.put("\"")?;
-    put_escaped(out, level.text())?;
-    out.put("_")?;
+    put_escaped(out, "\"", level.text(), "_")?;
     out.put_unsigned(u64::from(least))?;
     out.put("\"")
 }
@@ -50,6 +48,7 @@ pub fn open_bus(out: &mut Text, level: &Id, least: u32) -> Result<(), Memory>
 }
 
 /// Puts a member that is the id of a bus, behind a comma. Where memory is wanting, the text is empty.
+#[inline(always)]
 #[tactic(auto, unfolding(crate::specs::Trees::field_text))]
 pub fn put_bus(out: &mut Text, name: &str, level: &Id, least: u32) -> Result<(), Memory>
     ensures ok { OnOk result (out.new

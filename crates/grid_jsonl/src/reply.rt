@@ -163,9 +163,7 @@ fn put_taken(out: &mut Text, terminal: &Terminal) -> Result<(), Memory>
         ≡ out.old ++ quoted (codes "node taken by " ++ terminal_text terminal.now)) }
     ensures err { OnErr result (out.new ≡ []) }
 {
-    out.put("\"node taken by ")?;
-    put_escaped(out, terminal.equipment.text())?;
-    out.put(".")?;
+    put_escaped(out, "\"node taken by ", terminal.equipment.text(), ".")?;
     out.put_unsigned(u64::from(terminal.side))?;
     out.put("\"")
 }

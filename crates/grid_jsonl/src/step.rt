@@ -14,7 +14,7 @@ ghost use Rattle.grid_jsonl.specs.Steps.{asked_fields, state_line, step_fields, 
 use crate::command::put_command;
 use crate::member::{open_with, put_id, put_name, put_number};
 use crate::reply::put_reply;
-use crate::string::put_string;
+use crate::string::put_escaped;
 use grid_core::{Entry, Reply, Request};
 use grid_ids::Memory;
 use grid_report::{Text, put_answer, put_command as put_words, put_named};
@@ -33,8 +33,7 @@ fn put_first_number(out: &mut Text, name: &str, number: u64) -> Result<(), Memor
     ensures ok { OnOk result (out.new ≡ out.old ++ field_text false (name.now, natural number)) }
     ensures err { OnErr result (out.new ≡ []) }
 {
-    put_string(out, name)?;
-    out.put(":")?;
+    put_escaped(out, "\"", name, "\":")?;
     out.put_unsigned(number)
 }
 

@@ -3,6 +3,7 @@ ghost use Rattle.std.specs.Prelude.{◌≡◌, ◌≤◌, ◌<◌, ◌++◌, OnO
 ghost use Rattle.std.specs.Char.{digit_char};
 ghost use Rattle.json.specs.Print.{escape, escape_byte, escape_letter, quoted};
 
+use crate::scan::all_plain;
 use grid_ids::Memory;
 use grid_report::Text;
 
@@ -56,8 +57,9 @@ fn is_plain(byte: u8) -> bool
     byte >= 32 && byte != b'"' && byte != b'\\'
 }
 
-/// Puts the bytes of a text as they stand between quotes.
-pub(crate) fn put_escaped(out: &mut Text, text: &str) -> Result<(), Memory>
+/// Puts the bytes of a text as they stand between quotes, where some have to be escaped.
+#[inline(never)]
+fn put_escapes(out: &mut Text, text: &str) -> Result<(), Memory>
     ensures ok { OnOk result (out.new ≡ out.old ++ escape text.now) }
     ensures err { OnErr result (out.new ≡ []) }
 {
@@ -74,13 +76,30 @@ pub(crate) fn put_escaped(out: &mut Text, text: &str) -> Result<(), Memory>
     out.put_bytes(&bytes[start..])
 }
 
+/// Puts a text as it stands between quotes, between two other texts. Where memory is wanting, the text is empty.
+#[inline(always)]
+pub(crate) fn put_escaped(
+    out: &mut Text,
+    before: &str,
+    text: &str,
+    behind: &str,
+) -> Result<(), Memory>
+    ensures ok { OnOk result (out.new ≡ out.old ++ (before.now ++ escape text.now ++ behind.now)) }
+    ensures err { OnErr result (out.new ≡ []) }
+{
+    if all_plain(text.as_bytes()) {
+        return out.put_between(before, text, behind);
+    }
+    out.put(before)?;
+    put_escapes(out, text)?;
+    out.put(behind)
+}
+
 /// Puts a text last, between quotes; a quote, a backslash and a byte below 32 in it are escaped. Where memory is
 /// wanting, the text is empty.
 pub fn put_string(out: &mut Text, text: &str) -> Result<(), Memory>
     ensures ok { OnOk result (out.new ≡ out.old ++ quoted text.now) }
     ensures err { OnErr result (out.new ≡ []) }
 {
-    out.put("\"")?;
-    put_escaped(out, text)?;
-    out.put("\"")
+    put_escaped(out, "\"", text, "\"")
 }

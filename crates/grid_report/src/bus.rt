@@ -69,7 +69,7 @@ pub(crate) fn put_bus(
     out.put("  bus ")?;
     put_bus_name(out, level, least)?;
     out.put(" |")?;
-    put_numbers(out, nodes)?;
+    put_numbers(out, b' ', nodes)?;
     out.put(" |")?;
     put_terminals(out, terminals)
 }

@@ -24,4 +24,4 @@ pub use plan::{put_order, put_variant, put_worker};
 pub use refusal::{put_reason, put_refusal, refusal_number};
 pub use reply::put_answer;
 pub use report::{Blocks, write_blocks, write_report, write_text};
-pub use text::{Shown, Text, put_named, put_spaced};
+pub use text::{Shown, Text, put_named, put_numbers, put_spaced};

@@ -66,6 +66,17 @@ impl Text {
         }
     }
 
+    /// Puts a text last, between two others.
+    #[inline(always)]
+    pub fn put_between(&mut self, before: &str, text: &str, behind: &str) -> Result<(), Memory>
+        ensures ok { OnOk result (self.new ≡ self.old ++ (before.now ++ text.now ++ behind.now)) }
+        ensures err { OnErr result (self.new ≡ []) }
+    {
+        self.put(before)?;
+        self.put(text)?;
+        self.put(behind)
+    }
+
     /// Puts a number last, in decimal digits without a leading zero.
     pub fn put_unsigned(&mut self, number: u64) -> Result<(), Memory>
         ensures ok { OnOk result (self.new ≡ self.old ++ decimal number) }
@@ -160,24 +171,26 @@ pub fn put_spaced<T: Shown>(out: &mut Text, items: &[T]) -> Result<(), Memory>
     Ok(())
 }
 
-/// Puts each number behind a space. Where memory is wanting, the text is empty.
-pub(crate) fn put_numbers(out: &mut Text, numbers: &[u16]) -> Result<(), Memory>
-    ensures ok { OnOk result (out.new ≡ out.old ++ flat_map (λ n. 32 ∷ decimal n) numbers.now) }
+/// Puts each number behind a separator. Where memory is wanting, the text is empty.
+pub fn put_numbers(out: &mut Text, separator: u8, numbers: &[u16]) -> Result<(), Memory>
+    ensures ok { OnOk result (out.new
+        ≡ out.old ++ flat_map (λ n. separator ∷ decimal n) numbers.now) }
     ensures err { OnErr result (out.new ≡ []) }
 {
     for few in numbers.chunks(16) {
-        put_few(out, few)?;
+        put_few(out, separator, few)?;
     }
     Ok(())
 }
 
-/// Puts each of at most 16 numbers behind a space. They are written from the last to the first, at most six bytes each, and put at once.
-fn put_few(out: &mut Text, few: &[u16]) -> Result<(), Memory>
+/// Puts each of at most 16 numbers behind a separator. They are written from the last to the first, at most six bytes
+/// each, and put at once.
+fn put_few(out: &mut Text, separator: u8, few: &[u16]) -> Result<(), Memory>
     requires { length few.now ≤ 16 }
-    ensures ok { OnOk result (out.new ≡ out.old ++ flat_map (λ n. 32 ∷ decimal n) few.now) }
+    ensures ok { OnOk result (out.new ≡ out.old ++ flat_map (λ n. separator ∷ decimal n) few.now) }
     ensures err { OnErr result (out.new ≡ []) }
 {
-    let mut bytes = [b' '; 96];
+    let mut bytes = [separator; 96];
     let mut start = bytes.len();
     for at in (0..few.len()).rev() {
         start = write_digits(u64::from(few[at]), &mut bytes, start) - 1;

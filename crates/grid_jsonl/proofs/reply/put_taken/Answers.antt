@@ -1,14 +1,12 @@
-use Rattle.std.proofs.Common.{append_assoc}
+use Rattle.std.proofs.Common.{◌∷◌, ◌++◌, ap}
+use Rattle.std.specs.Prelude.{codes, decimal}
+use Rattle.grid_report.specs.Lines.{terminal_text}
+use Rattle.grid_jsonl.proofs.Plain.{quoted_ends}
 use Rattle.grid_jsonl.proofs.Reasons.{taken_escaped}
 use Rattle.grid_jsonl.proofs.reply.put_taken.Goals as goal
 
 pub returns-clause-ok : goal.returns-clause-ok
 returns-clause-ok c =
-    let a = c.in_ok-put.ensures.ok in
-    let b = c.in_ok-put_escaped.ensures.ok in
-    let d = c.in_ok-put-2.ensures.ok in
-    let e = c.in_ok-put_unsigned.ensures.ok in
-    let f = c.put-3.ensures.ok in
-    let t = c.text.ensures.text in
-    let u = c.from.ensures in
-    rw (taken_escaped c.args.terminal.now) (simp append_assoc (simp (e, d, b, a, t, u, append_assoc) at f))
+    let terminal = c.args.terminal.now in
+    quoted_ends c.put.result (codes "\"node taken by ") terminal.equipment (codes ".") (decimal terminal.side) (codes "node taken by " ++ terminal_text terminal) c.args.out.now c.put_escaped.new.out c.put_unsigned.new.self c.put.new.self
+    (ap (λ l. 34 ∷ l) (taken_escaped terminal)) (rw (c.text.ensures.text) at c.in_ok-put_escaped.ensures.ok) (rw (c.from.ensures) at c.in_ok-put_unsigned.ensures.ok) c.put.ensures.ok

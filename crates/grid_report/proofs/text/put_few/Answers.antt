@@ -23,14 +23,14 @@ five : (n : ℕ) → n < 65536 → length (decimal n) ≤ 5
 five n small = length-decimal-le 5 n (omega arith) (omega arith) (omega arith)
 
 -- the numbers from a place on, by the number there
-from_place : (at : ℕ) (few : List ℕ) → 0 < at → at ≤ length few
-    → flat_map (λ n. 32 ∷ decimal n) (drop (at - 1) few) ≡ 32 ∷ (decimal (get_or few (at - 1) 0) ++ flat_map (λ n. 32 ∷ decimal n) (drop at few))
-from_place at few some within =
+from_place : (separator at : ℕ) (few : List ℕ) → 0 < at → at ≤ length few
+    → flat_map (λ n. separator ∷ decimal n) (drop (at - 1) few) ≡ separator ∷ (decimal (get_or few (at - 1) 0) ++ flat_map (λ n. separator ∷ decimal n) (drop at few))
+from_place separator at few some within =
     let again : suc (at - 1) ≡ at = omega arith in
     let number = get_or few (at - 1) 0 in
     let parts : drop (at - 1) few ≡ number ∷ drop at few =
     drop-cons few (at - 1) 0 (omega arith) ∙ ap (λ k. number ∷ drop k few) again in
-    rw (parts, flat_map-cons (λ n. 32 ∷ decimal n) number (drop at few))
+    rw (parts, flat_map-cons (λ n. separator ∷ decimal n) number (drop at few))
 
 pub write_digits-start-requires : goal.write_digits-start-requires
 write_digits-start-requires c = let long = five c.from.result (omega arith) in (omega arith, omega arith)
@@ -44,12 +44,12 @@ loop-at-preserved c =
     let w = c.write_digits-start in
     let long = five c.from.result (omega arith) in
     let some : 0 < w.result = omega arith in
-    let blank : take w.result w.new.buf ≡ take w.result (replicate 96 32) =
-    w.ensures.before ∙ shorter w.result l.start l.bytes (replicate 96 32) (omega arith) l.invariant.blank in
+    let blank : take w.result w.new.buf ≡ take w.result (replicate 96 c.args.separator) =
+    w.ensures.before ∙ shorter w.result l.start l.bytes (replicate 96 c.args.separator) (omega arith) l.invariant.blank in
     record {
       room = omega arith;
       within = omega arith;
-      blank = shorter (w.result - 1) w.result w.new.buf (replicate 96 32) (omega arith) blank;
-      written = rw (from_place l.at c.args.few.now c.loop-at-test.true l.auto.at, ← c.from.ensures, ← l.invariant.written)
-          (last_blank 32 96 w.result w.new.buf _ some (omega arith) blank w.ensures.written);
+      blank = shorter (w.result - 1) w.result w.new.buf (replicate 96 c.args.separator) (omega arith) blank;
+      written = rw (from_place c.args.separator l.at c.args.few.now c.loop-at-test.true l.auto.at, ← c.from.ensures, ← l.invariant.written)
+          (last_blank c.args.separator 96 w.result w.new.buf _ some (omega arith) blank w.ensures.written);
     }

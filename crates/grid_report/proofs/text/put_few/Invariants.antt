@@ -7,6 +7,6 @@ abbrev pub invariant-loop-at : goal.invariant-loop-at
 invariant-loop-at l = record {
   room : 6 * l.at ≤ l.start;
   within : l.start ≤ 96;
-  blank : take l.start l.bytes ≡ take l.start (replicate 96 32);
-  written : drop l.start l.bytes ≡ flat_map (λ n. 32 ∷ decimal n) (drop l.at l.few);
+  blank : take l.start l.bytes ≡ take l.start (replicate 96 l.separator);
+  written : drop l.start l.bytes ≡ flat_map (λ n. l.separator ∷ decimal n) (drop l.at l.few);
 }

@@ -9,5 +9,5 @@ invariant-loop-few l = record {
   can_next : goal.iterator-loop-few.can_next l.few-iterator;
   finite : goal.iterator-loop-few.is_finite l.few-iterator;
   size : chunks_size l.few-iterator ≡ 16;
-  text : l.out ++ flat_map (λ n. 32 ∷ decimal n) (chunks_rest l.few-iterator) ≡ l.fn.out ++ flat_map (λ n. 32 ∷ decimal n) l.fn.numbers;
+  text : l.out ++ flat_map (λ n. l.fn.separator ∷ decimal n) (chunks_rest l.few-iterator) ≡ l.fn.out ++ flat_map (λ n. l.fn.separator ∷ decimal n) l.fn.numbers;
 }

@@ -1,6 +1,6 @@
 use Rattle.std.proofs.Common.{◌≡◌, ◌≤◌, ◌++◌, take, drop}
 use Rattle.json.specs.Print.{escape}
-use Rattle.grid_jsonl.proofs.string.put_escaped.Given as goal
+use Rattle.grid_jsonl.proofs.string.put_escapes.Given as goal
 
 -- the bytes since the last escape stand as they are, and are still to be put
 abbrev pub invariant-loop-at : goal.invariant-loop-at
