@@ -15,12 +15,12 @@ use Rattle.grid_json.specs.declared.fault.Fault.{Fault}
 use Rattle.grid_json.specs.declared.fault.Reason.{Reason}
 use Rattle.grid_json.specs.declared.fault.Reason.TheVariants.{WrongKind, Schedule, TooManyWorkers}
 use Rattle.grid_json.specs.declared.format.Format.{Format}
-use Rattle.grid_json.specs.declared.format.Format.TheVariants.{One}
+use Rattle.grid_json.specs.declared.format.Format.TheVariants.{One, Two, Three, Four}
 use Rattle.grid_json.specs.declared.job.JobDraft.{JobDraft}
 use Rattle.grid_json.specs.declared.network.NetworkDraft.{NetworkDraft}
 use Rattle.grid_json.specs.declared.whole.Job.{Job}
 use Rattle.grid_json.specs.declared.whole.JobFault.{JobFault}
-use Rattle.grid_json.specs.Reading.{◌>>=◌, or_fault, here, under, items_at, array_at, present, member_at, member_or, present_or, optional_at, only_at, some_of, whole_at}
+use Rattle.grid_json.specs.Reading.{◌>>=◌, or_fault, here, under, items_at, array_at, present, member_at, member_or, present_or, optional_at, only_at, object_at, id_at, some_of, whole_at}
 use Rattle.grid_value.specs.Bytes.{reading}
 use Rattle.grid_value.specs.View.{items_len}
 use Rattle.grid_json.specs.Network.{network_at}
@@ -35,9 +35,13 @@ use Rattle.grid_hvdc.specs.declared.HvdcJob.{HvdcJob}
 use Rattle.grid_hvdc.specs.declared.HvdcLine.{HvdcLine}
 use Rattle.grid_hvdc.specs.Checks.{lines_check}
 use Rattle.grid_hvdc.specs.Jobs.{line_at, hvdc_at, hvdc_job_in, hvdc_job_of}
-use Rattle.grid_screen.specs.declared.Contingency.{Contingency}
-use Rattle.grid_screen.specs.declared.ScreenJob.{ScreenJob}
-use Rattle.grid_screen.specs.Jobs.{contingencies_at, screen_at, screen_job_in, screen_job_of}
+use Rattle.grid_contingencies.specs.declared.Contingency.{Contingency}
+use Rattle.grid_contingencies.specs.declared.Each.{Each}
+use Rattle.grid_contingencies.specs.declared.Told.{Told}
+use Rattle.grid_contingencies.specs.declared.Told.TheVariants as told
+use Rattle.grid_contingencies.specs.declared.ScreenJob.{ScreenJob}
+use Rattle.grid_contingencies.specs.Jobs as screening
+use Rattle.grid_contingencies.specs.Jobs.{contingencies_at, each_at, told_at, first_root_at, second_root_at, root_at, screen_at, screen_job_in, screen_job_of}
 use Rattle.grid_configured.specs.declared.network.ConfiguredJob.{ConfiguredJob}
 use Rattle.grid_configured.specs.Checks.{IsTranslatable}
 use Rattle.grid_configured.specs.Names.{IsConfiguredRequest}
@@ -287,26 +291,80 @@ pub hvdc_scheduled : (bytes : List ℕ) (hvdc : HvdcJob) → hvdc_job_of bytes �
 unfolding hvdc_job_of
 hvdc_scheduled bytes hvdc is = hvdc_of_data (reading bytes) hvdc is
 
--- ---- with contingencies
+-- ---- with contingencies, in the first format
 
-screen_made : Job → List Contingency → Result ScreenJob Fault
-screen_made job contingencies = Ok (record { job = job; contingencies = contingencies })
+first_made : Job → List Contingency → Result ScreenJob Fault
+first_made job contingencies = Ok (record { format = One; job = job; variant = None; contingencies = contingencies; each = []; only = told.All })
 
-screen_listed : Data → Job → Result ScreenJob Fault
-screen_listed d job = member_at contingencies_at (codes "contingencies") d >>= screen_made job
+first_listed : Data → Job → Result ScreenJob Fault
+first_listed d job = member_at (contingencies_at One) (codes "contingencies") d >>= first_made job
 
-screen_known : Data → ⊤ → Result ScreenJob Fault
-screen_known d done = member_at whole_job_at (codes "job") d >>= screen_listed d
+first_known : Data → ⊤ → Result ScreenJob Fault
+first_known d done = member_at whole_job_at (codes "job") d >>= first_listed d
 
-screen_read : (d : Data) (screened : ScreenJob) → screen_at d ≡ Ok screened → IsScheduled screened.job
-unfolding screen_at screen_known screen_listed screen_made
-screen_read d screened is =
-    let a = bound (only_at (codes "job" ∷ codes "contingencies" ∷ []) d) (screen_known d) screened is in
-    let b = bound (member_at whole_job_at (codes "job") d) (screen_listed d) screened a.2 in
-    let c = bound (member_at contingencies_at (codes "contingencies") d) (screen_made b.0) screened b.2 in
-    let made : ScreenJob = record { job = b.0; contingencies = c.0 } in
+first_read : (d : Data) (screened : ScreenJob) → first_root_at d ≡ Ok screened → IsScheduled screened.job
+unfolding first_root_at first_known first_listed first_made
+first_read d screened is =
+    let a = bound (only_at (codes "format" ∷ codes "job" ∷ codes "contingencies" ∷ []) d) (first_known d) screened is in
+    let b = bound (member_at whole_job_at (codes "job") d) (first_listed d) screened a.2 in
+    let c = bound (member_at (contingencies_at One) (codes "contingencies") d) (first_made b.0) screened b.2 in
+    let made : ScreenJob = record { format = One; job = b.0; variant = None; contingencies = c.0; each = []; only = told.All } in
     let same : made ≡ screened = cc in
     subst (λ (s : ScreenJob). IsScheduled s.job) same (member_scheduled (get (codes "job") d) b.0 b.1)
+
+-- ---- in the second
+
+second_made : Job → Option (List ℕ) → List Contingency → List Each → Told → Result ScreenJob Fault
+second_made job variant contingencies each only = Ok (record { format = Two; job = job; variant = variant; contingencies = contingencies; each = each; only = only })
+
+second_each : Data → Job → Option (List ℕ) → List Contingency → List Each → Result ScreenJob Fault
+second_each d job variant contingencies each = member_or told.All told_at (codes "only") d >>= second_made job variant contingencies each
+
+second_listed : Data → Job → Option (List ℕ) → List Contingency → Result ScreenJob Fault
+second_listed d job variant contingencies = member_or [] (each_at job.network (length contingencies)) (codes "each") d >>= second_each d job variant contingencies
+
+second_named : Data → Job → Option (List ℕ) → Result ScreenJob Fault
+second_named d job variant = member_at (contingencies_at Two) (codes "contingencies") d >>= second_listed d job variant
+
+second_job : Data → Job → Result ScreenJob Fault
+second_job d job = optional_at id_at (codes "variant") d >>= second_named d job
+
+second_known : Data → ⊤ → Result ScreenJob Fault
+second_known d done = member_at whole_job_at (codes "job") d >>= second_job d
+
+second_read : (d : Data) (screened : ScreenJob) → second_root_at d ≡ Ok screened → IsScheduled screened.job
+unfolding second_root_at second_known second_job second_named second_listed second_each second_made
+second_read d screened is =
+    let a = bound (only_at (codes "format" ∷ codes "job" ∷ codes "variant" ∷ codes "contingencies" ∷ codes "each" ∷ codes "only" ∷ []) d) (second_known d) screened is in
+    let b = bound (member_at whole_job_at (codes "job") d) (second_job d) screened a.2 in
+    let c = bound (optional_at id_at (codes "variant") d) (second_named d b.0) screened b.2 in
+    let e = bound (member_at (contingencies_at Two) (codes "contingencies") d) (second_listed d b.0 c.0) screened c.2 in
+    let f = bound (member_or [] (each_at b.0.network (length e.0)) (codes "each") d) (second_each d b.0 c.0 e.0) screened e.2 in
+    let g = bound (member_or told.All told_at (codes "only") d) (second_made b.0 c.0 e.0 f.0) screened f.2 in
+    let made : ScreenJob = record { format = Two; job = b.0; variant = c.0; contingencies = e.0; each = f.0; only = g.0 } in
+    let same : made ≡ screened = cc in
+    subst (λ (s : ScreenJob). IsScheduled s.job) same (member_scheduled (get (codes "job") d) b.0 b.1)
+
+-- ---- in either
+
+root_read : (format : Format) (d : Data) (screened : ScreenJob) → root_at format d ≡ Ok screened → IsScheduled screened.job
+root_read One d screened is = first_read d screened is
+root_read Two d screened is = second_read d screened is
+root_read Three d screened is = second_read d screened is
+root_read Four d screened is = second_read d screened is
+
+in_format : Data → Format → Result ScreenJob Fault
+in_format d format = root_at format d
+
+screen_known : Data → ⊤ → Result ScreenJob Fault
+screen_known d done = member_or One screening.format_at (codes "format") d >>= in_format d
+
+screen_read : (d : Data) (screened : ScreenJob) → screen_at d ≡ Ok screened → IsScheduled screened.job
+unfolding screen_at screen_known in_format
+screen_read d screened is =
+    let a = bound (object_at d) (screen_known d) screened is in
+    let b = bound (member_or One screening.format_at (codes "format") d) (in_format d) screened a.2 in
+    root_read b.0 d screened b.2
 
 screen_of_data : (data_read : Option Data) (screened : ScreenJob) → screen_job_in data_read ≡ Ok screened → IsScheduled screened.job
 screen_of_data None screened is = cc

@@ -12,7 +12,7 @@ use Rattle.grid_json.specs.declared.whole.JobFault.{JobFault}
 use Rattle.grid_json.specs.declared.whole.JobFault.TheVariants as jobs
 use Rattle.grid_json.specs.Whole.{job_of, JobGives}
 use Rattle.grid_hvdc.specs.declared.HvdcJob.{HvdcJob}
-use Rattle.grid_screen.specs.declared.ScreenJob.{ScreenJob}
+use Rattle.grid_contingencies.specs.declared.ScreenJob.{ScreenJob}
 use Rattle.grid_configured.specs.declared.network.ConfiguredJob.{ConfiguredJob}
 use Rattle.grid_forms.specs.declared.words.Layout.{Layout}
 use Rattle.grid_forms.specs.declared.words.Form.{Form}

@@ -4,6 +4,7 @@ pub mod Layouts
 pub mod Orders
 pub mod Trials
 pub mod Hvdc
+pub mod Findings
 pub mod Screen
 pub mod Configured
 pub mod Once

@@ -11,8 +11,8 @@ use Rattle.grid_json.specs.declared.whole.JobFault.TheVariants as jobs
 use Rattle.grid_json.specs.Whole.{job_of}
 use Rattle.grid_hvdc.specs.declared.HvdcJob.{HvdcJob}
 use Rattle.grid_hvdc.specs.Jobs.{hvdc_job_of}
-use Rattle.grid_screen.specs.declared.ScreenJob.{ScreenJob}
-use Rattle.grid_screen.specs.Jobs.{screen_job_of}
+use Rattle.grid_contingencies.specs.declared.ScreenJob.{ScreenJob}
+use Rattle.grid_contingencies.specs.Jobs.{screen_job_of}
 use Rattle.grid_configured.specs.declared.network.ConfiguredJob.{ConfiguredJob}
 use Rattle.grid_configured.specs.Jobs.{configured_job_of}
 use Rattle.grid_cli.specs.Hvdc.{hvdc_text}

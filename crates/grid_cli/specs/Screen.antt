@@ -1,116 +1,75 @@
 -- What the form `screen` writes.
-use Rattle.std.specs.Prelude.{◌≡◌, ℕ, List, [], ◌∷◌, ◌++◌, length, codes, map}
-use Rattle.std.specs.List.{flat_map, zip, enumerate_from}
+use Rattle.std.specs.Prelude.{ℕ, if◌then◌else◌, Option, Some, None, List, [], ◌∷◌, ◌++◌, unwrap_or}
 use Rattle.serde_json.specs.Data.{Data}
 use Rattle.grid_slots.specs.Names.{initial_state}
 use Rattle.grid_core.specs.declared.journal.Entry.{Entry}
-use Rattle.grid_core.specs.declared.case.Case.{Case}
-use Rattle.grid_core.specs.Cases.{case_seen}
-use Rattle.grid_core.specs.History.{History}
+use Rattle.grid_core.specs.History.{History, is_live}
 use Rattle.grid_core.specs.Solo.{State}
 use Rattle.grid_core.specs.Replies.{state_of}
 use Rattle.grid_core.specs.Journals.{journal_of}
-use Rattle.grid_print.specs.Objects.{natural}
-use Rattle.grid_print.specs.Job.{line_of}
-use Rattle.grid_jsonl.specs.Steps.{state_value, state_line}
-use Rattle.grid_jsonl.specs.Outcomes.{object_of_kind, lines}
+use Rattle.grid_jsonl.specs.Steps.{state_value}
+use Rattle.grid_jsonl.specs.Outcomes.{lines}
 use Rattle.grid_report.specs.Histories.{history_of}
-use Rattle.grid_json.specs.declared.whole.Job.{Job}
-use Rattle.grid_screen.specs.declared.Contingency.{Contingency}
-use Rattle.grid_screen.specs.declared.Finding.{Finding}
-use Rattle.grid_screen.specs.declared.ScreenJob.{ScreenJob}
-use Rattle.grid_screen.specs.Findings.{finding_of}
-use Rattle.grid_screen.specs.Texts.{screen_line}
-use Rattle.grid_screen.specs.Lines.{contingency_object}
+use Rattle.grid_contingencies.specs.declared.Contingency.{Contingency}
+use Rattle.grid_contingencies.specs.declared.ScreenJob.{ScreenJob}
+use Rattle.grid_contingencies.specs.declared.Told.{Told}
+use Rattle.grid_screen.specs.Bodies.{body_text, left_out, screened_list}
 use Rattle.grid_forms.specs.declared.words.Layout.{Layout}
 use Rattle.grid_cli.specs.Layouts.{in_layout}
 use Rattle.grid_cli.specs.Orders.{order_of}
-use Rattle.grid_cli.specs.declared.screen.Screened.{Screened}
-use Rattle.grid_cli.specs.declared.screen.Part.{Part}
-use Rattle.grid_cli.specs.declared.screen.Part.TheVariants as parts
+use Rattle.grid_cli.specs.Findings.{absent_object, absent_text, end_object, end_text, list_objects, told_count}
 
--- a contingency with what it does to a state
-unfoldable pub contingency_text : State → Contingency → List ℕ
-contingency_text state contingency = screen_line contingency (finding_of state contingency)
+-- the variant that a job names, or else the initial one
+abbrev pub variant_of : ScreenJob → List ℕ
+variant_of screen = unwrap_or screen.variant initial_state
 
--- each in order, and the end
-unfoldable pub findings_text : State → List Contingency → List ℕ
-findings_text state contingencies = flat_map (contingency_text state) contingencies ++ codes "end\n"
+-- the state that is screened: what a history leaves of the variant; none where no live variant has the name
+unfoldable pub state_after : History → List ℕ → Option State
+state_after history name = if is_live history.steps name then Some (state_of history.origin history.steps name) else None
 
--- the state of the initial variant after a history
-abbrev pub initial_after : History → State
-initial_after history = state_of history.origin history.steps initial_state
+-- ---- the text
 
--- what it stands at
-abbrev pub initial_case : History → Case
-initial_case history = case_seen (initial_after history)
+-- the lines of those listed and made contingencies that are told, and the last line
+unfoldable pub findings_text : ScreenJob → State → List ℕ
+findings_text screen state =
+    body_text screen.format screen.only state screen.contingencies screen.each ++ end_text screen.only (left_out screen.only state screen.contingencies screen.each)
+
+-- where there is no state to screen, that is told, and the last line counts nothing
+abbrev pub answer_text : ScreenJob → Option State → List ℕ
+answer_text screen (Some state) = findings_text screen state
+answer_text screen None = absent_text (variant_of screen) ++ end_text screen.only 0
 
 -- ---- the same as lines
 
--- of a contingency with its place
-unfoldable pub found_object : State → ℕ × Contingency → Data
-found_object state at = contingency_object at.0 at.1 (finding_of state at.1)
+-- the contingencies that are screened on a state, in order
+abbrev pub all_of : ScreenJob → State → List Contingency
+all_of screen state = screened_list state screen.contingencies screen.each
 
--- the last line
-unfoldable pub end_object : ℕ → Data
-end_object contingencies = object_of_kind (codes "end") ((codes "contingencies", natural contingencies) ∷ [])
+-- the objects of those that are told, at their places among all, and the last line
+unfoldable pub findings_objects : ScreenJob → State → List Data
+findings_objects screen state =
+    list_objects screen.format screen.only state 0 (all_of screen state)
+    ++ end_object screen.only (told_count screen.only state (all_of screen state)) (left_out screen.only state screen.contingencies screen.each) ∷ []
 
--- what is told of the steps, each contingency in order, and the end
-unfoldable pub findings_objects : History → List Contingency → List Data
-findings_objects history contingencies =
-    state_value (journal_of history.origin history.steps)
-    ∷ (map (found_object (initial_after history)) (enumerate_from 0 contingencies) ++ end_object (length contingencies) ∷ [])
+abbrev pub answer_objects : ScreenJob → Option State → List Data
+answer_objects screen (Some state) = findings_objects screen state
+answer_objects screen None = absent_object (variant_of screen) ∷ end_object screen.only 0 0 ∷ []
+
+-- what is told of the steps, and the answer
+unfoldable pub screened_objects : History → ScreenJob → List Data
+screened_objects history screen = state_value (journal_of history.origin history.steps) ∷ answer_objects screen (state_after history (variant_of screen))
 
 -- ---- in a layout
 
+-- what is written where no live variant has the name
+unfoldable pub absent_in : Layout → List Entry → List ℕ → Told → List ℕ
+absent_in layout journal name only =
+    in_layout layout (absent_text name ++ end_text only 0) (lines (state_value journal ∷ absent_object name ∷ end_object only 0 0 ∷ []))
+
 -- what is written after a history
-abbrev pub findings_in : Layout → History → List Contingency → List ℕ
-findings_in layout history contingencies =
-    in_layout layout (findings_text (initial_after history) contingencies) (lines (findings_objects history contingencies))
+abbrev pub screened_in : Layout → History → ScreenJob → List ℕ
+screened_in layout history screen = in_layout layout (answer_text screen (state_after history (variant_of screen))) (lines (screened_objects history screen))
 
--- a job's commands are run in its order, and the contingencies are looked at from what that leaves of the initial variant
+-- a job's commands are run in its order, and its contingencies are screened on what that leaves of its variant
 unfoldable pub screen_text : Layout → ScreenJob → List ℕ
-screen_text layout screen = findings_in layout (history_of screen.job.network screen.job.scripts (order_of screen.job)) screen.contingencies
-
--- what each contingency does once a job's commands are run in its order
-abbrev pub AreFound : Job → List Contingency → List Finding → Type 0
-AreFound job contingencies findings =
-    findings ≡ map (finding_of (initial_after (history_of job.network job.scripts (order_of job)))) contingencies
-
--- a job's journal, and what each contingency does
-pub record IsScreenedOf (job : Job) (contingencies : List Contingency) (screened : Screened) : Type 0 where
-  pub journal : screened.journal ≡ (let h = history_of job.network job.scripts (order_of job) in journal_of h.origin h.steps)
-  pub found : AreFound job contingencies screened.findings
-
--- ---- parts
-
-abbrev pub part_text : Part → List ℕ
-part_text (parts.Steps journal) = []
-part_text (parts.Found place contingency finding) = screen_line contingency.now finding.now
-part_text (parts.End contingencies) = codes "end\n"
-
-abbrev pub part_lines : Part → List ℕ
-part_lines (parts.Steps journal) = state_line journal.now
-part_lines (parts.Found place contingency finding) = line_of (contingency_object place contingency.now finding.now)
-part_lines (parts.End contingencies) = line_of (end_object contingencies)
-
--- the line of a contingency beside its finding
-abbrev pub pair_line : Contingency × Finding → List ℕ
-pair_line pair = screen_line pair.0 pair.1
-
-abbrev pub lines_of : List Contingency → List Finding → List ℕ
-lines_of contingencies findings = flat_map pair_line (zip contingencies findings)
-
--- its object, at a place
-abbrev pub pair_object : ℕ × (Contingency × Finding) → Data
-pair_object at = contingency_object at.0 at.1.0 at.1.1
-
--- what is told of the steps, of the contingencies beside their findings, and the end
-abbrev pub objects_of : List Entry → List Contingency → List Finding → List Data
-objects_of journal contingencies findings =
-    state_value journal ∷ (map pair_object (enumerate_from 0 (zip contingencies findings)) ++ end_object (length contingencies) ∷ [])
-
--- either in a layout
-abbrev pub found_text : Layout → List Entry → List Contingency → List Finding → List ℕ
-found_text layout journal contingencies findings =
-    in_layout layout (lines_of contingencies findings ++ codes "end\n") (lines (objects_of journal contingencies findings))
+screen_text layout screen = screened_in layout (history_of screen.job.network screen.job.scripts (order_of screen.job)) screen

@@ -7,7 +7,7 @@ use Rattle.grid_jsonl.specs.Steps.{warning_text}
 use Rattle.grid_json.specs.declared.whole.Job.{Job}
 use Rattle.grid_json.specs.declared.whole.JobFault.{JobFault}
 use Rattle.grid_hvdc.specs.Jobs.{hvdc_job_of}
-use Rattle.grid_screen.specs.Jobs.{screen_job_of}
+use Rattle.grid_contingencies.specs.Jobs.{screen_job_of}
 use Rattle.grid_forms.specs.declared.words.Form.{Form}
 use Rattle.grid_forms.specs.declared.words.Form.TheVariants.{Hvdc, Screen}
 use Rattle.grid_forms.specs.declared.status.Status.{Status}

@@ -82,7 +82,7 @@ fn put_named(out: &mut Text, world: &World, name: &Id, lines: &[HvdcLine]) -> Re
         world.allocator(),
         name,
         world.structure(),
-        world.opened_in(name),
+        world.states_in(name),
         lines,
     )
 }
@@ -107,7 +107,7 @@ fn put_named_lines(
         world.allocator(),
         name,
         world.structure(),
-        world.opened_in(name),
+        world.states_in(name),
         hvdc,
     )
 }
@@ -131,7 +131,7 @@ fn count_named(alloc: Global, world: &World, name: &Id) -> Result<u64, Memory>
     if !world.is_live(name) {
         return Ok(0);
     }
-    count_buses(alloc, world.structure(), world.opened_in(name))
+    count_buses(alloc, world.structure(), world.states_in(name))
 }
 
 /// How many buses all live variants have. They are counted for lines alone, whose last one tells it.

@@ -3,6 +3,7 @@
 
 mod configured;
 mod counts;
+mod findings;
 mod hvdc;
 mod layout;
 mod once;

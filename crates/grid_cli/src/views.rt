@@ -40,29 +40,29 @@ fn same_watts(placed: &[Placed], powers: &Powers, others: &Powers) -> bool
 /// What the views of a live variant are made of, beside the structure.
 #[derive(Clone, Copy)]
 struct Standing<'a> {
-    opened: &'a States,
+    states: &'a States,
     powers: &'a Powers,
 }
 
 /// The positions and the watts of a live variant.
 fn standing_of<'a>(world: &'a World, name: &Id) -> Standing<'a>
     requires { IsTrue (is_live world.now.steps name.now) }
-    ensures { IsStanding world.now name.now result.opened.now result.powers.now.listed }
+    ensures { IsStanding world.now name.now result.states.now.opened result.powers.now.listed }
 {
     Standing {
-        opened: world.opened_in(name),
+        states: world.states_in(name),
         powers: world.powers_in(name),
     }
 }
 
 /// Whether a level has the same positions and watts in two variants.
 fn is_alike(level: &Level, place: u32, one: Standing<'_>, other: Standing<'_>) -> bool
-    requires one { place < length one.opened.now }
-    requires other { place < length other.opened.now }
-    ensures { IsTrue result ↔ IsAlike one.entry.opened.now one.entry.powers.now.listed
-        other.entry.opened.now other.entry.powers.now.listed place level.now }
+    requires one { place < length one.states.now.opened }
+    requires other { place < length other.states.now.opened }
+    ensures { IsTrue result ↔ IsAlike one.entry.states.now.opened one.entry.powers.now.listed
+        other.entry.states.now.opened other.entry.powers.now.listed place level.now }
 {
-    same_items(one.opened.row(place), other.opened.row(place))
+    same_items(one.states.opened_row(place), other.states.opened_row(place))
         && same_watts(level.placed(), one.powers, other.powers)
 }
 
@@ -76,8 +76,8 @@ fn level_view(
     other: Standing<'_>,
     place: u32,
 ) -> Result<Shared<BusView>, Memory>
-    requires own { IsStanding world.now name.now own.opened.now own.powers.now.listed }
-    requires other { IsStanding world.now earlier.now.name other.opened.now
+    requires own { IsStanding world.now name.now own.states.now.opened own.powers.now.listed }
+    requires other { IsStanding world.now earlier.now.name other.states.now.opened
         other.powers.now.listed }
     requires shown { IsShown world.now earlier.now }
     requires place { place < length (levels (structure world.now.origin world.now.steps)) }

@@ -48,8 +48,8 @@ breakers_of switches = map (λ s. s.id) (filter is_operable switches)
 unfoldable pub transformers : Network → List NamedBranch
 transformers net = flat_map (λ s. s.transformers) net.substations
 
--- the ids of the pieces of a kind, in structure order: lines by list; transformers by substation, by list; what stands at
--- a node by place of level, in each by rising node; breakers by place of level, in each by place
+-- the ids of the pieces of a kind, in structure order: lines by list; transformers by substation, by list; what stands
+-- at a node by place of level, in each by rising node; breakers by place of level, in each by place
 unfoldable pub pieces_of : Network → Piece → List (List ℕ)
 pieces_of net pieces.Line = map (λ b. b.id) net.lines
 pieces_of net pieces.TwoWindings = branches_of pieces.TwoWindings (transformers net)

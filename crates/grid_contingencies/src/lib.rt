@@ -28,7 +28,7 @@ pub struct FaultCase {
 }
 
 /// A contingency by its name.
-#[derive(Debug, Drop)]
+#[derive(Clone, Debug, Drop)]
 pub struct Contingency {
     pub name: Id,
     pub event: FaultCase,
@@ -92,6 +92,10 @@ pub struct ScreenJob {
 }
 
 impl Duplicate for FaultCase {
+    ghost clone_equals = { Prim.search (rules, items_clone_equals) };
+}
+
+impl Duplicate for Contingency {
     ghost clone_equals = { Prim.search (rules, items_clone_equals) };
 }
 

@@ -1,10 +1,11 @@
 -- What is opened and removed when a fault is cleared, one after the other.
-use Rattle.std.proofs.Common.{◌≡◌, refl, sym, ap, ◌∙◌, subst, ℕ, zero, suc, ◌+◌, ◌<◌, ◌≤◌, Bool, true, false, cond, not, List, [], ◌∷◌, ◌++◌, map, length, get_or, take, arith, Some, None, Option, append_assoc, inl, inr}
-use Rattle.std.specs.Prelude.{slice_get, filter, fold, Box}
+use Rattle.std.proofs.Common.{◌≡◌, refl, sym, ap, ◌∙◌, subst, ℕ, suc, ◌+◌, ◌<◌, ◌≤◌, Bool, true, false, cond, not, List, [], ◌∷◌, ◌++◌, map, length, get_or, take, arith, Some, None, Option, append_assoc, inl, inr}
+use Rattle.std.specs.Prelude.{slice_get, filter, Box}
 use Rattle.std.specs.declared.alloc.Global.{Global}
 use Rattle.std.specs.List.{flat_map, enumerate_from, list_all}
 use Rattle.std.proofs.lemmas.Bool.{and_from}
 use Rattle.std.proofs.lemmas.List.{append-nil, take_all, take_more}
+use Rattle.std.proofs.lemmas.Option.{slice_get_past}
 use Rattle.std.proofs.lemmas.List.FromFn.{length-enumerate_from}
 use Rattle.std.proofs.lemmas.List.Sums.{fold-append}
 use Rattle.std.proofs.lemmas.Grind.{flat_map-append}
@@ -20,15 +21,14 @@ use Rattle.grid_level.specs.Kept.{among}
 use Rattle.grid_level.specs.Passing.{nodes, positioned}
 use Rattle.grid_level.specs.Sound.{level_passes}
 use Rattle.grid_states.specs.Rows.{row_at}
-use Rattle.grid_structure.specs.declared.Site.{Site}
 use Rattle.grid_structure.specs.declared.SwitchAt.{SwitchAt}
 use Rattle.grid_structure.specs.Network.{Network}
 use Rattle.grid_structure.specs.Sites.{levels, switch_spot}
 use Rattle.grid_core.specs.declared.case.Case.{Case}
 use Rattle.grid_core.specs.Solo.{State}
-use Rattle.grid_screen.specs.declared.faults.FaultCase.{FaultCase}
+use Rattle.grid_contingencies.specs.declared.FaultCase.{FaultCase}
 use Rattle.grid_screen.specs.declared.walk.Touched.{Touched}
-use Rattle.grid_screen.specs.Faults.{trips, spots_that, switch_ids, in_zone, equipment_in, zone_equipment, before_fault, zone_of, tripped_of, clearing_of, cleared_of, AreTripped, IsClearing}
+use Rattle.grid_screen.specs.Faults.{trips, spots_that, switch_ids, in_zone, equipment_in, zone_equipment, before_fault, tripped_of, clearing_of, cleared_of, IsClearing}
 use Rattle.grid_screen.specs.FaultLaws.{ClearedIsOutage}
 use Rattle.grid_screen.specs.Findings.{state_in}
 use Rattle.grid_screen.specs.Grounds.{Ground, IsGround}
@@ -72,6 +72,15 @@ item_at {X} xs i x lt at = got_or xs i x lt ∙ ap (λ (z : X). Some z) (sym at)
 pub switch_read : (net : Network) (at : SwitchAt) (l : VoltageLevel) (s : Switch) → slice_get (levels net) at.level ≡ Some l → slice_get l.switches at.place ≡ Some s → switch_ids net at ≡ s.id ∷ []
 unfolding switch_ids
 switch_read net at l s there is = rw (there, is) refl
+
+-- past the levels, or past the switches of a level, there is none
+pub level_missing : (net : Network) (at : SwitchAt) → length (levels net) ≤ at.level → switch_ids net at ≡ []
+unfolding switch_ids
+level_missing net at past = rw (slice_get_past (levels net) at.level past) refl
+
+pub switch_missing : (net : Network) (at : SwitchAt) (l : VoltageLevel) → slice_get (levels net) at.level ≡ Some l → length l.switches ≤ at.place → switch_ids net at ≡ []
+unfolding switch_ids
+switch_missing net at l there past = rw (there, slice_get_past l.switches at.place past) refl
 
 -- ---- the breakers that trip are switches
 

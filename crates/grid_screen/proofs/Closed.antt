@@ -1,4 +1,5 @@
--- Sets of numbers that have both ends of each pair or neither: what is joined to a number stands in those that it stands in.
+-- Sets of numbers that have both ends of each pair or neither: what is joined to a number stands in those that it
+-- stands in.
 use Rattle.std.proofs.Common.{◌≡◌, refl, sym, ap, ◌∙◌, subst, ℕ, zero, suc, Bool, true, List, [], ◌∷◌, inl, inr, ◌⊎◌}
 use Rattle.std.specs.List.{flat_map}
 use Rattle.std.proofs.lemmas.Bool.{eqb-true}

@@ -97,3 +97,10 @@ pub main_left : (watts : BusSums → ℤ) (numbers : List ℕ) (sums : List BusS
 main_left watts numbers sums i total lt long other e =
     let d : BusSums = record { load = pos 0; generation = pos 0 } in
     ap (λ t. cond t (total +ℤ watts (get_or sums i d)) total) (sym (ne_eqb (get_or numbers i 0) 0 other)) ∙ main_more watts numbers sums i d total lt long e
+
+-- ---- sums of all
+
+pub total_more : (watts : BusSums → ℤ) (sums : List BusSums) (i : ℕ) (d : BusSums) (total : ℤ) → i < length sums → total ≡ fold (λ t (s : BusSums). t +ℤ watts s) (pos 0) (take i sums)
+    → total +ℤ watts (get_or sums i d) ≡ fold (λ t (s : BusSums). t +ℤ watts s) (pos 0) (take (i + 1) sums)
+total_more watts sums i d total lt is =
+    ap (λ z. z +ℤ watts (get_or sums i d)) is ∙ sym (ap (fold (λ t (s : BusSums). t +ℤ watts s) (pos 0)) (take_more sums i d lt) ∙ fold-append (λ t (s : BusSums). t +ℤ watts s) (pos 0) (take i sums) (get_or sums i d ∷ []))

@@ -18,13 +18,14 @@ use Rattle.grid_structure.specs.Network.{Network}
 use Rattle.grid_structure.specs.Sites.{levels, branches, branch_ends, find_level}
 use Rattle.grid_structure.proofs.Places.{position_found}
 use Rattle.grid_structure.proofs.Found.{level_below}
+use Rattle.grid_busview.specs.declared.ViewBus.{ViewBus}
 use Rattle.grid_islands.specs.Islands.{NetworkBus, holds, bus_at, pair_between, pairs_among, branch_pairs, bus_pairs}
 use Rattle.grid_screen.specs.declared.Figures.{Figures}
 use Rattle.grid_screen.specs.declared.screening.BusSums.{BusSums}
 use Rattle.grid_screen.specs.declared.screening.Spot.{Spot}
 use Rattle.grid_screen.specs.declared.screening.Link.{Link}
-use Rattle.grid_screen.specs.Figures.{is_main, main_buses, sum_over, figures_over}
-use Rattle.grid_screen.specs.Screened.{bus_sums, add_main, is_zero, main_sum, figures_by, spot_at, spot_of, link_of, link_between, links_among, branch_links, network_links, LinksFit}
+use Rattle.grid_screen.specs.Figures.{is_main, main_buses, sum_over, total_over, figures_over}
+use Rattle.grid_screen.specs.Screened.{bus_sums, add_main, is_zero, main_sum, total_sum, figures_by, spot_at, spot_of, link_of, link_between, links_among, branch_links, network_links, LinksFit}
 
 -- ---- the buses of component 0
 
@@ -67,11 +68,21 @@ module _ (f : ℕ → ℕ) where
       by true again = again (total +ℤ watts (sums_at b))
       by false again = again total
 
-unfoldable pub build : ℕ → ℕ → ℕ → ℤ → ℤ → Figures
-build b n m l g = record { buses = b; components = n; main = m; load = l; generation = g }
+-- ---- all buses
+
+all_summed : (watts : BusSums → ℤ) (own : ViewBus → ℤ) → ((b : ViewBus) → watts (bus_sums b) ≡ own b) → (total : ℤ) (all : List NetworkBus)
+    → fold (λ total (s : BusSums). total +ℤ watts s) total (map (λ (b : NetworkBus). bus_sums b.1) all) ≡ fold (λ total (b : NetworkBus). total +ℤ own b.1) total all
+all_summed watts own same total [] = refl
+all_summed watts own same total (b ∷ all) =
+    all_summed watts own same (total +ℤ watts (bus_sums b.1)) all ∙ ap (λ z. fold (λ total (b : NetworkBus). total +ℤ own b.1) (total +ℤ z) all) (same b.1)
+
+-- ---- figures
+
+unfoldable pub build : ℕ → ℕ → ℕ → (ℤ × ℤ) → (ℤ × ℤ) → Figures
+build b n m own all = record { buses = b; components = n; main = m; load = own.0; generation = own.1; total_load = all.0; total_generation = all.1 }
 
 pub figured : (all : List NetworkBus) (pairs : List (ℕ × ℕ)) → figures_by (map (λ (b : NetworkBus). bus_sums b.1) all) pairs ≡ figures_over all pairs
-unfolding figures_by figures_over main_sum sum_over main_buses is_main component_numbers places build
+unfolding figures_by figures_over main_sum total_sum sum_over total_over main_buses is_main component_numbers places build
 figured all pairs =
     let sums = map (λ (b : NetworkBus). bus_sums b.1) all in
     let n = length all in
@@ -79,11 +90,16 @@ figured all pairs =
     let f = component_number n pairs in
     let main = filter (λ (bus : ℕ × NetworkBus). f bus.0 == 0) (enumerate_from 0 all) in
     let load = fold (λ total (bus : ℕ × NetworkBus). total +ℤ bus.1.1.load) (pos 0) main in
-    ap (λ z. build z (length (groups (range_with_len 0 z) pairs)) (count_by is_zero (map (component_number z pairs) (range_with_len 0 z))) (fold (add_main (λ s. s.load)) (pos 0) (zip (map (component_number z pairs) (range_with_len 0 z)) sums))
-    (fold (add_main (λ s. s.generation)) (pos 0) (zip (map (component_number z pairs) (range_with_len 0 z)) sums))) long
-    ∙ ap (λ z. build n (length (groups (range_with_len 0 n) pairs)) z (fold (add_main (λ s. s.load)) (pos 0) (zip (map f (range_with_len 0 n)) sums)) (fold (add_main (λ s. s.generation)) (pos 0) (zip (map f (range_with_len 0 n)) sums))) (main_counted f 0 all)
-    ∙ ap (λ z. build n (length (groups (range_with_len 0 n) pairs)) (length main) z (fold (add_main (λ s. s.generation)) (pos 0) (zip (map f (range_with_len 0 n)) sums))) (main_summed f (λ s. s.load) 0 (pos 0) all)
-    ∙ ap (λ z. build n (length (groups (range_with_len 0 n) pairs)) (length main) load z) (main_summed f (λ s. s.generation) 0 (pos 0) all)
+    let summed = λ (watts : BusSums → ℤ). fold (add_main watts) (pos 0) (zip (map f (range_with_len 0 n)) sums) in
+    let totals : ℤ × ℤ = (fold (λ total (s : BusSums). total +ℤ s.load) (pos 0) sums, fold (λ total (s : BusSums). total +ℤ s.generation) (pos 0) sums) in
+    let total_load = fold (λ total (b : NetworkBus). total +ℤ b.1.load) (pos 0) all in
+    ap (λ z. build z (length (groups (range_with_len 0 z) pairs)) (count_by is_zero (map (component_number z pairs) (range_with_len 0 z)))
+    (fold (add_main (λ s. s.load)) (pos 0) (zip (map (component_number z pairs) (range_with_len 0 z)) sums), fold (add_main (λ s. s.generation)) (pos 0) (zip (map (component_number z pairs) (range_with_len 0 z)) sums)) totals) long
+    ∙ ap (λ z. build n (length (groups (range_with_len 0 n) pairs)) z (summed (λ s. s.load), summed (λ s. s.generation)) totals) (main_counted f 0 all)
+    ∙ ap (λ z. build n (length (groups (range_with_len 0 n) pairs)) (length main) (z, summed (λ s. s.generation)) totals) (main_summed f (λ s. s.load) 0 (pos 0) all)
+    ∙ ap (λ z. build n (length (groups (range_with_len 0 n) pairs)) (length main) (load, z) totals) (main_summed f (λ s. s.generation) 0 (pos 0) all)
+    ∙ ap (λ z. build n (length (groups (range_with_len 0 n) pairs)) (length main) (load, fold (λ total (bus : ℕ × NetworkBus). total +ℤ bus.1.1.generation) (pos 0) main) (z, totals.1)) (all_summed (λ s. s.load) (λ b. b.load) (λ b. refl) (pos 0) all)
+    ∙ ap (λ z. build n (length (groups (range_with_len 0 n) pairs)) (length main) (load, fold (λ total (bus : ℕ × NetworkBus). total +ℤ bus.1.1.generation) (pos 0) main) (total_load, z)) (all_summed (λ s. s.generation) (λ b. b.generation) (λ b. refl) (pos 0) all)
 
 -- ---- the pairs are of buses
 

@@ -21,10 +21,10 @@ use Rattle.grid_screen.specs.declared.walk.Touched.{Touched}
 use Rattle.grid_screen.specs.declared.walk.Walk.{Walk}
 use Rattle.grid_screen.specs.Grounds.{Ground, IsGround, fault_flags}
 use Rattle.grid_screen.specs.Zones.{site_at, passing_fault}
-use Rattle.grid_screen.specs.Walks.{Touches, touched_at, label_in, hits_in, hits_by, hits, IsNode, IsTouched, IsTouchedBy, AreTouched, IsHitIn, is_end_at, ends_at, new_ends, HasEdges, HasSites, IsEnd, Grows}
+use Rattle.grid_screen.specs.Walks.{Touches, touched_at, label_in, hits_in, hits_by, hits, IsNode, IsTouched, IsTouchedBy, AreTouched, IsHitIn, is_end_in, ends_in, waiting, HasEdges, HasSites, IsEnd, Grows}
 use Rattle.grid_screen.proofs.Members.{Among, among_got, got_among, among_left, among_right, among_parts, among_map, map_among, among_filter, filter_among, any_among, any_found}
 use Rattle.grid_screen.proofs.Closed.{IsClosed}
-use Rattle.grid_screen.proofs.Grown.{hit_same, hit_more, hit_cases}
+use Rattle.grid_screen.proofs.Grown.{ends_as, hit_same, hit_more, hit_cases}
 use Rattle.grid_screen.proofs.Passed as passed
 
 -- ---- lists
@@ -59,6 +59,14 @@ node_there g s t h touched =
     let one : ◌≡◌ {A = Option VoltageLevel} (Some h.level) (Some t.level.now) = sym h.at ∙ touched.at in
     let level : h.level ≡ t.level.now = cc in
     subst (λ (z : VoltageLevel). among (nodes z) s.node ≡ true) level h.node
+
+-- the equipment of the branch ends that wait when a node is hit, by the terminals of the level before the fault
+unfoldable pub new_ends : Touched → List Placed → ℕ → List (List ℕ)
+new_ends t placed node = cond (hits_in t node) [] (ends_in t.level.now t.labels.items placed (label_in t node))
+
+pub waiting_is : (g : Ground) (k node : ℕ) (t : Touched) (touched : IsTouched g k t) → waiting t node ≡ new_ends t touched.present.placed node
+unfolding waiting new_ends
+waiting_is g k node t touched = ap (cond (hits_in t node) []) (touched.ends.each (label_in t node))
 
 -- ---- no site more
 
@@ -117,6 +125,9 @@ module _ (g : Ground) (old new : Walk) (s : Site) (t : Touched) (m : VoltageLeve
         keeps = subst KeepsLimits (sym is.level) touched.keeps;
         labels = is.labels ∙ touched.labels ∙ ap (λ (z : VoltageLevel). labels_where z (fault_flags g.stuck z.switches (row_at g.opened s.level))) (sym is.level);
         long = ap length is.hit ∙ length-set t.hit.items (label_in t s.node) true ∙ touched.long ∙ ap (λ (z : VoltageLevel). length (nodes z)) (sym is.level);
+        present = touched.present;
+        there = touched.there;
+        ends = ends_as t.level.now box.value.level.now t.labels.items box.value.labels.items touched.present.placed t.ends.items box.value.ends.items is.level is.labels is.ends touched.ends;
       }
 
       by : (u : Bool) → (k == s.level) ≡ u → IsTouchedBy g k (touched_at new.touched.items k)
@@ -162,14 +173,14 @@ module _ (g : Ground) (old new : Walk) (s : Site) (t : Touched) (m : VoltageLeve
           ]
       by false e = before q h (sym (stays q (unlike q.level s.level e)) ∙ hit)
 
-  fresh : hits_in t s.node ≡ false → (id : List ℕ) → Among id (ends_at t m.placed (label_in t s.node)) → has_id new.work id ≡ true
+  fresh : hits_in t s.node ≡ false → (id : List ℕ) → Among id (ends_in t.level.now t.labels.items m.placed (label_in t s.node)) → has_id new.work id ≡ true
   unfolding new_ends
   fresh e id i =
-      let ends : new_ends t m.placed s.node ≡ ends_at t m.placed (label_in t s.node) = rw e refl in
-      ap (λ z. has_id z id) (work ∙ ap (λ z. old.work ++ z) ends) ∙ has_join old.work (ends_at t m.placed (label_in t s.node)) id ∙ or_right (has_id old.work id) _ (had id (ends_at t m.placed (label_in t s.node)) i)
+      let ends : new_ends t m.placed s.node ≡ ends_in t.level.now t.labels.items m.placed (label_in t s.node) = rw e refl in
+      ap (λ z. has_id z id) (work ∙ ap (λ z. old.work ++ z) ends) ∙ has_join old.work (ends_in t.level.now t.labels.items m.placed (label_in t s.node)) id ∙ or_right (has_id old.work id) _ (had id (ends_in t.level.now t.labels.items m.placed (label_in t s.node)) i)
 
   ends : (q : Site) (p : Placed) → IsEnd g q p → hits new.touched.items q ≡ true → (hits old.touched.items q ≡ true) ⊎ (has_id new.work p.terminal.equipment ≡ true)
-  unfolding ends_at
+  unfolding ends_in
   ends q p end hit = by (q.level == s.level) refl
     where
       new_end : q.level ≡ s.level → label_in t q.node ≡ label_in t s.node → hits_in t s.node ≡ false → has_id new.work p.terminal.equipment ≡ true
@@ -178,7 +189,7 @@ module _ (g : Ground) (old new : Walk) (s : Site) (t : Touched) (m : VoltageLeve
           let level : end.level ≡ m = cc in
           let there = subst (λ (z : VoltageLevel). slice_get z.placed end.index ≡ Some p) level end.stands in
           let passes = and_from (is_branch_end p.stand) (label_in t p.node == label_in t s.node) end.ends (eq-eqb (label_in t p.node) (label_in t s.node) (ap (label_in t) end.node ∙ label)) in
-          fresh e p.terminal.equipment (among_map (λ (x : Placed). x.terminal.equipment) p (filter (is_end_at t (label_in t s.node)) m.placed) (among_filter (is_end_at t (label_in t s.node)) p m.placed (among_got m.placed end.index p there) passes))
+          fresh e p.terminal.equipment (among_map (λ (x : Placed). x.terminal.equipment) p (filter (is_end_in t.level.now t.labels.items (label_in t s.node)) m.placed) (among_filter (is_end_in t.level.now t.labels.items (label_in t s.node)) p m.placed (among_got m.placed end.index p there) passes))
 
       one_label : (u : Bool) → hits_in t s.node ≡ u → q.level ≡ s.level → label_in t q.node ≡ label_in t s.node → (hits old.touched.items q ≡ true) ⊎ (has_id new.work p.terminal.equipment ≡ true)
       one_label true e j label = inl (old_at q j ∙ ap (λ z. get_or t.hit.items z false) label ∙ e)
@@ -194,7 +205,7 @@ module _ (g : Ground) (old new : Walk) (s : Site) (t : Touched) (m : VoltageLeve
       by false e = inl (sym (stays q (unlike q.level s.level e)) ∙ hit)
 
   reasons : (id : List ℕ) → has_id new.work id ≡ true → (has_id old.work id ≡ true) ⊎ ((q : Site) × (p : Placed) × IsEnd g q p × (hits new.touched.items q ≡ true) × (p.terminal.equipment ≡ id))
-  unfolding new_ends ends_at
+  unfolding new_ends ends_in
   reasons id h =
       elim (or_cases (has_id old.work id) (has_id (new_ends t m.placed s.node) id) (sym (has_join old.work (new_ends t m.placed s.node) id) ∙ ap (λ z. has_id z id) (sym work) ∙ h)) [
         | inl was ↦ inl was
@@ -204,11 +215,11 @@ module _ (g : Ground) (old new : Walk) (s : Site) (t : Touched) (m : VoltageLeve
       Reason : Type 0
       Reason = (q : Site) × (p : Placed) × IsEnd g q p × (hits new.touched.items q ≡ true) × (p.terminal.equipment ≡ id)
 
-      by : (u : Bool) → Among id (cond u [] (map (λ (x : Placed). x.terminal.equipment) (filter (is_end_at t (label_in t s.node)) m.placed))) → Reason
+      by : (u : Bool) → Among id (cond u [] (map (λ (x : Placed). x.terminal.equipment) (filter (is_end_in t.level.now t.labels.items (label_in t s.node)) m.placed))) → Reason
       by true i = absurd i
       by false i =
-          let p = map_among (λ (x : Placed). x.terminal.equipment) id (filter (is_end_at t (label_in t s.node)) m.placed) i in
-          let passes = filter_among (is_end_at t (label_in t s.node)) p.0 m.placed p.1 in
+          let p = map_among (λ (x : Placed). x.terminal.equipment) id (filter (is_end_in t.level.now t.labels.items (label_in t s.node)) m.placed) i in
+          let passes = filter_among (is_end_in t.level.now t.labels.items (label_in t s.node)) p.0 m.placed p.1 in
           let parts = and_parts (is_branch_end p.0.stand) (label_in t p.0.node == label_in t s.node) passes.1 in
           let got = got_among p.0 m.placed passes.0 in
           let q : Site = site_at s.level p.0.node in

@@ -1,60 +1,74 @@
 -- What a walk has hit after one more site.
-use Rattle.std.proofs.Common.{◌≡◌, refl, sym, ap, ◌∙◌, subst, ℕ, zero, suc, ◌+◌, ◌<◌, ◌≢◌, Bool, true, false, cond, not, List, [], ◌∷◌, ◌++◌, take, map, length, get_or, inl, inr, ◌⊎◌, Some, Option, append_assoc, get_or-set_same, get_or-set_other}
-use Rattle.std.specs.Prelude.{filter, slice_get, slice_set, ◌==◌, IsTrue}
+use Rattle.std.proofs.Common.{◌≡◌, refl, sym, ap, ◌∙◌, subst, ℕ, zero, suc, ◌+◌, ◌<◌, ◌≢◌, Bool, true, false, cond, not, List, [], ◌∷◌, ◌++◌, take, length, get_or, inl, inr, ◌⊎◌, Some, Option, get_or-set_same, get_or-set_other}
+use Rattle.std.specs.Prelude.{filter, slice_get, slice_set, ◌==◌, ◌&&◌, IsTrue}
 use Rattle.std.specs.List.{list_all}
 use Rattle.std.proofs.lemmas.Bool.{and_parts, and_from, eqb-true, eq-eqb, true≢false, false≢true}
 use Rattle.grid_ids.specs.Name.{has_id}
 use Rattle.grid_lemmas.proofs.Lists.{map_got}
 use Rattle.grid_groups.proofs.Steps.{all_at, passed_next, skipped_next}
-use Rattle.std.proofs.lemmas.List.{append-nil}
+use Rattle.std.proofs.lemmas.List.{length-set}
 use Rattle.grid_level.specs.declared.Placed.{Placed}
 use Rattle.grid_level.specs.VoltageLevel.{VoltageLevel}
 use Rattle.grid_level.specs.Kept.{KeepsLimits, among}
-use Rattle.grid_level.specs.Passing.{nodes}
+use Rattle.grid_level.specs.Passing.{nodes, is_branch_end}
 use Rattle.grid_groups.specs.Labels.{label_of, labels_where}
 use Rattle.grid_states.specs.Rows.{row_at}
 use Rattle.grid_structure.specs.Sites.{levels}
 use Rattle.grid_screen.specs.declared.walk.Touched.{Touched}
 use Rattle.grid_screen.specs.Grounds.{Ground, IsGround, fault_flags}
 use Rattle.grid_screen.specs.Screened.{level_without}
-use Rattle.grid_screen.specs.Walks.{label_in, hits_in, IsTouched, IsUntouched, CanHit, IsHitIn, is_end_at, ends_at}
+use Rattle.grid_screen.specs.Walks.{label_by, label_in, hits_in, is_end_in, ends_in, AreEnds, CanList, IsTouched, IsUntouched, CanHit, IsHitIn}
 use Rattle.grid_screen.proofs.Passed as passed
-
--- ---- a level that was looked at
-
-pub looked : (g : Ground) (place : ℕ) (l : VoltageLevel) (labels : List ℕ) (t : Touched) → slice_get (levels g.net) place ≡ Some l → KeepsLimits l
-    → labels ≡ labels_where l (fault_flags g.stuck l.switches (row_at g.opened place)) → IsUntouched l labels t → IsTouched g place t
-looked g place l labels t at keeps e u =
-    let long = passed.long l (fault_flags g.stuck l.switches (row_at g.opened place)) labels keeps e in
-    record {
-      at = at ∙ ap (λ z. Some z) (sym u.level_is);
-      keeps = subst KeepsLimits (sym u.level_is) keeps;
-      labels = u.labels_are ∙ e ∙ ap (λ (z : VoltageLevel). labels_where z (fault_flags g.stuck z.switches (row_at g.opened place))) (sym u.level_is);
-      long = u.long ∙ long ∙ ap (λ (z : VoltageLevel). length (nodes z)) (sym u.level_is);
-    }
 
 -- ---- the ends of branches
 
-pub no_ends : (t : Touched) (label : ℕ) (work : List (List ℕ)) → work ≡ work ++ ends_at t [] label
-unfolding ends_at
-no_ends t label work = sym (append-nil work)
+pub ends_as : (l k : VoltageLevel) (labels names : List ℕ) (placed : List Placed) (ends lists : List (List (List ℕ))) → k ≡ l → names ≡ labels → lists ≡ ends → AreEnds l labels placed ends → AreEnds k names placed lists
+ends_as l k labels names placed ends lists d e f h =
+    subst (λ (z : VoltageLevel). AreEnds z names placed lists) (sym d) (subst (λ (z : List ℕ). AreEnds l z placed lists) (sym e) (subst (λ (z : List (List (List ℕ))). AreEnds l labels placed z) (sym f) h))
 
-pub ends_more : (t : Touched) (label : ℕ) (ps : List Placed) (i : ℕ) (p : Placed) (start old now : List (List ℕ)) → i < length ps → p ≡ get_or ps i p → is_end_at t label p ≡ true
-    → old ≡ start ++ ends_at t (take i ps) label → now ≡ old ++ p.terminal.equipment ∷ [] → now ≡ start ++ ends_at t (take (i + 1) ps) label
-unfolding ends_at
-ends_more t label ps i p start old now lt at e was is =
-    is ∙ ap (λ z. z ++ p.terminal.equipment ∷ []) was ∙ append_assoc start (map (λ (q : Placed). q.terminal.equipment) (filter (is_end_at t label) (take i ps))) (p.terminal.equipment ∷ [])
-    ∙ ap (λ z. start ++ z) (passed_next (λ (q : Placed). q.terminal.equipment) (is_end_at t label) ps i p (map (λ (q : Placed). q.terminal.equipment) (filter (is_end_at t label) (take i ps))) p.terminal.equipment lt at e refl refl)
+-- none of no terminals
+pub no_ends : (l : VoltageLevel) (labels : List ℕ) (ends : List (List (List ℕ))) → length ends ≡ length labels → ((k : ℕ) → get_or ends k [] ≡ []) → AreEnds l labels [] ends
+unfolding ends_in
+no_ends l labels ends long none = record { long = long; each = none }
 
-pub ends_skipped : (t : Touched) (label : ℕ) (ps : List Placed) (i : ℕ) (p : Placed) (start now : List (List ℕ)) → i < length ps → p ≡ get_or ps i p → is_end_at t label p ≡ false
-    → now ≡ start ++ ends_at t (take i ps) label → now ≡ start ++ ends_at t (take (i + 1) ps) label
-unfolding ends_at
-ends_skipped t label ps i p start now lt at e was = was ∙ ap (λ z. start ++ z) (skipped_next (λ (q : Placed). q.terminal.equipment) (is_end_at t label) ps i p (map (λ (q : Placed). q.terminal.equipment) (filter (is_end_at t label) (take i ps))) lt at e refl)
+module _ (l : VoltageLevel) (labels : List ℕ) (ps : List Placed) (i : ℕ) (p : Placed) (ends : List (List (List ℕ))) (lt : i < length ps) (at : p ≡ get_or ps i p) (was : AreEnds l labels (take i ps) ends) where
+  at_label : ℕ
+  at_label = label_by l labels p.node
+
+  skips : (label : ℕ) → is_end_in l labels label p ≡ false → get_or ends label [] ≡ ends_in l labels (take (i + 1) ps) label
+  unfolding ends_in
+  skips label e = skipped_next (λ (q : Placed). q.terminal.equipment) (is_end_in l labels label) ps i p (get_or ends label []) lt at e (was.each label)
+
+  -- a terminal of no branch
+  pub ends_skipped : is_branch_end p.stand ≡ false → AreEnds l labels (take (i + 1) ps) ends
+  ends_skipped e = record { long = was.long; each = λ label. skips label (ap (λ z. z && (label_by l labels p.node == label)) e) }
+
+  -- a branch end is put last in the list of its label
+  pub ends_more : (new : List (List (List ℕ))) → is_branch_end p.stand ≡ true → label_by l labels p.node < length ends
+      → new ≡ slice_set ends (label_by l labels p.node) (get_or ends (label_by l labels p.node) [] ++ p.terminal.equipment ∷ []) → AreEnds l labels (take (i + 1) ps) new
+  unfolding ends_in at_label
+  ends_more new e below is = record { long = ap length is ∙ length-set ends at_label _ ∙ was.long; each = λ label. by label (label_by l labels p.node == label) refl }
+    where
+      nor : (u : Bool) → (u && false) ≡ false
+      nor true = refl
+      nor false = refl
+
+      own : (label : ℕ) → label_by l labels p.node ≡ label → get_or new label [] ≡ ends_in l labels (take (i + 1) ps) label
+      own label same =
+          ap (λ z. get_or z label []) is ∙ ap (λ z. get_or (slice_set ends at_label (get_or ends at_label [] ++ p.terminal.equipment ∷ [])) z []) (sym same) ∙ get_or-set_same ends at_label (get_or ends at_label [] ++ p.terminal.equipment ∷ []) [] below
+          ∙ ap (λ z. get_or ends z [] ++ p.terminal.equipment ∷ []) same
+          ∙ passed_next (λ (q : Placed). q.terminal.equipment) (is_end_in l labels label) ps i p (get_or ends label []) p.terminal.equipment lt at (and_from (is_branch_end p.stand) (label_by l labels p.node == label) e (eq-eqb (label_by l labels p.node) label same)) (was.each label) refl
+
+      by : (label : ℕ) (u : Bool) → (label_by l labels p.node == label) ≡ u → get_or new label [] ≡ ends_in l labels (take (i + 1) ps) label
+      by label true q = own label (eqb-true (label_by l labels p.node) label q)
+      by label false q =
+          let ne : label ≢ at_label = λ f. true≢false (sym (eq-eqb (label_by l labels p.node) label (sym f)) ∙ q) in
+          ap (λ z. get_or z label []) is ∙ get_or-set_other ends at_label label (get_or ends at_label [] ++ p.terminal.equipment ∷ []) [] ne ∙ skips label (ap (λ z. is_branch_end p.stand && z) q ∙ nor (is_branch_end p.stand))
 
 pub placed_among_at : (ns : List ℕ) (ps : List Placed) (i : ℕ) (p : Placed) → IsTrue (list_all (λ (q : Placed). among ns q.node) ps) → i < length ps → p ≡ get_or ps i p → IsTrue (among ns p.node)
 placed_among_at ns ps i p all lt at = all_at (λ (q : Placed). among ns q.node) ps i p all lt at
 
--- ---- one label is hit
+-- ---- the terminals before the fault
 
 fewer : {X : Type 0} (p q : X → Bool) (xs : List X) → list_all p xs ≡ true → list_all p (filter q xs) ≡ true
 fewer p q [] h = refl
@@ -73,21 +87,44 @@ present_is g b k l m at now =
     let one : ◌≡◌ {A = Option VoltageLevel} (Some m) (Some (level_without b.removed l)) = sym now ∙ ap (λ (z : List VoltageLevel). slice_get z k) b.left ∙ there in
     cc
 
-pub can_hit : (g : Ground) (k node : ℕ) (t : Touched) (m : VoltageLevel) → IsGround g → IsTouched g k t → slice_get g.present k ≡ Some m → IsTrue (among (nodes t.level.now) node) → CanHit t node m.placed
+-- the terminals of a level before the fault are listed by the labels of its nodes
+pub can_list : (g : Ground) (k : ℕ) (l m : VoltageLevel) (labels : List ℕ) → IsGround g → slice_get (levels g.net) k ≡ Some l → KeepsLimits l → slice_get g.present k ≡ Some m
+    → labels ≡ labels_where l (fault_flags g.stuck l.switches (row_at g.opened k)) → CanList l labels m.placed
 unfolding level_without
-can_hit g k node t m b h now i =
+can_list g k l m labels b at keeps now e =
+    let flags = fault_flags g.stuck l.switches (row_at g.opened k) in
+    let ns = nodes l in
+    let left = ap (λ (z : VoltageLevel). z.placed) (present_is g b k l m at now) in
+    record {
+      there = subst (λ (z : List Placed). list_all (λ (p : Placed). among ns p.node) z ≡ true) (sym left) (fewer (λ (p : Placed). among ns p.node) (λ (p : Placed). not (has_id b.removed p.terminal.equipment)) l.placed keeps.placed_are_nodes);
+      long = passed.long l flags labels keeps e;
+      below = λ node i. passed.below l flags labels keeps e node i;
+    }
+
+-- ---- a level that was looked at
+
+pub looked : (g : Ground) (place : ℕ) (l m : VoltageLevel) (labels : List ℕ) (ends : List (List (List ℕ))) (t : Touched) → slice_get (levels g.net) place ≡ Some l → slice_get g.present place ≡ Some m → KeepsLimits l
+    → labels ≡ labels_where l (fault_flags g.stuck l.switches (row_at g.opened place)) → AreEnds l labels m.placed ends → IsUntouched l labels ends t → IsTouched g place t
+looked g place l m labels ends t at now keeps e listed u =
+    let long = passed.long l (fault_flags g.stuck l.switches (row_at g.opened place)) labels keeps e in
+    record {
+      at = at ∙ ap (λ z. Some z) (sym u.level_is);
+      keeps = subst KeepsLimits (sym u.level_is) keeps;
+      labels = u.labels_are ∙ e ∙ ap (λ (z : VoltageLevel). labels_where z (fault_flags g.stuck z.switches (row_at g.opened place))) (sym u.level_is);
+      long = u.long ∙ long ∙ ap (λ (z : VoltageLevel). length (nodes z)) (sym u.level_is);
+      present = m;
+      there = now;
+      ends = ends_as l t.level.now labels t.labels.items m.placed ends t.ends.items u.level_is u.labels_are u.ends_are listed;
+    }
+
+-- ---- one label is hit
+
+pub can_hit : (g : Ground) (k node : ℕ) (t : Touched) → IsTouched g k t → IsTrue (among (nodes t.level.now) node) → CanHit t node
+can_hit g k node t h i =
     let l = t.level.now in
     let flags = fault_flags g.stuck l.switches (row_at g.opened k) in
     let long = passed.long l flags t.labels.items h.keeps h.labels in
-    let ns = nodes l in
-    let left = ap (λ (z : VoltageLevel). z.placed) (present_is g b k l m h.at now) in
-    record {
-      here = i;
-      there = subst (λ (z : List Placed). list_all (λ (p : Placed). among ns p.node) z ≡ true) (sym left) (fewer (λ (p : Placed). among ns p.node) (λ (p : Placed). not (has_id b.removed p.terminal.equipment)) l.placed h.keeps.placed_are_nodes);
-      long = long;
-      hit = h.long ∙ sym long;
-      below = passed.below l flags t.labels.items h.keeps h.labels node i;
-    }
+    record { here = i; long = long; hit = h.long ∙ sym long; ends = h.ends.long; below = passed.below l flags t.labels.items h.keeps h.labels node i }
 
 module _ (old : Touched) (node : ℕ) (new : Touched) (is : IsHitIn old node new) (below : label_in old node < length old.hit.items) where
   label_stays : (n : ℕ) → label_in new n ≡ label_in old n
@@ -120,7 +157,7 @@ module _ (old : Touched) (node : ℕ) (new : Touched) (is : IsHitIn old node new
       by false e = inr (sym (other n (differs n e)) ∙ h)
 
 pub was_hit : (t : Touched) (node : ℕ) → hits_in t node ≡ true → IsHitIn t node t
-was_hit t node h = record { level = refl; labels = refl; hit = sym (set_true t.hit.items (label_in t node) h) }
+was_hit t node h = record { level = refl; labels = refl; ends = refl; hit = sym (set_true t.hit.items (label_in t node) h) }
   where
     set_true : (row : List Bool) (p : ℕ) → get_or row p false ≡ true → slice_set row p true ≡ row
     set_true [] p h = absurd (false≢true h)

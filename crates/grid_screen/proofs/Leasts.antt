@@ -14,7 +14,7 @@ use Rattle.grid_level.specs.Passing.{switch_edge, internal_edge, ends, is_operab
 use Rattle.grid_states.specs.Rows.{row_at, with_row, with_flag}
 use Rattle.grid_structure.specs.declared.Site.{Site}
 use Rattle.grid_structure.specs.Soundness.{IsSound}
-use Rattle.grid_screen.specs.declared.faults.FaultCase.{FaultCase}
+use Rattle.grid_contingencies.specs.declared.FaultCase.{FaultCase}
 use Rattle.grid_structure.specs.Network.{Network}
 use Rattle.grid_structure.specs.Sites.{levels, branches, find_switch}
 use Rattle.grid_screen.specs.FaultLaws.{ZoneIsLeast, FailureSpreads}
@@ -52,12 +52,12 @@ out_rows : (rows : List (List Bool)) (at : Option (ℕ × ℕ)) → length (rows
 out_rows rows (Some at) = flag_rows rows at.0 at.1 true
 out_rows rows None = refl
 
-after_row : (net : Network) (ids : List (List ℕ)) (rows : List (List Bool)) (j : ℕ) → length (row_at (fold (rows_with_out net) rows ids) j) ≡ length (row_at rows j)
+pub after_row : (net : Network) (ids : List (List ℕ)) (rows : List (List Bool)) (j : ℕ) → length (row_at (fold (rows_with_out net) rows ids) j) ≡ length (row_at rows j)
 unfolding rows_with_out
 after_row net [] rows j = refl
 after_row net (id ∷ ids) rows j = after_row net ids (rows_by (find_switch net id) rows) j ∙ out_row rows (find_switch net id) j
 
-after_rows : (net : Network) (ids : List (List ℕ)) (rows : List (List Bool)) → length (fold (rows_with_out net) rows ids) ≡ length rows
+pub after_rows : (net : Network) (ids : List (List ℕ)) (rows : List (List Bool)) → length (fold (rows_with_out net) rows ids) ≡ length rows
 unfolding rows_with_out
 after_rows net [] rows = refl
 after_rows net (id ∷ ids) rows = after_rows net ids (rows_by (find_switch net id) rows) ∙ out_rows rows (find_switch net id)
@@ -97,10 +97,10 @@ module _ (few many : List (List ℕ)) (more : (q : List ℕ) → has_id few q �
 
 -- ---- the state before the fault
 
-abbrev ground_of : Case → FaultCase → List (List Bool) → List (List ℕ) → Ground
+abbrev pub ground_of : Case → FaultCase → List (List Bool) → List (List ℕ) → Ground
 ground_of case fault retained stuck = ground case.structure (levels (before_fault (state_in case retained) fault).structure) (before_fault (state_in case retained) fault).opened stuck
 
-grounded : (case : Case) (fault : FaultCase) (retained : List (List Bool)) (stuck : List (List ℕ)) → IsSound case.structure → CaseFits case
+pub grounded : (case : Case) (fault : FaultCase) (retained : List (List Bool)) (stuck : List (List ℕ)) → IsSound case.structure → CaseFits case
     → (b : IsGround (ground_of case fault retained stuck)) × IsPast (ground_of case fault retained stuck) b (before_fault (state_in case retained) fault).structure stuck
 unfolding before_fault rows_after
 grounded case fault retained stuck sound fits =
@@ -110,8 +110,8 @@ grounded case fault retained stuck sound fits =
       sound = sound;
       removed = o.removed;
       left = o.out.levels_left;
-      rows = ap length (sym o.rows_are) ∙ after_rows net fault.out case.states ∙ rows_of_levels net case.states fits;
-      flags = λ k l there. ap (λ z. length (row_at z k)) (sym o.rows_are) ∙ after_row net fault.out case.states k ∙ flags_fit net case.states fits k l there;
+      rows = ap length (sym o.rows_are) ∙ after_rows net fault.out case.states.opened ∙ rows_of_levels net case.states.opened fits;
+      flags = λ k l there. ap (λ z. length (row_at z k)) (sym o.rows_are) ∙ after_row net fault.out case.states.opened k ∙ flags_fit net case.states.opened fits k l there;
     } in
     (b, record { sound = o.out.sound; levels_are = refl; branches_are = o.out.branches_left; known = λ q. refl })
 

@@ -2,9 +2,11 @@ pub mod Again
 pub mod Buses
 pub mod Cases
 pub mod Changing
+pub mod Cleared
 pub mod Clearings
 pub mod Closed
 pub mod Counted
+pub mod Cutting
 pub mod Ended
 pub mod Figured
 pub mod Grouped
@@ -12,12 +14,14 @@ pub mod Growing
 pub mod Grown
 pub mod Hitting
 pub mod Leasts
+pub mod Lessened
 pub mod Likeness
 pub mod Linked
 pub mod Listed
 pub mod Members
 pub mod Outcomes
 pub mod Outed
+pub mod Owned
 pub mod Passed
 pub mod Removed
 pub mod Running

@@ -1,5 +1,5 @@
 -- What stands in a list, and in lists that are made of it.
-use Rattle.std.proofs.Common.{◌≡◌, refl, sym, ap, ◌∙◌, subst, ℕ, zero, suc, ◌+◌, Bool, true, false, cond, List, [], ◌∷◌, ◌++◌, map, inl, inr, ◌⊎◌, arith, get_or, Option, Some, None}
+use Rattle.std.proofs.Common.{◌≡◌, refl, sym, ap, ◌∙◌, subst, ℕ, zero, suc, ◌+◌, Bool, true, false, cond, List, [], ◌∷◌, ◌++◌, map, inl, inr, ◌⊎◌, arith, get_or, Some}
 use Rattle.std.specs.Prelude.{filter, slice_get}
 use Rattle.std.specs.List.{list_any, flat_map, enumerate_from}
 use Rattle.std.proofs.lemmas.Bool.{or_cases, or_left, or_right, false≢true}
@@ -106,8 +106,8 @@ module _ {X Y : Type 0} (f : X → List Y) where
     | inr h ↦ (let r = flat_among y xs h in (r.0, inr r.1, r.2))
   ]
 
-pub one_none : {X : Type 0} (xs : List (Option X)) (k : ℕ) → ((j : ℕ) → get_or xs j None ≡ None) → get_or (xs ++ None ∷ []) k None ≡ None
-one_none [] zero h = refl
-one_none [] (suc k) h = refl
-one_none (x ∷ xs) zero h = h 0
-one_none (x ∷ xs) (suc k) h = one_none xs k (λ j. h (suc j))
+pub one_same : {X : Type 0} (d : X) (xs : List X) (k : ℕ) → ((j : ℕ) → get_or xs j d ≡ d) → get_or (xs ++ d ∷ []) k d ≡ d
+one_same d [] zero h = refl
+one_same d [] (suc k) h = refl
+one_same d (x ∷ xs) zero h = h 0
+one_same d (x ∷ xs) (suc k) h = one_same d xs k (λ j. h (suc j))

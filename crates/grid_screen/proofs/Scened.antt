@@ -7,7 +7,7 @@ use Rattle.grid_structure.specs.Sites.{levels, branches}
 use Rattle.grid_structure.specs.Soundness.{IsSound}
 use Rattle.grid_core.specs.declared.case.Case.{Case}
 use Rattle.grid_json.specs.Seen.{Knows}
-use Rattle.grid_screen.specs.declared.faults.FaultCase.{FaultCase}
+use Rattle.grid_contingencies.specs.declared.FaultCase.{FaultCase}
 use Rattle.grid_structure.specs.declared.Site.{Site}
 use Rattle.grid_screen.specs.Faults.{before_fault, zone_from, zone_of, IsZone}
 use Rattle.grid_screen.specs.Findings.{state_in}
@@ -23,26 +23,26 @@ use Rattle.grid_screen.proofs.Stepped.{Outcome}
 use Rattle.grid_screen.proofs.Zoned.{IsPast, zone_is, starts_are_nodes}
 
 module _ (case : Case) (fault : FaultCase) (changes : Changes) (stuck : List (List ℕ)) (sound : IsSound case.structure)
-    (shows : Shows (levels case.structure) case.states changes (levels_after case.structure fault.out (levels case.structure)) (rows_after case.structure fault.out case.states)) (known : Knows stuck fault.stuck) where
+    (shows : Shows (levels case.structure) case.states.opened changes (levels_after case.structure fault.out (levels case.structure)) (rows_after case.structure fault.out case.states.opened)) (known : Knows stuck fault.stuck) where
   scene : Ground
-  scene = ground case.structure (shown_levels changes (levels case.structure)) (shown_rows changes case.states) stuck
+  scene = ground case.structure (shown_levels changes (levels case.structure)) (shown_rows changes case.states.opened) stuck
 
-  past_of : (retained : List (List Bool)) → Outcome (state_in case retained) (before_fault (state_in case retained) fault) (levels_after case.structure fault.out (levels case.structure)) (rows_after case.structure fault.out case.states)
+  past_of : (retained : List (List Bool)) → Outcome (state_in case retained) (before_fault (state_in case retained) fault) (levels_after case.structure fault.out (levels case.structure)) (rows_after case.structure fault.out case.states.opened)
   unfolding before_fault
   past_of retained = outcome (state_in case retained) fault.out sound
 
-  pub is_ground : IsGround (ground case.structure (shown_levels changes (levels case.structure)) (shown_rows changes case.states) stuck)
+  pub is_ground : IsGround (ground case.structure (shown_levels changes (levels case.structure)) (shown_rows changes case.states.opened) stuck)
   is_ground =
       let o = past_of [] in
       record {
         sound = sound;
         removed = o.removed;
         left = shows.levels_are ∙ o.levels_are ∙ o.out.levels_left;
-        rows = length-shown_rows changes case.states (shows.long ∙ sym shows.rows_long) ∙ shows.rows_long;
+        rows = length-shown_rows changes case.states.opened (shows.long ∙ sym shows.rows_long) ∙ shows.rows_long;
         flags = λ k l at. ap (λ z. length (row_at z k)) shows.rows_are ∙ shows.flags_fit k l at;
       }
 
-  pub is_scene : IsScene case fault (ground case.structure (shown_levels changes (levels case.structure)) (shown_rows changes case.states) stuck)
+  pub is_scene : IsScene case fault (ground case.structure (shown_levels changes (levels case.structure)) (shown_rows changes case.states.opened) stuck)
   is_scene = record {
     net_is = refl;
     levels_are = λ retained. shows.levels_are ∙ (past_of retained).levels_are;

@@ -274,7 +274,7 @@ at_side net id k t = which (t.side == 1) (t.side == 2) refl refl
             not_it : (n m : ℕ) → (n == m) ≡ false → n ≢ m
             not_it n m e same = true≢false (sym (eq-eqb n m same) ∙ e)
 
-all_taken : (first : State) (removed : List (List ℕ)) (state : State) (id : List ℕ) → IsSound first.structure → Out first removed state → taken_out first.structure id (levels state.structure) ≡ map (level_without_equipment id) (levels state.structure)
+pub all_taken : (first : State) (removed : List (List ℕ)) (state : State) (id : List ℕ) → IsSound first.structure → Out first removed state → taken_out first.structure id (levels state.structure) ≡ map (level_without_equipment id) (levels state.structure)
 unfolding taken_out cleared_side
 all_taken first removed state id sound o =
     all_cleared id (level_of first.structure id 1) (level_of first.structure id 2) (level_of first.structure id 3) (levels state.structure)

@@ -1,5 +1,5 @@
 -- The breakers that trip, level by level and switch by switch.
-use Rattle.std.proofs.Common.{◌≡◌, refl, sym, ap, ◌∙◌, subst, ℕ, zero, suc, ◌+◌, ◌<◌, ◌≤◌, Bool, true, false, cond, not, ◌&&◌, ◌||◌, List, [], ◌∷◌, ◌++◌, map, length, get_or, take, arith, Some, None, Option, append_assoc}
+use Rattle.std.proofs.Common.{◌≡◌, refl, sym, ap, ◌∙◌, subst, ℕ, zero, suc, ◌+◌, ◌<◌, ◌≤◌, Bool, true, false, cond, ◌&&◌, ◌||◌, List, [], ◌∷◌, ◌++◌, map, length, get_or, take, arith, Some, None, Option, append_assoc}
 use Rattle.std.specs.Prelude.{slice_get, filter, Box, ◌==◌}
 use Rattle.std.specs.declared.alloc.Global.{Global}
 use Rattle.std.specs.List.{flat_map, enumerate_from, list_any}
@@ -9,7 +9,7 @@ use Rattle.std.proofs.lemmas.List.FromFn.{length-enumerate_from}
 use Rattle.std.proofs.lemmas.Grind.{flat_map-append}
 use Rattle.grid_ids.specs.Name.{has_id}
 use Rattle.grid_lemmas.proofs.Bools.{same_test}
-use Rattle.grid_lemmas.proofs.Lists.{take_got, some_got, map_got}
+use Rattle.grid_lemmas.proofs.Lists.{take_got, some_got}
 use Rattle.grid_level.specs.declared.Switch.{Switch}
 use Rattle.grid_level.specs.VoltageLevel.{VoltageLevel}
 use Rattle.grid_level.specs.Passing.{with_opened, positioned}
@@ -22,7 +22,7 @@ use Rattle.grid_screen.specs.declared.walk.Touched.{Touched}
 use Rattle.grid_core.specs.declared.case.Case.{Case}
 use Rattle.grid_core.specs.Solo.{State, positioned_at}
 use Rattle.grid_json.specs.Seen.{Knows}
-use Rattle.grid_screen.specs.declared.faults.FaultCase.{FaultCase}
+use Rattle.grid_contingencies.specs.declared.FaultCase.{FaultCase}
 use Rattle.grid_screen.specs.Faults.{can_trip, trips, spots_that, same_site, in_zone, tripped_in, tripped_from, tripped_of, before_fault, AreTripped}
 use Rattle.grid_screen.specs.Findings.{state_in}
 use Rattle.grid_screen.specs.Scenes.{IsScene}
@@ -34,7 +34,7 @@ use Rattle.grid_screen.specs.Zones.{site_at, network_sites, sites_of}
 use Rattle.grid_screen.proofs.Counted.{got_or}
 use Rattle.grid_screen.proofs.Growing.{got_below}
 use Rattle.grid_screen.proofs.Listed.{enumerate_got, filter_last}
-use Rattle.grid_screen.proofs.Members.{Among, any_among, any_found, among_filter, filter_among, filter_agrees, enumerate_among}
+use Rattle.grid_screen.proofs.Members.{any_among, any_found, among_filter, filter_among, filter_agrees, enumerate_among}
 use Rattle.grid_screen.proofs.Sitings.{first_is_node, second_is_node}
 use Rattle.grid_screen.proofs.Scened.{past, zone_found}
 use Rattle.grid_screen.proofs.Zoned.{node_among}
@@ -175,21 +175,25 @@ same_is_site a b h =
     let node = eqb-true a.node b.node both.1 in
     ap (λ z. site_at z a.node) level ∙ ap (site_at b.level) node
 
--- a node is in the zone where the walk has hit it
-pub zone_hits : (net : Network) (touched : Touches) (k n : ℕ) → IsNode net (site_at k n) → in_zone (filter (hits touched) (network_sites net)) k n ≡ hits touched (site_at k n)
+-- a node is in the zone of those sites of which the test holds where it holds
+pub zone_has : (net : Network) (test : Site → Bool) (k n : ℕ) → IsNode net (site_at k n) → in_zone (filter test (network_sites net)) k n ≡ test (site_at k n)
 unfolding in_zone
-zone_hits net touched k n node = same_test (in_zone zone k n) (hits touched (site_at k n)) inside outside
+zone_has net test k n node = same_test (in_zone zone k n) (test (site_at k n)) inside outside
   where
     zone : List Site
-    zone = filter (hits touched) (network_sites net)
+    zone = filter test (network_sites net)
 
-    inside : list_any (same_site (site_at k n)) zone ≡ true → hits touched (site_at k n) ≡ true
+    inside : list_any (same_site (site_at k n)) zone ≡ true → test (site_at k n) ≡ true
     inside h =
         let f = any_found (same_site (site_at k n)) zone h in
-        ap (hits touched) (same_is_site (site_at k n) f.0 f.2) ∙ (filter_among (hits touched) f.0 (network_sites net) f.1).1
+        ap test (same_is_site (site_at k n) f.0 f.2) ∙ (filter_among test f.0 (network_sites net) f.1).1
 
-    outside : hits touched (site_at k n) ≡ true → list_any (same_site (site_at k n)) zone ≡ true
-    outside h = any_among (same_site (site_at k n)) (site_at k n) zone (among_filter (hits touched) (site_at k n) (network_sites net) (node_among net (site_at k n) node) h) (site_same (site_at k n))
+    outside : test (site_at k n) ≡ true → list_any (same_site (site_at k n)) zone ≡ true
+    outside h = any_among (same_site (site_at k n)) (site_at k n) zone (among_filter test (site_at k n) (network_sites net) (node_among net (site_at k n) node) h) (site_same (site_at k n))
+
+-- a node is in the zone where the walk has hit it
+pub zone_hits : (net : Network) (touched : Touches) (k n : ℕ) → IsNode net (site_at k n) → in_zone (filter (hits touched) (network_sites net)) k n ≡ hits touched (site_at k n)
+zone_hits net touched k n node = zone_has net (hits touched) k n node
 
 spots_alike : (test other : Switch → Bool) (place : ℕ) (ss : List Switch) → ((i : ℕ) (s : Switch) → slice_get ss i ≡ Some s → test s ≡ other s) → spots_that test place ss ≡ spots_that other place ss
 unfolding spots_that

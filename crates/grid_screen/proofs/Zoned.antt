@@ -389,3 +389,16 @@ module _ (g : Ground) (b : IsGround g) (past : Network) (stuck : List (List ℕ)
     pub zone_begun : (s : Site) → Among s starts → is_hit (network_sites g.net) (fault_ties past g.opened stuck) starts s ≡ true
     unfolding ties
     zone_begun s i = hit_start (network_sites g.net) (fault_ties past g.opened stuck) starts fit s i
+
+    -- an edge over which a fault passes has both its nodes in the zone or neither
+    pub zone_across : (k i : ℕ) (l : VoltageLevel) (pair : ℕ × ℕ) → slice_get (levels g.net) k ≡ Some l → slice_get (passing_fault g.stuck (positioned l (row_at g.opened k))) i ≡ Some pair
+        → is_hit (network_sites g.net) (fault_ties past g.opened stuck) starts (site_at k pair.0) ≡ is_hit (network_sites g.net) (fault_ties past g.opened stuck) starts (site_at k pair.1)
+    unfolding ties
+    zone_across k i l pair at got = hit_tie (network_sites g.net) (fault_ties past g.opened stuck) starts fit (sites_at k pair) (edge_tie k i l pair at got)
+
+    -- which are nodes
+    pub across_nodes : (k i : ℕ) (l : VoltageLevel) (pair : ℕ × ℕ) → slice_get (levels g.net) k ≡ Some l → slice_get (passing_fault g.stuck (positioned l (row_at g.opened k))) i ≡ Some pair
+        → IsNode g.net (site_at k pair.0) × IsNode g.net (site_at k pair.1)
+    across_nodes k i l pair at got =
+        let both = fit.ends (sites_at k pair) (edge_tie k i l pair at got) in
+        (among_node g.net (site_at k pair.0) both.0, among_node g.net (site_at k pair.1) both.1)

@@ -1,11 +1,16 @@
--- Contingencies of which some put the same ids out.
-use Rattle.std.specs.Prelude.{◌≡◌, ℕ, Option, Some, List, map, slice_get, option_map}
-use Rattle.grid_screen.specs.declared.Contingency.{Contingency}
+-- Contingencies of which some have the same ids.
+use Rattle.std.specs.Prelude.{◌≡◌, ℕ, Bool, Option, Some, List, map, slice_get, option_map}
+use Rattle.grid_contingencies.specs.declared.FaultCase.{FaultCase}
+use Rattle.grid_contingencies.specs.declared.Contingency.{Contingency}
 
--- the ids of a group, where these contingencies stand for the groups
-abbrev pub ids_of_group : List Contingency → ℕ → Option (List (List ℕ))
-ids_of_group firsts group = option_map (λ c. c.ids) (slice_get firsts group)
+-- what counts of a contingency: all but its name
+abbrev pub event_of : Contingency → FaultCase × Bool
+event_of contingency = (contingency.event, contingency.has_fault)
 
--- each contingency is of a group with its ids
+-- that of a group, where these contingencies stand for the groups
+abbrev pub event_of_group : List Contingency → ℕ → Option (FaultCase × Bool)
+event_of_group firsts group = option_map event_of (slice_get firsts group)
+
+-- each contingency is of a group with its event
 abbrev pub AreAlike : List Contingency → List Contingency → List ℕ → Type 0
-AreAlike list firsts groups = map (ids_of_group firsts) groups ≡ map (λ c. Some c.ids) list
+AreAlike list firsts groups = map (event_of_group firsts) groups ≡ map (λ c. Some (event_of c)) list

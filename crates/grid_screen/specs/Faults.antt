@@ -1,5 +1,5 @@
--- What a fault does to a state: its zone, the breakers that trip, and what is left when it is cleared. The rules are this
--- project's own.
+-- What a fault does to a state: its zone, the breakers that trip, and what is left when it is cleared. The rules are
+-- this project's own.
 use Rattle.std.specs.Prelude.{◌≡◌, ℕ, Bool, not, ◌&&◌, ◌||◌, ◌==◌, List, ◌++◌, map, filter, flat_map, fold, slice_get, option_and_then}
 use Rattle.std.specs.Option.{option_map, option_to_list}
 use Rattle.std.specs.List.{enumerate_from, list_any}
@@ -13,7 +13,7 @@ use Rattle.grid_structure.specs.Network.{Network}
 use Rattle.grid_structure.specs.Sites.{levels, switch_spot}
 use Rattle.grid_core.specs.declared.case.Case.{Case}
 use Rattle.grid_core.specs.Solo.{State, positioned_at}
-use Rattle.grid_screen.specs.declared.faults.FaultCase.{FaultCase}
+use Rattle.grid_contingencies.specs.declared.FaultCase.{FaultCase}
 use Rattle.grid_screen.specs.Findings.{state_in}
 use Rattle.grid_screen.specs.Outages.{is_switch, with_out, state_without}
 use Rattle.grid_screen.specs.Zones.{site_at, sites_of, fault_ties, zone_over}
@@ -95,3 +95,7 @@ AreTripped case fault tripped = (retained : List (List Bool)) → tripped ≡ tr
 
 abbrev pub IsClearing : Case → FaultCase → List (List ℕ) → Type 0
 IsClearing case fault ids = (retained : List (List Bool)) → ids ≡ clearing_of (state_in case retained) fault
+
+-- those ids, and then those of the clearing
+abbrev pub IsClearedBehind : Case → FaultCase → List (List ℕ) → List (List ℕ) → Type 0
+IsClearedBehind case fault before ids = (retained : List (List Bool)) → ids ≡ before ++ clearing_of (state_in case retained) fault

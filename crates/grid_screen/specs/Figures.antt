@@ -1,4 +1,5 @@
--- The figures of buses that pairs join: how many buses and components there are, and what stands in component 0.
+-- The figures of buses that pairs join: how many buses and components there are, what stands in component 0, and in
+-- all.
 use Rattle.std.specs.Prelude.{ℕ, ℤ, pos, ◌+ℤ◌, ◌==◌, Bool, List, length, filter, fold}
 use Rattle.std.specs.List.{enumerate_from}
 use Rattle.grid_graph.specs.Joined.{groups}
@@ -19,6 +20,10 @@ main_buses all pairs = filter (λ bus. is_main (length all) pairs bus.0) (enumer
 unfoldable pub sum_over : (ViewBus → ℤ) → List (ℕ × NetworkBus) → ℤ
 sum_over watts buses = fold (λ total bus. total +ℤ watts bus.1.1) (pos 0) buses
 
+-- over all buses
+unfoldable pub total_over : (ViewBus → ℤ) → List NetworkBus → ℤ
+total_over watts all = fold (λ total bus. total +ℤ watts bus.1) (pos 0) all
+
 -- all are 0 where there is no bus
 unfoldable pub figures_over : List NetworkBus → List (ℕ × ℕ) → Figures
 figures_over all pairs = record {
@@ -27,4 +32,6 @@ figures_over all pairs = record {
   main = length (main_buses all pairs);
   load = sum_over (λ b. b.load) (main_buses all pairs);
   generation = sum_over (λ b. b.generation) (main_buses all pairs);
+  total_load = total_over (λ b. b.load) all;
+  total_generation = total_over (λ b. b.generation) all;
 }

@@ -1,5 +1,5 @@
--- What is found of a contingency.
-use Rattle.std.specs.Prelude.{◌≡◌, ℕ, ◌+ℤ◌, neg_ℤ, Bool, Option, Some, None, List, map, flat_map}
+-- The figures of a state.
+use Rattle.std.specs.Prelude.{◌≡◌, ℕ, Bool, List, map, flat_map}
 use Rattle.std.specs.List.{enumerate_from}
 use Rattle.grid_level.specs.VoltageLevel.{VoltageLevel}
 use Rattle.grid_structure.specs.Sites.{levels}
@@ -7,12 +7,8 @@ use Rattle.grid_islands.specs.Islands.{NetworkBus, bus_pairs}
 use Rattle.grid_core.specs.declared.case.Case.{Case}
 use Rattle.grid_core.specs.Fitting.{RowsFit}
 use Rattle.grid_core.specs.Solo.{State, state_seen, bus_view_at}
-use Rattle.grid_screen.specs.declared.Contingency.{Contingency}
 use Rattle.grid_screen.specs.declared.Figures.{Figures}
-use Rattle.grid_screen.specs.declared.Finding.{Finding}
-use Rattle.grid_screen.specs.declared.Finding.TheVariants.{UnknownId, Effect}
 use Rattle.grid_screen.specs.Figures.{figures_over}
-use Rattle.grid_screen.specs.Outages.{first_unknown, state_without}
 
 -- ---- the figures of a state
 
@@ -28,38 +24,15 @@ state_buses state = flat_map (level_buses state) (enumerate_from 0 (levels state
 unfoldable pub figures_of : State → Figures
 figures_of state = figures_over (state_buses state) (bus_pairs state.structure (state_buses state))
 
--- ---- findings
-
--- what is lost is before less after, so that it may be below 0
-unfoldable pub effect_of : Figures → Figures → Finding
-effect_of before after = Effect after (before.load +ℤ neg_ℤ after.load) (before.generation +ℤ neg_ℤ after.generation)
-
--- the id that is unknown, or else the effect
-abbrev pub unknown_or : Finding → Option (List ℕ) → Finding
-unknown_or effect (Some id) = UnknownId id
-unknown_or effect None = effect
-
--- unknown ids are told of the state before any outage
-unfoldable pub finding_of : State → Contingency → Finding
-finding_of state contingency =
-    unknown_or (effect_of (figures_of state) (figures_of (state_without state contingency.ids))) (first_unknown state.structure contingency.ids)
-
 -- ---- what is said of a case, whatever flags retained its switches have
 
 -- what a case is as a state, its switches with these flags retained
 abbrev pub state_in : Case → List (List Bool) → State
-state_in case retained = state_seen case.structure case.states retained case.powers.listed
+state_in case retained = state_seen case.structure case.states.opened retained case.powers.listed
 
 -- one row per level, one flag per switch
 abbrev pub CaseFits : Case → Type 0
-CaseFits case = RowsFit case.structure case.states
+CaseFits case = RowsFit case.structure case.states.opened
 
 abbrev pub AreFigures : Case → Figures → Type 0
 AreFigures case figures = (retained : List (List Bool)) → figures ≡ figures_of (state_in case retained)
-
--- those of a list, in its order
-abbrev pub AreFindings : Case → List Contingency → List Finding → Type 0
-AreFindings case list findings = (retained : List (List Bool)) → findings ≡ map (finding_of (state_in case retained)) list
-
-abbrev pub IsFinding : Case → Contingency → Finding → Type 0
-IsFinding case contingency finding = (retained : List (List Bool)) → finding ≡ finding_of (state_in case retained) contingency

@@ -10,8 +10,8 @@ use Rattle.grid_structure.specs.Soundness.{IsSound}
 use Rattle.grid_screen.specs.Screened.{level_without}
 use Rattle.grid_screen.specs.Zones.{passes_fault}
 
--- the network that is screened, its levels before the fault with the flags of their switches, true for open, and the ids
--- of the breakers that are stuck
+-- the network that is screened, its levels before the fault with the flags of their switches, true for open, and the
+-- ids of the breakers that are stuck
 pub record Ground : Type 0 where
   pub net : Network
   pub present : List VoltageLevel

@@ -10,8 +10,8 @@ use Rattle.grid_screen.specs.Screened.{level_sums, level_places, network_links}
 
 -- it is the case's
 pub record IsKeptOf (case : Case) (kept : Screening) : Type 0 where
-  pub sums : kept.sums ≡ level_sums case.powers.listed (levels case.structure) case.states
-  pub links : kept.links ≡ network_links case.structure (level_places (levels case.structure) case.states)
+  pub sums : kept.sums ≡ level_sums case.powers.listed (levels case.structure) case.states.opened
+  pub links : kept.links ≡ network_links case.structure (level_places (levels case.structure) case.states.opened)
 
 -- the figures after these ids are out
 abbrev pub AreFiguresWithout : Case → List (List ℕ) → Figures → Type 0

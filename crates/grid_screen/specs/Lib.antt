@@ -10,12 +10,14 @@ pub mod Kept
 pub mod Laws
 pub mod Texts
 pub mod Lines
-pub mod Jobs
 pub mod Grounds
 pub mod Walks
 pub mod Zones
 pub mod Faults
+pub mod Found
 pub mod Listing
 pub mod Opening
 pub mod Scenes
 pub mod FaultLaws
+pub mod Bodies
+pub mod FindingLaws

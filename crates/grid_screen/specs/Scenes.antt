@@ -3,7 +3,7 @@ use Rattle.std.specs.Prelude.{◌≡◌, Bool, List}
 use Rattle.grid_structure.specs.Sites.{levels}
 use Rattle.grid_core.specs.declared.case.Case.{Case}
 use Rattle.grid_json.specs.Seen.{Knows}
-use Rattle.grid_screen.specs.declared.faults.FaultCase.{FaultCase}
+use Rattle.grid_contingencies.specs.declared.FaultCase.{FaultCase}
 use Rattle.grid_screen.specs.Faults.{before_fault}
 use Rattle.grid_screen.specs.Findings.{state_in}
 use Rattle.grid_screen.specs.Grounds.{Ground}

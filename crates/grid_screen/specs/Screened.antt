@@ -183,6 +183,10 @@ add_main watts total bus = if bus.0 == 0 then total +ℤ watts bus.1 else total
 unfoldable pub main_sum : (BusSums → ℤ) → List ℕ → List BusSums → ℤ
 main_sum watts numbers sums = fold (add_main watts) (pos 0) (zip numbers sums)
 
+-- sums of all buses
+unfoldable pub total_sum : (BusSums → ℤ) → List BusSums → ℤ
+total_sum watts sums = fold (λ total bus. total +ℤ watts bus) (pos 0) sums
+
 abbrev pub is_zero : ℕ → Bool
 is_zero number = number == 0
 
@@ -195,4 +199,6 @@ figures_by sums pairs =
       main = count_by is_zero numbers;
       load = main_sum (λ s. s.load) numbers sums;
       generation = main_sum (λ s. s.generation) numbers sums;
+      total_load = total_sum (λ s. s.load) sums;
+      total_generation = total_sum (λ s. s.generation) sums;
     }

@@ -1,4 +1,5 @@
--- A walk over what a fault hits: the levels that it has looked at, and the equipment whose terminals it has not gone to yet.
+-- A walk over what a fault hits: the levels that it has looked at, and the equipment whose terminals it has not gone to
+-- yet.
 use Rattle.std.specs.Prelude.{◌≡◌, ◌⊎◌, IsTrue, ℕ, Bool, true, false, ◌&&◌, ◌==◌, ◌<◌, if◌then◌else◌, Option, Some, None, List, [], length, map, filter, slice_get, slice_set}
 use Rattle.std.specs.List.{slice_index_or, list_all}
 use Rattle.std.specs.declared.alloc.Global.{Global}
@@ -28,9 +29,12 @@ Touches = List (Option (Box Touched Global))
 abbrev pub touched_at : Touches → ℕ → Option (Box Touched Global)
 touched_at touched place = slice_index_or touched place None
 
--- the label of a node
+-- the label of a node, by the labels of a level
+abbrev pub label_by : VoltageLevel → List ℕ → ℕ → ℕ
+label_by level labels node = label_of (nodes level) labels node
+
 abbrev pub label_in : Touched → ℕ → ℕ
-label_in t node = label_of (nodes t.level.now) t.labels.items node
+label_in t node = label_by t.level.now t.labels.items node
 
 -- the nodes of its label were hit
 abbrev pub hits_in : Touched → ℕ → Bool
@@ -49,14 +53,39 @@ pub record IsNode (net : Network) (s : Site) : Type 0 where
   pub at : slice_get (levels net) s.level ≡ Some level
   pub node : IsTrue (among (nodes level) s.node)
 
+-- ---- the ends of branches
+
+-- a branch end at a node with this label
+abbrev pub is_end_in : VoltageLevel → List ℕ → ℕ → Placed → Bool
+is_end_in level labels label p = is_branch_end p.stand && (label_by level labels p.node == label)
+
+-- the equipment of the branch ends at nodes with a label
+unfoldable pub ends_in : VoltageLevel → List ℕ → List Placed → ℕ → List (List ℕ)
+ends_in level labels placed label = map (λ p. p.terminal.equipment) (filter (is_end_in level labels label) placed)
+
+-- these lists are those, label by label
+pub record AreEnds (level : VoltageLevel) (labels : List ℕ) (placed : List Placed) (ends : List (List (List ℕ))) : Type 0 where
+  pub long : length ends ≡ length labels
+  pub each : (label : ℕ) → slice_index_or ends label [] ≡ ends_in level labels placed label
+
+-- each node of the level has a label below how many there are, and these terminals are at nodes of it
+pub record CanList (level : VoltageLevel) (labels : List ℕ) (placed : List Placed) : Type 0 where
+  pub there : IsTrue (list_all (λ p. among (nodes level) p.node) placed)
+  pub long : length labels ≡ length (nodes level)
+  pub below : (node : ℕ) → IsTrue (among (nodes level) node) → label_by level labels node < length labels
+
 -- ---- levels that were looked at
 
--- the labels are those of the level at a place, joined by the edges over which a fault passes
+-- the labels are those of the level at a place, joined by the edges over which a fault passes, and the branch ends
+-- those before the fault
 pub record IsTouched (g : Ground) (place : ℕ) (t : Touched) : Type 0 where
   pub at : slice_get (levels g.net) place ≡ Some t.level.now
   pub keeps : KeepsLimits t.level.now
   pub labels : t.labels.items ≡ labels_where t.level.now (fault_flags g.stuck t.level.now.switches (row_at g.opened place))
   pub long : length t.hit.items ≡ length (nodes t.level.now)
+  pub present : VoltageLevel
+  pub there : slice_get g.present place ≡ Some present
+  pub ends : AreEnds t.level.now t.labels.items present.placed t.ends.items
 
 abbrev pub IsTouchedBy : Ground → ℕ → Option (Box Touched Global) → Type 0
 IsTouchedBy g place (Some t) = IsTouched g place t.value
@@ -66,38 +95,32 @@ pub record AreTouched (g : Ground) (touched : Touches) : Type 0 where
   pub long : length touched ≡ length (levels g.net)
   pub each : (k : ℕ) → IsTouchedBy g k (touched_at touched k)
 
--- a level with these labels, of which nothing is hit
-pub record IsUntouched (level : VoltageLevel) (labels : List ℕ) (t : Touched) : Type 0 where
+-- a level with these labels and ends, of which nothing is hit
+pub record IsUntouched (level : VoltageLevel) (labels : List ℕ) (ends : List (List (List ℕ))) (t : Touched) : Type 0 where
   pub level_is : t.level.now ≡ level
   pub labels_are : t.labels.items ≡ labels
+  pub ends_are : t.ends.items ≡ ends
   pub long : length t.hit.items ≡ length labels
   pub none : (k : ℕ) → slice_index_or t.hit.items k false ≡ false
 
--- a node of the level may be hit, and these terminals are at nodes of it
-pub record CanHit (t : Touched) (node : ℕ) (placed : List Placed) : Type 0 where
+-- a node of the level may be hit
+pub record CanHit (t : Touched) (node : ℕ) : Type 0 where
   pub here : IsTrue (among (nodes t.level.now) node)
-  pub there : IsTrue (list_all (λ p. among (nodes t.level.now) p.node) placed)
   pub long : length t.labels.items ≡ length (nodes t.level.now)
   pub hit : length t.hit.items ≡ length t.labels.items
+  pub ends : length t.ends.items ≡ length t.labels.items
   pub below : label_in t node < length t.labels.items
 
 -- one more node was hit
 pub record IsHitIn (old : Touched) (node : ℕ) (new : Touched) : Type 0 where
   pub level : new.level.now ≡ old.level.now
   pub labels : new.labels.items ≡ old.labels.items
+  pub ends : new.ends.items ≡ old.ends.items
   pub hit : new.hit.items ≡ slice_set old.hit.items (label_in old node) true
 
--- a branch end at a node with this label
-abbrev pub is_end_at : Touched → ℕ → Placed → Bool
-is_end_at t label p = is_branch_end p.stand && (label_in t p.node == label)
-
--- the equipment of the branch ends at nodes with the label of a node
-unfoldable pub ends_at : Touched → List Placed → ℕ → List (List ℕ)
-ends_at t placed label = map (λ p. p.terminal.equipment) (filter (is_end_at t label) placed)
-
--- those that are new where a node is hit
-unfoldable pub new_ends : Touched → List Placed → ℕ → List (List ℕ)
-new_ends t placed node = if hits_in t node then [] else ends_at t placed (label_in t node)
+-- what waits when a node is hit: the equipment of the ends with its label, where they were not hit yet
+unfoldable pub waiting : Touched → ℕ → List (List ℕ)
+waiting t node = if hits_in t node then [] else slice_index_or t.ends.items (label_in t node) []
 
 -- ---- what a walk does
 

@@ -1,13 +1,17 @@
-// Contingencies of which some put the same ids out: each list of ids needs one finding.
-ghost use Rattle.std.specs.Prelude.{◌≡◌, map, Some, IfOk, IfSome, slice_get};
-ghost use Rattle.grid_screen.specs.Alike.{ids_of_group, AreAlike};
+// Contingencies of which some have the same ids: of these one finding is enough.
+ghost use Rattle.std.specs.Prelude.{◌≡◌, map, Some, IfOk, IfSome, IsTrue, slice_get};
+ghost use Rattle.grid_screen.specs.Alike.{event_of, event_of_group, AreAlike};
 
-use crate::{Contingencies, Contingency, Finding, Findings};
-use grid_ids::{Duplicate, Id, Ids, Memory, Same};
+use crate::{Finding, Findings};
+use grid_contingencies::{Contingencies, Contingency};
+use grid_ids::{Duplicate, Id, Memory, Same};
 use std::alloc::Global;
 use std::collections::BTreeMap;
 
-/// The groups of contingencies that put the same ids out.
+/// The ids of what is out, of what is hit, and of what is stuck.
+type Key<'a> = (&'a [Id], &'a [Id], &'a [Id]);
+
+/// The groups of contingencies that differ in their names alone.
 #[derive(Drop)]
 pub(crate) struct Alike {
     /// A copy of the first contingency of each group.
@@ -16,44 +20,55 @@ pub(crate) struct Alike {
     pub groups: Vec<usize>,
 }
 
-// The group that is guessed, where it has these ids.
-fn check_group(firsts: &[Contingency], guess: Option<usize>, ids: &Ids) -> Option<usize>
-    ensures { IfSome result (λ group. ids_of_group firsts.now group ≡ Some ids.now) }
+// Whether two contingencies differ in their names at most.
+fn is_alike(contingency: &Contingency, other: &Contingency) -> bool
+    ensures { IsTrue result → event_of contingency.now ≡ event_of other.now }
+{
+    contingency.has_fault == other.has_fault && contingency.event.same(&other.event)
+}
+
+// The group that is guessed, where it has this event.
+fn check_group(
+    firsts: &[Contingency],
+    guess: Option<usize>,
+    contingency: &Contingency,
+) -> Option<usize>
+    ensures { IfSome result (λ group. event_of_group firsts.now group ≡ Some (event_of contingency.now)) }
 {
     let group = match guess {
         Some(group) => group,
         None => return None,
     };
     match firsts.get(group) {
-        Some(contingency) if contingency.ids.same(ids) => Some(group),
+        Some(first) if is_alike(first, contingency) => Some(group),
         _ => None,
     }
 }
 
-// A copy of a contingency.
-fn copy_contingency(contingency: &Contingency) -> Result<Contingency, Memory>
-    ensures { IfOk result (λ copy. copy.ids ≡ contingency.now.ids) }
-{
-    Ok(Contingency {
-        name: contingency.name.copy()?,
-        ids: contingency.ids.copy()?,
-    })
+// The ids of a contingency.
+fn key_of<'a>(contingency: &'a Contingency) -> Key<'a> {
+    (
+        contingency.event.out.slice(),
+        contingency.event.fault.slice(),
+        contingency.event.stuck.slice(),
+    )
 }
 
-/// The groups of a list. The time is that of so many look-ups in a table of the lists of ids as there are contingencies.
+/// The groups of a list. The time is that of so many look-ups in a table of the lists of ids as there are
+/// contingencies.
 pub(crate) fn find_alike(alloc: Global, list: &[Contingency]) -> Result<Alike, Memory>
     ensures { IfOk result (λ alike. AreAlike list.now alike.firsts alike.groups.items) }
 {
-    let mut known: BTreeMap<&[Id], usize> = BTreeMap::new(alloc);
+    let mut known: BTreeMap<Key<'_>, usize> = BTreeMap::new(alloc);
     let mut firsts = Contingencies::empty(alloc);
     let mut groups = Vec::new(alloc);
     for contingency in list {
-        let ids = contingency.ids.slice();
-        let guess = known.get(&ids).copied();
-        let Some(group) = check_group(firsts.slice(), guess, &contingency.ids) else {
-            known.insert(ids, firsts.len())?;
+        let key = key_of(contingency);
+        let guess = known.get(&key).copied();
+        let Some(group) = check_group(firsts.slice(), guess, contingency) else {
+            known.insert(key, firsts.len())?;
             groups.push(firsts.len())?;
-            firsts.push(copy_contingency(contingency)?)?;
+            firsts.push(contingency.copy()?)?;
             continue;
         };
         groups.push(group)?;

@@ -3,17 +3,18 @@ ghost use Rattle.std.specs.Prelude.{◌≡◌, ◌++◌, [], ◌∷◌, IfOk, On
 ghost use Rattle.std.specs.List.{list_all};
 ghost use Rattle.grid_level.specs.Kept.{among};
 ghost use Rattle.grid_level.specs.Passing.{nodes};
-ghost use Rattle.grid_screen.specs.Faults.{switch_ids, IsClearing};
+ghost use Rattle.grid_screen.specs.Faults.{switch_ids, AreTripped, IsClearedBehind, IsClearing};
 ghost use Rattle.grid_screen.specs.Findings.{CaseFits};
 ghost use Rattle.grid_screen.specs.Listing.{Fits};
 ghost use Rattle.grid_screen.specs.Opening.{AreSwitches, equipment_hit, network_equipment};
 ghost use Rattle.grid_screen.specs.Outages as outages;
 ghost use Rattle.grid_screen.specs.Walks.{AreTouched, IsSwitchOf};
 
-use crate::faults::FaultCase;
+use crate::faults::Breakers;
 use crate::scene::{Scene, set_of};
 use crate::tripped::{is_hit_at, list_tripped};
 use crate::walk::{Touched, walk_from};
+use grid_contingencies::FaultCase;
 use grid_core::Case;
 use grid_ids::{Duplicate, Id, Ids, Memory};
 use grid_level::Placed;
@@ -94,22 +95,43 @@ fn push_hit_equipment(
     Ok(())
 }
 
-/// What is out, besides the ids that were out before, when the fault of a case is cleared, whose states have one row per
-/// level and one flag per switch of its structure: the breakers that trip, then the switches that are hit, then the
-/// equipment with a terminal in the zone, once for each terminal there. The time is that of `tripped`, and of the
-/// terminals of the levels that are hit.
-pub fn clearing(alloc: Global, case: &Case, fault: &FaultCase) -> Result<Ids, Memory>
+/// How a fault is cleared: the breakers that trip, and ids with those of what is opened and removed.
+#[derive(Drop)]
+pub(crate) struct Cleared {
+    pub tripped: Breakers,
+    pub ids: Ids,
+}
+
+/// How the fault of a case is cleared, the ids of what is opened and removed put behind these.
+pub(crate) fn clear(
+    alloc: Global,
+    case: &Case,
+    fault: &FaultCase,
+    ids: Ids,
+) -> Result<Cleared, Memory>
     requires { CaseFits case.now }
-    ensures { IfOk result (IsClearing case.now fault.now) }
+    ensures tripped { IfOk result (λ cleared. AreTripped case.now fault.now cleared.tripped) }
+    ensures ids { IfOk result (λ cleared. IsClearedBehind case.now fault.now ids cleared.ids) }
 {
     let scene = Scene::before_fault(alloc, case, fault)?;
     scene.keeps();
     let hit = set_of(alloc, fault.fault.slice())?;
     let walk = walk_from(alloc, &scene, fault.fault.slice())?;
     let tripped = list_tripped(alloc, &scene, &hit, &walk.touched)?;
-    let mut ids = Ids::empty(alloc);
+    let mut ids = ids;
     push_switches(&mut ids, &case.structure, tripped.slice())?;
     push_hit_switches(&mut ids, &case.structure, fault.fault.slice())?;
     push_hit_equipment(&mut ids, &scene, &walk.touched)?;
-    Ok(ids)
+    Ok(Cleared { tripped, ids })
+}
+
+/// What is out, besides the ids that were out before, when the fault of a case is cleared, whose states have one row
+/// per level and one flag per switch of its structure: the breakers that trip, then the switches that are hit, then the
+/// equipment with a terminal in the zone, once for each terminal there. The time is that of `tripped`, and of the
+/// terminals of the levels that are hit.
+pub fn clearing(alloc: Global, case: &Case, fault: &FaultCase) -> Result<Ids, Memory>
+    requires { CaseFits case.now }
+    ensures { IfOk result (IsClearing case.now fault.now) }
+{
+    Ok(clear(alloc, case, fault, Ids::empty(alloc))?.ids)
 }

@@ -4,7 +4,7 @@ ghost use Rattle.grid_graph.specs.Components.{places, component_numbers};
 ghost use Rattle.grid_graph.specs.Graph.{EndsBelow};
 ghost use Rattle.grid_graph.specs.Joined.{groups};
 ghost use Rattle.grid_screen.specs.Counting.{first_count};
-ghost use Rattle.grid_screen.specs.Screened.{figures_by, is_zero, main_sum};
+ghost use Rattle.grid_screen.specs.Screened.{figures_by, is_zero, main_sum, total_sum};
 
 use crate::Figures;
 use crate::present::narrow;
@@ -86,6 +86,37 @@ fn sum_main(numbers: &[u32], sums: &[BusSums]) -> Result<Main, Memory>
     Ok(main)
 }
 
+// With the sums of one bus more. It is want of memory, too, where a sum would not fit its type.
+fn add_sums(total: BusSums, sums: &BusSums) -> Result<BusSums, Memory>
+    ensures load { IfOk result (λ new. new.load ≡ total.load +ℤ sums.now.load) }
+    ensures generation { IfOk result (λ new. new.generation
+        ≡ total.generation +ℤ sums.now.generation) }
+{
+    match (
+        total.load.checked_add(sums.load),
+        total.generation.checked_add(sums.generation),
+    ) {
+        (Some(load), Some(generation)) => Ok(BusSums { load, generation }),
+        _ => Err(Memory),
+    }
+}
+
+// The sums over all buses.
+fn sum_all(sums: &[BusSums]) -> Result<BusSums, Memory>
+    ensures load { IfOk result (λ total. total.load ≡ total_sum (λ s. s.load) sums.now) }
+    ensures generation { IfOk result (λ total. total.generation
+        ≡ total_sum (λ s. s.generation) sums.now) }
+{
+    let mut total = BusSums {
+        load: 0,
+        generation: 0,
+    };
+    for bus in sums {
+        total = add_sums(total, bus)?;
+    }
+    Ok(total)
+}
+
 /// The figures of buses with these sums, by number, that pairs join.
 #[tactic(auto, unfolding(crate::specs::Screened::figures_by))]
 pub(crate) fn count_figures(
@@ -100,11 +131,14 @@ pub(crate) fn count_figures(
     let numbers = components(alloc, count, pairs)?;
     let components = count_numbers(alloc, numbers.slice())?;
     let main = sum_main(numbers.slice(), sums)?;
+    let total = sum_all(sums)?;
     Ok(Figures {
         buses: count,
         components,
         main: main.count,
         load: main.load,
         generation: main.generation,
+        total_load: total.load,
+        total_generation: total.generation,
     })
 }

@@ -1,20 +1,22 @@
-//! Contingency screening: what outages of switches and equipment change in the figures of a network, each on its own and
-//! in several threads, and the reading of contingencies from JSON.
+//! Contingency screening: what outages of switches and equipment, and faults that breakers clear, change in the figures
+//! of a network, each on its own and in several threads.
 #![tactic(auto)]
 
 ghost use Rattle.std.proofs.Common.{rules};
+ghost use Rattle.grid_ids.specs.Clones.{items_clone_equals};
 
 mod alike;
+mod amiss;
 pub mod clearing;
 mod counting;
 pub mod faults;
 pub mod find;
 pub mod laws;
 mod line;
+pub mod loss;
 mod outage;
 mod parallel;
 mod present;
-mod read;
 mod scene;
 mod screening;
 pub mod tripped;
@@ -22,17 +24,19 @@ mod walk;
 mod write;
 pub mod zone;
 
+use faults::Breakers;
 pub use find::find_one;
-use grid_ids::{Duplicate, Id, Ids, Seq};
-use grid_json::Job;
+use grid_ids::{Duplicate, Id, Seq};
+use grid_json::Format;
+use grid_structure::Structure;
 pub use line::put_finding_line;
+pub use loss::is_loss;
 pub use parallel::screen;
-pub use read::read_screen;
 pub use write::put_finding;
 
 /// The figures of a network: how many buses and components it has, and what stands in the main component, which is
-/// component 0: the one with the most buses, and of those with as many the one with the earliest bus. All are 0 where there
-/// is no bus. The figures are this project's own.
+/// component 0: the one with the most buses, and of those with as many the one with the earliest bus. All are 0 where
+/// there is no bus. The figures are this project's own.
 #[derive(Clone, Copy, Debug, PartialEq, Eq)]
 pub struct Figures {
     /// How many buses there are, over the bus views of all levels.
@@ -45,23 +49,21 @@ pub struct Figures {
     pub load: i128,
     /// The sum over the generators and batteries of the main component's buses, in W.
     pub generation: i128,
+    /// The sum over the loads of all buses, in W.
+    pub total_load: i128,
+    /// The sum over the generators and batteries of all buses, in W.
+    pub total_generation: i128,
 }
 
-/// An outage by its name: the ids of the switches that are opened and of the equipment that is removed, in this order.
-#[derive(Debug, Drop)]
-pub struct Contingency {
-    pub name: Id,
-    pub ids: Ids,
-}
-
-/// A list of contingencies.
-pub type Contingencies = Seq<Contingency>;
-
-/// A job with the contingencies that are screened on what its first variant stands at in the end.
-#[derive(Drop)]
-pub struct ScreenJob {
-    pub job: Job,
-    pub contingencies: Contingencies,
+/// What a contingency costs, in W: sums before less those after, which may be below 0.
+#[derive(Clone, Copy, Debug, PartialEq, Eq)]
+pub struct Losses {
+    /// What the main component lost.
+    pub load: i128,
+    pub generation: i128,
+    /// What all buses lost: the watts of what stands in no bus any more.
+    pub unconnected_load: i128,
+    pub unconnected_generation: i128,
 }
 
 /// What is found of a contingency.
@@ -69,18 +71,31 @@ pub struct ScreenJob {
 pub enum Finding {
     /// The first id that is of no switch and of no equipment before the outage.
     UnknownId(Id),
-    /// The figures after the outage, and what the main component lost: its sums before less those after, in W, which may be
-    /// below 0.
+    /// The first id of what is stuck that is of no breaker, or of a fictitious one.
+    NoBreaker(Id),
+    /// The figures after the outage, or when the fault is cleared.
     Effect {
         after: Figures,
-        lost_load: i128,
-        lost_generation: i128,
+        losses: Losses,
+        /// Where there is a fault, the breakers that protection opened, in the structure before the outage.
+        tripped: Option<Breakers>,
     },
 }
 
 /// Findings in the order of their contingencies.
 pub type Findings = Seq<Finding>;
 
+/// How findings are told: the format of the job, and the structure in which the breakers are that opened.
+#[derive(Clone, Copy)]
+pub struct Telling<'a> {
+    pub format: Format,
+    pub structure: &'a Structure,
+}
+
+impl Duplicate for Losses {
+    ghost clone_equals = { Prim.search (rules, items_clone_equals) };
+}
+
 impl Duplicate for Finding {
-    ghost clone_equals = { Prim.search rules };
+    ghost clone_equals = { Prim.search (rules, items_clone_equals) };
 }

@@ -20,7 +20,8 @@ use grid_structure::{Structure, SwitchAt};
 use std::alloc::Global;
 use std::marker::Model;
 
-/// A level as an outage leaves it: a copy where terminals are taken out, else the structure's own. It is seen as the level.
+/// A level as an outage leaves it: a copy where terminals are taken out, else the structure's own. It is seen as the
+/// level.
 #[derive(Drop)]
 pub(crate) struct Shown<'a> {
     before: &'a Level,
@@ -71,8 +72,8 @@ impl<'a> Shown<'a> {
     }
 }
 
-/// A level that an outage changes: with its terminals and the flags of its switches after it, for each node the place of
-/// the bus that holds it, and the sums of its buses. Places and sums stand once the level was looked at.
+/// A level that an outage changes: with its terminals and the flags of its switches after it, for each node the place
+/// of the bus that holds it, and the sums of its buses. Places and sums stand once the level was looked at.
 #[derive(Drop)]
 pub(crate) struct Changed<'a> {
     pub level: Shown<'a>,
@@ -158,16 +159,16 @@ fn take_standing<'a>(
 ) -> Result<Box<Changed<'a>>, Memory>
     requires place { place < length (levels structure.now) }
     requires changes { length changes.old.items ≡ length (levels structure.now) }
-    requires rows { length states.now ≡ length (levels structure.now) }
+    requires rows { length states.now.opened ≡ length (levels structure.now) }
     ensures level { IfOk result (λ s. slice_get (shown_levels changes.old.items (levels
         structure.now)) place ≡ Some s.value.level) }
     ensures opened { IfOk result (λ s. s.value.opened
-        ≡ row_at (shown_rows changes.old.items states.now) place) }
+        ≡ row_at (shown_rows changes.old.items states.now.opened) place) }
     ensures left { OnOk result (changes.new.items ≡ slice_set changes.old.items place None) }
 {
     match take_at(changes, place as usize) {
         Some(changed) => Ok(changed),
-        None => standing(alloc, structure.level(place), states.row(place)),
+        None => standing(alloc, structure.level(place), states.opened_row(place)),
     }
 }
 
@@ -200,12 +201,12 @@ fn open_switch<'a>(
     changes: &mut Changes<'a>,
     at: SwitchAt,
 ) -> Result<(), Memory>
-    requires shows { ShowsSo (levels structure.now) states.now changes.old.items }
+    requires shows { ShowsSo (levels structure.now) states.now.opened changes.old.items }
     requires level { at.level < length (levels structure.now) }
-    requires place { at.place < length (row_at (shown_rows changes.old.items states.now) at.level) }
-    ensures { OnOk result (Shows (levels structure.now) states.now changes.new.items
+    requires place { at.place < length (row_at (shown_rows changes.old.items states.now.opened) at.level) }
+    ensures { OnOk result (Shows (levels structure.now) states.now.opened changes.new.items
         (shown_levels changes.old.items (levels structure.now))
-        (with_flag (shown_rows changes.old.items states.now) at.level at.place true)) }
+        (with_flag (shown_rows changes.old.items states.now.opened) at.level at.place true)) }
 {
     let taken = take_standing(alloc, structure, states, changes, at.level)?;
     put_at(changes, at.level as usize, with_open(taken, at.place));
@@ -220,10 +221,10 @@ fn clear_side<'a>(
     changes: &mut Changes<'a>,
     at: (&Id, u8),
 ) -> Result<(), Memory>
-    requires { ShowsSo (levels structure.now) states.now changes.old.items }
-    ensures { OnOk result (Shows (levels structure.now) states.now changes.new.items
+    requires { ShowsSo (levels structure.now) states.now.opened changes.old.items }
+    ensures { OnOk result (Shows (levels structure.now) states.now.opened changes.new.items
         (cleared_side structure.now at.entry.0.now at.entry.1 (shown_levels changes.old.items (levels
-        structure.now))) (shown_rows changes.old.items states.now)) }
+        structure.now))) (shown_rows changes.old.items states.now.opened)) }
 {
     let (id, side) = at;
     let site = match structure.site(id, side) {
@@ -245,10 +246,10 @@ fn take_out<'a>(
     changes: &mut Changes<'a>,
     id: &Id,
 ) -> Result<(), Memory>
-    requires { ShowsSo (levels structure.now) states.now changes.old.items }
-    ensures { OnOk result (Shows (levels structure.now) states.now changes.new.items
+    requires { ShowsSo (levels structure.now) states.now.opened changes.old.items }
+    ensures { OnOk result (Shows (levels structure.now) states.now.opened changes.new.items
         (taken_out structure.now id.now (shown_levels changes.old.items (levels structure.now)))
-        (shown_rows changes.old.items states.now)) }
+        (shown_rows changes.old.items states.now.opened)) }
 {
     clear_side(alloc, structure, states, changes, (id, 1))?;
     clear_side(alloc, structure, states, changes, (id, 2))?;
@@ -263,10 +264,10 @@ fn put_out<'a>(
     changes: &mut Changes<'a>,
     id: &Id,
 ) -> Result<(), Memory>
-    requires { ShowsSo (levels structure.now) states.now changes.old.items }
-    ensures { OnOk result (Shows (levels structure.now) states.now changes.new.items
+    requires { ShowsSo (levels structure.now) states.now.opened changes.old.items }
+    ensures { OnOk result (Shows (levels structure.now) states.now.opened changes.new.items
         (levels_with_out structure.now (shown_levels changes.old.items (levels structure.now))
-        id.now) (rows_with_out structure.now (shown_rows changes.old.items states.now)
+        id.now) (rows_with_out structure.now (shown_rows changes.old.items states.now.opened)
         id.now)) }
 {
     match structure.find_switch(id) {
@@ -283,11 +284,11 @@ fn put_all_out<'a>(
     changes: &mut Changes<'a>,
     ids: &[Id],
 ) -> Result<(), Memory>
-    requires { Shows (levels structure.now) states.now changes.old.items (levels structure.now)
-        states.now }
-    ensures { OnOk result (Shows (levels structure.now) states.now changes.new.items
+    requires { Shows (levels structure.now) states.now.opened changes.old.items (levels structure.now)
+        states.now.opened }
+    ensures { OnOk result (Shows (levels structure.now) states.now.opened changes.new.items
         (levels_after structure.now ids.now (levels structure.now))
-        (rows_after structure.now ids.now states.now)) }
+        (rows_after structure.now ids.now states.now.opened)) }
 {
     let mut seen = SeenIds::empty(alloc);
     for id in ids {
@@ -347,27 +348,29 @@ fn look_at_all<'a>(alloc: Global, powers: &Powers, changes: &mut Changes<'a>) ->
     Ok(())
 }
 
-/// The levels that change where these ids are out, one after the other, not looked at yet: a switch is opened, an equipment
-/// removed. The time is that of a look-up of each id, with a copy of each level from which equipment is removed.
+/// The levels that change where these ids are out, one after the other, not looked at yet: a switch is opened, an
+/// equipment removed. The time is that of a look-up of each id, with a copy of each level from which equipment is
+/// removed.
 pub(crate) fn changes_without<'a>(
     alloc: Global,
     structure: &'a Structure,
     states: &States,
     ids: &[Id],
 ) -> Result<Changes<'a>, Memory>
-    requires rows { length states.now ≡ length (levels structure.now) }
-    requires flags { FlagsFit structure.now states.now }
-    ensures { IfOk result (λ changes. Shows (levels structure.now) states.now changes.items
+    requires rows { length states.now.opened ≡ length (levels structure.now) }
+    requires flags { FlagsFit structure.now states.now.opened }
+    ensures { IfOk result (λ changes. Shows (levels structure.now) states.now.opened changes.items
         (levels_after structure.now ids.now (levels structure.now))
-        (rows_after structure.now ids.now states.now)) }
+        (rows_after structure.now ids.now states.now.opened)) }
 {
     let mut changes = unchanged(alloc, structure.level_count())?;
     put_all_out(alloc, structure, states, &mut changes, ids)?;
     Ok(changes)
 }
 
-/// The levels that change where these ids are out, one after the other: a switch is opened, an equipment removed. The time
-/// is that of a look-up of each id and of a view of each level that they touch, with a copy where equipment is removed.
+/// The levels that change where these ids are out, one after the other: a switch is opened, an equipment removed. The
+/// time is that of a look-up of each id and of a view of each level that they touch, with a copy where equipment is
+/// removed.
 pub(crate) fn find_changes<'a>(
     alloc: Global,
     structure: &'a Structure,
@@ -375,11 +378,11 @@ pub(crate) fn find_changes<'a>(
     powers: &Powers,
     ids: &[Id],
 ) -> Result<Changes<'a>, Memory>
-    requires rows { length states.now ≡ length (levels structure.now) }
-    requires flags { FlagsFit structure.now states.now }
-    ensures { IfOk result (λ changes. Stands powers.now.listed (levels structure.now) states.now
+    requires rows { length states.now.opened ≡ length (levels structure.now) }
+    requires flags { FlagsFit structure.now states.now.opened }
+    ensures { IfOk result (λ changes. Stands powers.now.listed (levels structure.now) states.now.opened
         changes.items (levels_after structure.now ids.now (levels structure.now))
-        (rows_after structure.now ids.now states.now)) }
+        (rows_after structure.now ids.now states.now.opened)) }
 {
     let mut changes = changes_without(alloc, structure, states, ids)?;
     look_at_all(alloc, powers, &mut changes)?;

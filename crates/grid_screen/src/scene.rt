@@ -7,8 +7,8 @@ ghost use Rattle.grid_screen.specs.Findings.{CaseFits};
 ghost use Rattle.grid_screen.specs.Grounds.{Ground, IsGround};
 ghost use Rattle.grid_screen.specs.Scenes.{IsScene};
 
-use crate::faults::FaultCase;
 use crate::outage::{Changes, changes_without};
+use grid_contingencies::FaultCase;
 use grid_core::Case;
 use grid_ids::{Id, Memory};
 use grid_json::SeenIds;
@@ -18,7 +18,8 @@ use grid_structure::Structure;
 use std::alloc::Global;
 use std::marker::Model;
 
-/// The state before a fault: what is screened with what an outage has changed, and the ids of the breakers that are stuck.
+/// The state before a fault: what is screened with what an outage has changed, and the ids of the breakers that are
+/// stuck.
 #[derive(Drop)]
 pub(crate) struct Scene<'a> {
     structure: &'a Structure,
@@ -36,12 +37,12 @@ impl<'a> Model for Scene<'a> {
     ghost Value = { Ground };
 
     ghost view = { λ s. ground s.structure.now (shown_levels s.changes.items (levels s.structure.now))
-        (shown_rows s.changes.items s.states.now) s.stuck };
+        (shown_rows s.changes.items s.states.now.opened) s.stuck };
 
     ghost invariant = { λ s. (length s.changes.items ≡ length (levels s.structure.now))
-        × (length s.states.now ≡ length (levels s.structure.now))
+        × (length s.states.now.opened ≡ length (levels s.structure.now))
         × IsGround (ground s.structure.now (shown_levels s.changes.items (levels s.structure.now))
-        (shown_rows s.changes.items s.states.now) s.stuck) };
+        (shown_rows s.changes.items s.states.now.opened) s.stuck) };
 }
 
 /// The ids of a list, to look them up in.
@@ -115,7 +116,7 @@ impl<'a> Scene<'a> {
     {
         match &self.changes[place as usize] {
             Some(changed) => changed.opened.slice(),
-            None => self.states.row(place),
+            None => self.states.opened_row(place),
         }
     }
 }

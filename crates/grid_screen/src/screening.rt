@@ -28,7 +28,8 @@ pub(crate) struct BusSums {
 /// The sums of a level's buses, by rising least node.
 pub(crate) type LevelSums = Seq<BusSums>;
 
-/// An end of a branch: the place of its level, its node, and the place of the bus that holds it among the level's buses.
+/// An end of a branch: the place of its level, its node, and the place of the bus that holds it among the level's
+/// buses.
 #[derive(Clone, Copy, Debug, PartialEq, Eq)]
 pub(crate) struct Spot {
     pub level: u32,
@@ -122,17 +123,22 @@ fn look_at_levels(
     states: &States,
     powers: &Powers,
 ) -> Result<AllBuses, Memory>
-    requires rows { length states.now ≡ length (levels structure.now) }
-    requires flags { FlagsFit structure.now states.now }
+    requires rows { length states.now.opened ≡ length (levels structure.now) }
+    requires flags { FlagsFit structure.now states.now.opened }
     ensures places { IfOk result (λ all. all.places
-        ≡ level_places (levels structure.now) states.now) }
+        ≡ level_places (levels structure.now) states.now.opened) }
     ensures sums { IfOk result (λ all. all.sums
-        ≡ level_sums powers.now.listed (levels structure.now) states.now) }
+        ≡ level_sums powers.now.listed (levels structure.now) states.now.opened) }
 {
     let mut places = Seq::empty(alloc);
     let mut sums = Seq::empty(alloc);
     for place in 0..structure.level_count() {
-        let seen = look_at(alloc, structure.level(place), states.row(place), powers)?;
+        let seen = look_at(
+            alloc,
+            structure.level(place),
+            states.opened_row(place),
+            powers,
+        )?;
         places.push(seen.places)?;
         sums.push(seen.sums)?;
     }
@@ -231,12 +237,12 @@ pub(crate) fn make_screening(
     states: &States,
     powers: &Powers,
 ) -> Result<Screening, Memory>
-    requires rows { length states.now ≡ length (levels structure.now) }
-    requires flags { FlagsFit structure.now states.now }
+    requires rows { length states.now.opened ≡ length (levels structure.now) }
+    requires flags { FlagsFit structure.now states.now.opened }
     ensures sums { IfOk result (λ kept. kept.sums
-        ≡ level_sums powers.now.listed (levels structure.now) states.now) }
+        ≡ level_sums powers.now.listed (levels structure.now) states.now.opened) }
     ensures links { IfOk result (λ kept. kept.links
-        ≡ network_links structure.now (level_places (levels structure.now) states.now)) }
+        ≡ network_links structure.now (level_places (levels structure.now) states.now.opened)) }
 {
     let all = look_at_levels(alloc, structure, states, powers)?;
     let links = list_links(alloc, structure, all.places.slice())?;

@@ -10,9 +10,10 @@ ghost use Rattle.grid_screen.specs.Listing.{Fits};
 ghost use Rattle.grid_screen.specs.Opening.{level_trips, network_trips};
 ghost use Rattle.grid_screen.specs.Walks.{AreTouched, IsTouched, hits_in};
 
-use crate::faults::{Breakers, FaultCase};
+use crate::faults::Breakers;
 use crate::scene::{Scene, set_of};
-use crate::walk::{Touched, is_operable, label_at, walk_from};
+use crate::walk::{Touched, label_at, walk_from};
+use grid_contingencies::{FaultCase, is_operable};
 use grid_core::Case;
 use grid_ids::Memory;
 use grid_json::SeenIds;
@@ -97,10 +98,10 @@ pub(crate) fn list_tripped(
     Ok(tripped)
 }
 
-/// The breakers that protection opens when a fault comes to a case, whose states have one row per level and one flag per
-/// switch of its structure: the closed operable breakers with a node in the zone, with what is out, but those that are
-/// stuck and those that are hit; by place of level, then by place there. The time is that of `zone`, and of each switch of
-/// the levels that are hit.
+/// The breakers that protection opens when a fault comes to a case, whose states have one row per level and one flag
+/// per switch of its structure: the closed operable breakers with a node in the zone, with what is out, but those that
+/// are stuck and those that are hit; by place of level, then by place there. The time is that of `zone`, and of each
+/// switch of the levels that are hit.
 pub fn tripped(alloc: Global, case: &Case, fault: &FaultCase) -> Result<Breakers, Memory>
     requires { CaseFits case.now }
     ensures { IfOk result (AreTripped case.now fault.now) }

@@ -1,7 +1,7 @@
-// A walk over what a fault hits: each level is looked at once, and each branch end that is hit leads to the others of its
-// branch.
+// A walk over what a fault hits: each level is looked at once, and each branch end that is hit leads to the others of
+// its branch.
 ghost use Rattle.std.specs.Prelude.{◌≡◌, ℕ, ◌<◌, ◌++◌, [], ◌∷◌, length, false, true, None, Some, IfOk, OnOk, IsTrue, flat_map, slice_set};
-ghost use Rattle.std.specs.List.{list_all};
+ghost use Rattle.std.specs.List.{slice_index_or};
 ghost use Rattle.grid_level.specs.Kept.{among};
 ghost use Rattle.grid_level.specs.Passing as passing;
 ghost use Rattle.grid_level.specs.Passing.{nodes};
@@ -9,25 +9,26 @@ ghost use Rattle.grid_structure.specs.Sites.{levels};
 ghost use Rattle.grid_screen.specs.Grounds as grounds;
 ghost use Rattle.grid_screen.specs.Zones as zones;
 ghost use Rattle.grid_screen.specs.Zones.{sites_of, sites_of_switch, sites_of_equipment};
-ghost use Rattle.grid_screen.specs.Walks as walks;
-ghost use Rattle.grid_screen.specs.Walks.{touched_at, label_in, hits_in, hits_by, ends_at, new_ends, IsNode, IsTouched, AreTouched, IsUntouched, CanHit, IsHitIn, Grows, IsSwitchOf, switch_place, site_of_side, IsOpen, Runs, IsSettled};
+ghost use Rattle.grid_screen.specs.Walks.{touched_at, label_by, label_in, hits_in, hits_by, waiting, AreEnds, IsNode, IsTouched, AreTouched, IsUntouched, CanList, CanHit, IsHitIn, Grows, IsSwitchOf, switch_place, site_of_side, IsOpen, Runs, IsSettled};
 
 use crate::scene::Scene;
+use grid_contingencies::is_operable;
 use grid_groups::{index_of, labels};
 use grid_ids::{Duplicate, Id, Ids, Memory};
 use grid_json::SeenIds;
-use grid_kinds::SwitchKind;
 use grid_level::{Level, Placed, Stand, Switch};
 use grid_structure::{Site, SwitchAt};
 use std::alloc::Global;
 
-/// A level of the screened state, with the label of each node: the least index of the nodes to which a fault passes from
-/// it. A label is hit or not.
+/// A level of the screened state, with the label of each node: the least index of the nodes to which a fault passes
+/// from it. A label is hit or not. By label stands the equipment of the branch ends at its nodes, so that the level is
+/// gone through once, and not again with each label that is hit.
 #[derive(Drop)]
 pub(crate) struct Touched<'a> {
     pub level: &'a Level,
     pub labels: Vec<u32>,
     pub hit: Vec<bool>,
+    pub ends: Vec<Ids>,
 }
 
 /// For each level by place what is hit of it, none where the walk was not there; and the ids of the equipment whose
@@ -36,18 +37,6 @@ pub(crate) struct Touched<'a> {
 pub(crate) struct Walk<'a> {
     pub touched: Vec<Option<Box<Touched<'a>>>>,
     pub work: Ids,
-}
-
-/// Whether the switch is a breaker that is not fictitious.
-#[tactic(auto, unfolding(grid_level::specs::Passing::is_operable, grid_level::specs::Passing::is_breaker))]
-pub(crate) fn is_operable(switch: &Switch) -> bool
-    ensures { result ≡ passing.is_operable switch.now }
-{
-    match switch.kind {
-        SwitchKind::Breaker => !switch.fictitious,
-        SwitchKind::Disconnector => false,
-        SwitchKind::LoadBreakSwitch => false,
-    }
 }
 
 // Whether a fault passes over a switch in this position.
@@ -78,16 +67,84 @@ fn fault_flags(
     )
 }
 
-// A level with these labels, of which nothing is hit.
+// The label of a node, by the labels of a level.
+fn label_among(level: &Level, labels: &[u32], node: u16) -> u32
+    requires node { IsTrue (among (nodes level.now) node) }
+    requires long { length labels.now ≡ length (nodes level.now) }
+    ensures { result ≡ label_by level.now labels.now node }
+{
+    labels[index_of(level, node) as usize]
+}
+
+// Whether it is an end of a branch.
+#[tactic(auto, unfolding(grid_level::specs::Passing::is_branch_end))]
+fn is_branch_end(placed: &Placed) -> bool
+    ensures { result ≡ passing.is_branch_end placed.now.stand }
+{
+    match placed.stand {
+        Stand::BranchEnd => true,
+        _ => false,
+    }
+}
+
+// A list of nothing for each label.
+fn empty_lists(alloc: Global, count: usize) -> Result<Vec<Ids>, Memory>
+    ensures long { IfOk result (λ lists. length lists.items ≡ count) }
+    ensures none { IfOk result (λ lists. (label : ℕ) → slice_index_or lists.items label [] ≡ []) }
+{
+    let mut lists = Vec::with_capacity(alloc, count)?;
+    for _label in 0..count {
+        lists.push(Ids::empty(alloc))?;
+    }
+    Ok(lists)
+}
+
+// Puts the equipment of a branch end last in the list of a label.
+fn push_end(ends: &mut Vec<Ids>, label: u32, placed: &Placed) -> Result<(), Memory>
+    requires { label < length ends.old.items }
+    ensures { OnOk result (ends.new.items ≡ slice_set ends.old.items label
+        (slice_index_or ends.old.items label [] ++ placed.now.terminal.equipment ∷ [])) }
+{
+    let id = placed.terminal.equipment.copy()?;
+    ends[label as usize].push(id)
+}
+
+// The equipment of those of these terminals that are branch ends, by the label of their nodes.
+fn list_ends(
+    alloc: Global,
+    level: &Level,
+    labels: &[u32],
+    placed: &[Placed],
+) -> Result<Vec<Ids>, Memory>
+    requires { CanList level.now labels.now placed.now }
+    ensures { IfOk result (λ ends. AreEnds level.now labels.now placed.now ends.items) }
+{
+    let mut ends = empty_lists(alloc, labels.len())?;
+    for placed in placed {
+        if !is_branch_end(placed) {
+            continue;
+        }
+        push_end(&mut ends, label_among(level, labels, placed.node), placed)?;
+    }
+    Ok(ends)
+}
+
+// A level with these labels and ends, of which nothing is hit.
 fn untouched<'a>(
     alloc: Global,
     level: &'a Level,
     labels: Vec<u32>,
+    ends: Vec<Ids>,
 ) -> Result<Box<Touched<'a>>, Memory>
-    ensures { IfOk result (λ t. IsUntouched level.now labels.items t.value) }
+    ensures { IfOk result (λ t. IsUntouched level.now labels.items ends.items t.value) }
 {
     let hit = vec![in alloc; false; labels.len()]?;
-    let touched = Touched { level, labels, hit };
+    let touched = Touched {
+        level,
+        labels,
+        hit,
+        ends,
+    };
     Ok(Box::new(alloc, touched)?)
 }
 
@@ -102,7 +159,8 @@ fn look<'a>(alloc: Global, scene: &Scene<'a>, place: u32) -> Result<Box<Touched<
     level.keeps();
     let flags = fault_flags(alloc, level.switches(), scene.opened(place), scene.stuck())?;
     let labels = labels(alloc, level, &flags)?;
-    untouched(alloc, level, labels)
+    let ends = list_ends(alloc, level, &labels, scene.level(place).placed())?;
+    untouched(alloc, level, labels, ends)
 }
 
 // Takes out what is hit at a place, if the walk was there.
@@ -151,63 +209,33 @@ pub(crate) fn label_at(touched: &Touched, node: u16) -> u32
     requires long { length touched.now.labels.items ≡ length (nodes touched.now.level.now) }
     ensures { result ≡ label_in touched.now node }
 {
-    touched.labels[index_of(touched.level, node) as usize]
+    label_among(touched.level, &touched.labels, node)
 }
 
-// Whether it is an end of a branch.
-#[tactic(auto, unfolding(grid_level::specs::Passing::is_branch_end))]
-fn is_branch_end(placed: &Placed) -> bool
-    ensures { result ≡ passing.is_branch_end placed.now.stand }
+// Puts these ids last.
+fn push_all(work: &mut Ids, ids: &[Id]) -> Result<(), Memory>
+    ensures { OnOk result (work.new ≡ work.old ++ ids.now) }
 {
-    match placed.stand {
-        Stand::BranchEnd => true,
-        _ => false,
-    }
-}
-
-// Whether it is an end of a branch at a node with a label.
-fn is_end_at(touched: &Touched, placed: &Placed, label: u32) -> bool
-    requires node { IsTrue (among (nodes touched.now.level.now) placed.now.node) }
-    requires long { length touched.now.labels.items ≡ length (nodes touched.now.level.now) }
-    ensures { result ≡ walks.is_end_at touched.now label placed.now }
-{
-    is_branch_end(placed) && label_at(touched, placed.node) == label
-}
-
-// Puts the equipment of the branch ends at nodes with a label last.
-fn push_ends(work: &mut Ids, touched: &Touched, placed: &[Placed], label: u32) -> Result<(), Memory>
-    requires nodes { IsTrue (list_all (λ p. among (nodes touched.now.level.now) p.node) placed.now) }
-    requires long { length touched.now.labels.items ≡ length (nodes touched.now.level.now) }
-    ensures { OnOk result (work.new ≡ work.old ++ ends_at touched.now placed.now label) }
-{
-    for placed in placed {
-        if !is_end_at(touched, placed, label) {
-            continue;
-        }
-        work.push(placed.terminal.equipment.copy()?)?;
+    for id in ids {
+        work.push(id.copy()?)?;
     }
     Ok(())
 }
 
 // Hits a node and all with its label. Where they were not hit yet, the equipment of their branch ends waits then.
-#[tactic(auto, unfolding(crate::specs::Walks::new_ends))]
-fn hit_in<'a>(
-    here: Box<Touched<'a>>,
-    node: u16,
-    placed: &[Placed],
-    work: &mut Ids,
-) -> Result<Box<Touched<'a>>, Memory>
-    requires { CanHit here.value node placed.now }
+#[tactic(auto, unfolding(crate::specs::Walks::waiting))]
+fn hit_in<'a>(here: Box<Touched<'a>>, node: u16, work: &mut Ids) -> Result<Box<Touched<'a>>, Memory>
+    requires { CanHit here.value node }
     ensures hit { IfOk result (λ t. IsHitIn here.entry.value node t.value) }
-    ensures work { OnOk result (work.new ≡ work.old ++ new_ends here.entry.value placed.now node) }
+    ensures work { OnOk result (work.new ≡ work.old ++ waiting here.entry.value node) }
 {
     let mut here = here;
-    let label = label_at(&here, node);
-    if here.hit[label as usize] {
+    let label = label_at(&here, node) as usize;
+    if here.hit[label] {
         return Ok(here);
     }
-    push_ends(work, &here, placed, label)?;
-    here.hit[label as usize] = true;
+    push_all(work, here.ends[label].slice())?;
+    here.hit[label] = true;
     Ok(here)
 }
 
@@ -219,8 +247,7 @@ fn hit<'a>(alloc: Global, scene: &Scene<'a>, walk: &mut Walk<'a>, site: Site) ->
 {
     scene.keeps();
     let here = take_touched(alloc, scene, &mut walk.touched, site.level)?;
-    let placed = scene.level(site.level).placed();
-    let here = hit_in(here, site.node, placed, &mut walk.work)?;
+    let here = hit_in(here, site.node, &mut walk.work)?;
     put_at(&mut walk.touched, site.level as usize, here);
     Ok(())
 }
@@ -333,8 +360,8 @@ fn nowhere<'a>(alloc: Global, count: u32) -> Result<Vec<Option<Box<Touched<'a>>>
     Ok(touched)
 }
 
-/// What is hit where these ids are: the sites that are joined to theirs. The time is that of a look at each level that is
-/// hit, and of a look-up for each branch end.
+/// What is hit where these ids are: the sites that are joined to theirs. The time is that of one look at each level
+/// that is hit, and of a look-up for each branch end there.
 pub(crate) fn walk_from<'a>(
     alloc: Global,
     scene: &Scene<'a>,

@@ -8,9 +8,10 @@ ghost use Rattle.grid_screen.specs.Zones.{network_sites};
 ghost use Rattle.grid_screen.specs.Listing as listing;
 ghost use Rattle.grid_screen.specs.Listing.{hit_sites};
 
-use crate::faults::{FaultCase, Zone};
+use crate::faults::Zone;
 use crate::scene::Scene;
 use crate::walk::{Touched, walk_from};
+use grid_contingencies::FaultCase;
 use grid_core::Case;
 use grid_ids::Memory;
 use grid_structure::Site;
@@ -56,11 +57,12 @@ fn list_hit(alloc: Global, scene: &Scene, touched: &[Option<Box<Touched>>]) -> R
     Ok(zone)
 }
 
-/// The zone of a fault on a case, whose states have one row per level and one flag per switch of its structure: the sites
-/// that are joined to one of a hit id, by place of level, then by node. Sites are joined by each internal connection, by
-/// each closed switch that is no operable breaker, by each operable breaker that is stuck, and by each two ends of a branch,
-/// where these are left by what is out; the sites of what is hit are those before anything is out. An id that nothing has
-/// counts for nothing. The time is that of the levels that are hit, and of a look-up for each branch end there.
+/// The zone of a fault on a case, whose states have one row per level and one flag per switch of its structure: the
+/// sites that are joined to one of a hit id, by place of level, then by node. Sites are joined by each internal
+/// connection, by each closed switch that is no operable breaker, by each operable breaker that is stuck, and by each
+/// two ends of a branch, where these are left by what is out; the sites of what is hit are those before anything is
+/// out. An id that nothing has counts for nothing. The time is that of the levels that are hit, and of a look-up for
+/// each branch end there.
 pub fn zone(alloc: Global, case: &Case, fault: &FaultCase) -> Result<Zone, Memory>
     requires { CaseFits case.now }
     ensures { IfOk result (IsZone case.now fault.now) }

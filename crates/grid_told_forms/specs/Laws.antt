@@ -1,16 +1,15 @@
 -- Laws of the lines of components and of contingencies.
-use Rattle.std.specs.Prelude.{◌≡◌, ℕ, ◌^◌, ◌<◌, Bool, List, [], ◌∷◌, ◌++◌, length, map, All}
+use Rattle.std.specs.Prelude.{◌≡◌, ℕ, ◌<◌, Bool, List, [], ◌∷◌, ◌++◌, map, All}
 use Rattle.std.specs.List.{flat_map}
 use Rattle.serde_json.specs.Data.{Data}
 use Rattle.grid_structure.specs.Network.{Network}
 use Rattle.grid_jsonl.specs.Outcomes.{lines}
 use Rattle.grid_hvdc.specs.declared.HvdcLine.{HvdcLine}
 use Rattle.grid_hvdc.specs.Lines.{variant_objects}
-use Rattle.grid_screen.specs.declared.Contingency.{Contingency}
-use Rattle.grid_screen.specs.declared.Finding.{Finding}
+use Rattle.grid_json.specs.declared.format.Format.{Format}
 use Rattle.grid_told.specs.Trees.{HasWholes}
 use Rattle.grid_told.specs.Shapes.{IsReadBack}
-use Rattle.grid_told_forms.specs.Findings.{IsFound, told_of, found_objects}
+use Rattle.grid_told_forms.specs.Findings.{Screened, IsScreened, told_of, found_objects}
 use Rattle.grid_configured.specs.Texts.{Report}
 use Rattle.grid_configured.specs.Histories.{ConfiguredHistory}
 use Rattle.grid_configured.specs.Reports.{report_after}
@@ -21,15 +20,15 @@ use Rattle.grid_told_forms.specs.Rows.{Variant, IsVariant, row_objects, rows_of}
 -- ---- contingencies
 
 abbrev pub FindingsAreReadBack : Type 0
-FindingsAreReadBack = (pairs : List (Contingency × Finding)) → length pairs < 2 ^ 64 → All IsFound pairs → All IsReadBack (found_objects 0 pairs)
+FindingsAreReadBack = (format : Format) (net : Network) (screened : List Screened) → All (IsScreened net) screened → All IsReadBack (found_objects format net screened)
 
--- between whatever first and last objects, equal lines tell equal names and findings, and equal first and last objects
+-- between whatever first and last objects, equal lines tell equal places, names and findings, and equal first and last objects
 abbrev pub FindingsAreTold : Type 0
 FindingsAreTold =
-    (first also last end : Data) (pairs others : List (Contingency × Finding)) → HasWholes first → HasWholes also → HasWholes last → HasWholes end
-    → length pairs < 2 ^ 64 → length others < 2 ^ 64 → All IsFound pairs → All IsFound others
-    → lines (first ∷ (found_objects 0 pairs ++ last ∷ [])) ≡ lines (also ∷ (found_objects 0 others ++ end ∷ []))
-    → (first ≡ also) × ((map told_of pairs ≡ map told_of others) × (last ≡ end))
+    (format later : Format) (net other : Network) (first also last end : Data) (screened others : List Screened)
+    → HasWholes first → HasWholes also → HasWholes last → HasWholes end → All (IsScreened net) screened → All (IsScreened other) others
+    → lines (first ∷ (found_objects format net screened ++ last ∷ [])) ≡ lines (also ∷ (found_objects later other others ++ end ∷ []))
+    → (first ≡ also) × ((map (told_of format net) screened ≡ map (told_of later other) others) × (last ≡ end))
 
 -- ---- components
 

@@ -2,7 +2,7 @@
 
 ghost use Rattle.grid_told_forms.specs.Laws.{BusesAreRows, ConfiguredHistoriesFit, FindingsAreReadBack, FindingsAreTold, NumbersAreReadBack, NumbersAreTold, ReportsAreReadBack, ReportsAreTold};
 
-/// The lines of contingencies are read back, and tell each contingency's name and finding.
+/// The lines of contingencies are read back, and tell each contingency's place, its name and its finding.
 pub fn findings_are_told()
     ensures read { FindingsAreReadBack }
     ensures told { FindingsAreTold }

@@ -2,10 +2,10 @@
 use Rattle.std.specs.Prelude.{◌≡◌, List, All}
 use Rattle.grid_core.specs.History.{History}
 use Rattle.grid_hvdc.specs.declared.HvdcLine.{HvdcLine}
-use Rattle.grid_screen.specs.declared.Contingency.{Contingency}
 use Rattle.grid_jsonl.specs.Outcomes.{lines}
 use Rattle.grid_cli.specs.Hvdc.{numbers_objects}
-use Rattle.grid_cli.specs.Screen.{findings_objects}
+use Rattle.grid_contingencies.specs.declared.ScreenJob.{ScreenJob}
+use Rattle.grid_cli.specs.Screen.{screened_objects}
 use Rattle.grid_told.specs.Shapes.{IsReadBack}
 use Rattle.grid_told_outputs.specs.Hvdc as hvdc
 use Rattle.grid_told_outputs.specs.Screen as screen
@@ -31,14 +31,10 @@ HvdcIsTold =
 
 -- each object is read back as those of `hvdc` are
 abbrev pub ScreenIsReadBack : Type 0
-ScreenIsReadBack =
-    (history : History) (contingencies : List Contingency) → screen.IsHeld history contingencies
-    → All IsReadBack (findings_objects history contingencies)
+ScreenIsReadBack = (history : History) (job : ScreenJob) → screen.IsHeld history job → All IsReadBack (screened_objects history job)
 
--- histories with contingencies whose lines are equal tell alike
+-- histories and jobs with contingencies whose lines are equal tell alike
 abbrev pub ScreenIsTold : Type 0
 ScreenIsTold =
-    (history other : History) (contingencies also : List Contingency)
-    → screen.IsHeld history contingencies → screen.IsHeld other also
-    → lines (findings_objects history contingencies) ≡ lines (findings_objects other also)
-    → screen.TellAlike history other contingencies also
+    (history other : History) (job also : ScreenJob) → screen.IsHeld history job → screen.IsHeld other also
+    → lines (screened_objects history job) ≡ lines (screened_objects other also) → screen.TellAlike history other job also

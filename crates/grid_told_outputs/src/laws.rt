@@ -10,7 +10,8 @@ pub fn hvdc_is_told()
 {}
 
 /// The lines of `screen` are read back, and tell how many commands there were and how many of them were refused, the
-/// first refused step, and each contingency's name and finding.
+/// first refused step, and the place, the name and the finding of each contingency that is told, with how many are left
+/// out; or that no live variant has the name.
 pub fn screen_is_told()
     ensures read { ScreenIsReadBack }
     ensures told { ScreenIsTold }

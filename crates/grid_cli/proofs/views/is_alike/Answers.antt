@@ -9,7 +9,7 @@ returns-then-same_items c =
     let one = c.args.one.powers.now.listed in
     let other = c.args.other.powers.now.listed in (
       λ t. record {
-        positions = sym c.row.ensures ∙ c.same_items.ensures.0 c.if-same_items.true ∙ c.row-2.ensures;
+        positions = sym c.opened_row.ensures ∙ c.same_items.ensures.0 c.if-same_items.true ∙ c.opened_row-2.ensures;
         watts = ap (map (watts_at one)) (sym c.placed.ensures) ∙ c.same_watts.ensures.0 t ∙ ap (map (watts_at other)) c.placed.ensures;
       },
       λ is. c.same_watts.ensures.1 (ap (map (watts_at one)) c.placed.ensures ∙ is.watts ∙ ap (map (watts_at other)) (sym c.placed.ensures)),

@@ -9,10 +9,10 @@ use Rattle.grid_cli.proofs.Shown.{row_within, shown_within, taken_over}
 use Rattle.grid_cli.proofs.views.level_view.Goals as goal
 
 pub is_alike-requires-clause-one : goal.is_alike-requires-clause-one
-is_alike-requires-clause-one c = row_within c.args.world.now c.args.name.now c.args.own.opened.now c.args.own.powers.now.listed c.args.place c.requires.own c.requires.place
+is_alike-requires-clause-one c = row_within c.args.world.now c.args.name.now c.args.own.states.now.opened c.args.own.powers.now.listed c.args.place c.requires.own c.requires.place
 
 pub is_alike-requires-clause-other : goal.is_alike-requires-clause-other
-is_alike-requires-clause-other c = row_within c.args.world.now c.args.earlier.now.name c.args.other.opened.now c.args.other.powers.now.listed c.args.place c.requires.other c.requires.place
+is_alike-requires-clause-other c = row_within c.args.world.now c.args.earlier.now.name c.args.other.states.now.opened c.args.other.powers.now.listed c.args.place c.requires.other c.requires.place
 
 pub bounds-slice-place : goal.bounds-slice-place
 bounds-slice-place c =
@@ -24,7 +24,7 @@ returns-then-is_alike c =
     let below : c.args.place < length c.slice.result.now =
     subst (λ (views : List BusView). c.args.place < length views) (sym c.slice.ensures) (shown_within c.args.world.now c.args.earlier.now c.args.place c.requires.shown c.requires.place) in
     each_ok c.copy.result c.copy.ensures
-    (λ view is. taken_over c.args.world.now c.args.name.now c.args.own.opened.now c.args.own.powers.now.listed c.args.earlier.now c.args.other.opened.now c.args.other.powers.now.listed c.args.place c.level.result.now view
+    (λ view is. taken_over c.args.world.now c.args.name.now c.args.own.states.now.opened c.args.own.powers.now.listed c.args.earlier.now c.args.other.states.now.opened c.args.other.powers.now.listed c.args.place c.level.result.now view
     c.requires.own c.requires.other c.requires.shown c.requires.place (ap (λ (net : Network). slice_get (levels net) c.args.place) (sym c.structure.ensures) ∙ c.level.ensures) (c.is_alike.ensures.0 c.if-is_alike.true)
     (ap (λ (views : List BusView). slice_get views c.args.place) (sym c.slice.ensures)
     ∙ slice_get_read c.slice.result.now (length c.slice.result.now) c.args.place c.index-slice-place.result refl below c.index-slice-place.is ∙ ap (λ (v : BusView). Some v) (sym is)))

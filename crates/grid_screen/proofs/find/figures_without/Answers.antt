@@ -15,21 +15,21 @@ use Rattle.grid_screen.proofs.find.figures_without.Goals as goal
 use Rattle.grid_screen.proofs.find.figures_without.Goals.{After-deref-5}
 
 pub find_changes-requires-clause-rows : goal.find_changes-requires-clause-rows
-find_changes-requires-clause-rows c = rows_of_levels c.args.case.now.structure c.args.case.now.states c.requires.fits
+find_changes-requires-clause-rows c = rows_of_levels c.args.case.now.structure c.args.case.now.states.opened c.requires.fits
 
 pub find_changes-requires-clause-flags : goal.find_changes-requires-clause-flags
-find_changes-requires-clause-flags c = flags_fit c.args.case.now.structure c.args.case.now.states c.requires.fits
+find_changes-requires-clause-flags c = flags_fit c.args.case.now.structure c.args.case.now.states.opened c.requires.fits
 
 pub list_present-requires : goal.list_present-requires
 list_present-requires c =
     let case = c.args.case.now in
-    ap length c.deref.ensures.value ∙ c.in_ok-changes.ensures.long ∙ sym (ap length (c.slice.ensures ∙ c.requires.kept.sums) ∙ kept_long case.powers.listed (levels case.structure) case.states)
+    ap length c.deref.ensures.value ∙ c.in_ok-changes.ensures.long ∙ sym (ap length (c.slice.ensures ∙ c.requires.kept.sums) ∙ kept_long case.powers.listed (levels case.structure) case.states.opened)
 
 pub list_pairs-requires-clause-long : goal.list_pairs-requires-clause-long
 list_pairs-requires-clause-long c =
     let case = c.args.case.now in
     let kept = c.slice.result.now in
-    let n = ap length (c.slice.ensures ∙ c.requires.kept.sums) ∙ kept_long case.powers.listed (levels case.structure) case.states in
+    let n = ap length (c.slice.ensures ∙ c.requires.kept.sums) ∙ kept_long case.powers.listed (levels case.structure) case.states.opened in
     ap length c.deref-2.ensures.value ∙ long_places (length kept) (λ place. length (sums_before kept c.deref.result.now place)) c.in_ok-present.present.firsts.items c.in_ok-present.ensures.firsts
     ∙ n ∙ sym (ap length c.deref-3.ensures.value ∙ c.in_ok-changes.ensures.long)
 
@@ -37,7 +37,7 @@ pub list_pairs-requires-clause-links : goal.list_pairs-requires-clause-links
 list_pairs-requires-clause-links c =
     let case = c.args.case.now in
     let many = sym (ap length c.deref-3.ensures.value ∙ c.in_ok-changes.ensures.long) in
-    let rows = level_places (levels case.structure) case.states in
+    let rows = level_places (levels case.structure) case.states.opened in
     subst (λ z. LinksFit (length c.deref-3.result.now) z) (sym (c.slice-2.ensures ∙ c.requires.kept.links)) (subst (λ z. LinksFit z (network_links case.structure rows)) many (links_there case.structure rows))
 
 found : (c : After-deref-5) (retained : List (List Bool)) → Screens (state_in c.args.case.now retained) c.args.ids.now c.deref-4.result.now c.deref-5.result.now
@@ -46,9 +46,9 @@ found c retained =
     let net = case.structure in
     let kept = c.slice.result.now in
     let changes = c.in_ok-changes.changes.items in
-    let sums = level_sums case.powers.listed (levels net) case.states in
+    let sums = level_sums case.powers.listed (levels net) case.states.opened in
     let is_kept = c.slice.ensures ∙ c.requires.kept.sums in
-    let n = ap length is_kept ∙ kept_long case.powers.listed (levels net) case.states in
+    let n = ap length is_kept ∙ kept_long case.powers.listed (levels net) case.states.opened in
     let shown = c.deref.ensures.value in
     screens (state_in case retained) c.args.ids.now changes c.deref-2.result.now c.deref-4.result.now c.deref-5.result.now c.keeps.ensures c.in_ok-changes.ensures
     (c.deref-2.ensures.value ∙ c.in_ok-present.ensures.firsts ∙ ap (λ z. map (λ (place : ℕ). length (sums_before kept z place)) (places (length kept))) shown

@@ -3,7 +3,7 @@ use Rattle.grid_core.proofs.Looking.{flags_fit}
 use Rattle.grid_screen.proofs.find.screening_of.Goals as goal
 
 pub make_screening-requires-clause-rows : goal.make_screening-requires-clause-rows
-make_screening-requires-clause-rows c = rows_of_levels c.args.case.now.structure c.args.case.now.states c.requires
+make_screening-requires-clause-rows c = rows_of_levels c.args.case.now.structure c.args.case.now.states.opened c.requires
 
 pub make_screening-requires-clause-flags : goal.make_screening-requires-clause-flags
-make_screening-requires-clause-flags c = flags_fit c.args.case.now.structure c.args.case.now.states c.requires
+make_screening-requires-clause-flags c = flags_fit c.args.case.now.structure c.args.case.now.states.opened c.requires

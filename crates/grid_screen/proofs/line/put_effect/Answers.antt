@@ -1,7 +1,9 @@
 use Rattle.std.proofs.Common.{append_assoc, append-nil}
+use Rattle.grid_screen.specs.Lines.{effect_fields}
 use Rattle.grid_screen.proofs.line.put_effect.Goals as goal
 
 pub returns-clause-ok : goal.returns-clause-ok
+unfolding effect_fields
 returns-clause-ok c =
     let a = c.in_ok-put_number.ensures.ok in
     let b = c.in_ok-put_number-2.ensures.ok in

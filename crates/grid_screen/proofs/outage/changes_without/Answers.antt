@@ -5,4 +5,4 @@ use Rattle.grid_screen.proofs.outage.changes_without.Goals as goal
 
 pub put_all_out-requires : goal.put_all_out-requires
 put_all_out-requires c =
-    none_shows (levels c.args.structure.now) c.args.states.now c.in_ok-changes.changes.items (c.in_ok-changes.ensures.long ∙ c.level_count.ensures) c.requires.rows c.in_ok-changes.ensures.none c.requires.flags
+    none_shows (levels c.args.structure.now) c.args.states.now.opened c.in_ok-changes.changes.items (c.in_ok-changes.ensures.long ∙ c.level_count.ensures) c.requires.rows c.in_ok-changes.ensures.none c.requires.flags

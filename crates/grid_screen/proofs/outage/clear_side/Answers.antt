@@ -12,11 +12,11 @@ pub returns-in-None : goal.returns-in-None
 returns-in-None c =
     let net = c.args.structure.now in
     let ls = shown_levels c.args.changes.now.items (levels net) in
-    let rows = shown_rows c.args.changes.now.items c.args.states.now in
+    let rows = shown_rows c.args.changes.now.items c.args.states.now.opened in
     let id = c.args.at.0.now in
     let side = c.args.at.1 in
     let none = no_site (site net id side) (sym c.in-None.is ∙ c.site.ensures) in
-    shows_as (levels net) c.args.states.now c.args.changes.now.items ls (cleared_side net id side ls) rows rows c.requires (sym (none_cleared net id side ls none)) refl
+    shows_as (levels net) c.args.states.now.opened c.args.changes.now.items ls (cleared_side net id side ls) rows rows c.requires (sym (none_cleared net id side ls none)) refl
 
 pub take_standing-requires-clause-place : goal.take_standing-requires-clause-place
 take_standing-requires-clause-place c =
@@ -35,17 +35,17 @@ returns c =
     let id = c.args.at.0.now in
     let side = c.args.at.1 in
     let ls = shown_levels changes (levels net) in
-    let rows = shown_rows changes c.args.states.now in
+    let rows = shown_rows changes c.args.states.now.opened in
     let k = c.in-Some.site.level in
     let found = at_site (site net id side) c.in-Some.site (sym c.in-Some.is ∙ c.site.ensures) in
     let inside = site_inside net id side k c.in-Some.site.node found in
     let taken = c.in_ok-taken.taken in
     let box = c.in_ok-cleared.cleared in
     let new = c.put_at.new.changes.items in
-    let done = cleared_shows (levels net) c.args.states.now changes new ls rows c.requires k inside taken.value.level c.in_ok-taken.ensures.level id taken.value.opened c.in_ok-taken.ensures.opened (record {
+    let done = cleared_shows (levels net) c.args.states.now.opened changes new ls rows c.requires k inside taken.value.level c.in_ok-taken.ensures.level id taken.value.opened c.in_ok-taken.ensures.opened (record {
       box = box;
       level_is = c.in_ok-cleared.ensures.level;
       opened_is = c.in_ok-cleared.ensures.opened;
       is = c.put_at.ensures ∙ ap (λ z. slice_set z k (Some box)) c.in_ok-taken.ensures.left ∙ set_over changes k None (Some box);
     }) in
-    shows_as (levels net) c.args.states.now new _ (cleared_side net id side ls) rows rows done (sym (side_cleared net id side k c.in-Some.site.node ls found)) refl
+    shows_as (levels net) c.args.states.now.opened new _ (cleared_side net id side ls) rows rows done (sym (side_cleared net id side k c.in-Some.site.node ls found)) refl

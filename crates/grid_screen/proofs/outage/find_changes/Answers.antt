@@ -4,9 +4,9 @@ use Rattle.grid_screen.proofs.Shown.{all_fit, all_looked}
 use Rattle.grid_screen.proofs.outage.find_changes.Goals as goal
 
 pub look_at_all-requires : goal.look_at_all-requires
-look_at_all-requires c = all_fit (levels c.args.structure.now) c.args.states.now c.in_ok-changes.changes.items _ _ c.in_ok-changes.ensures
+look_at_all-requires c = all_fit (levels c.args.structure.now) c.args.states.now.opened c.in_ok-changes.changes.items _ _ c.in_ok-changes.ensures
 
 pub returns : goal.returns
 returns c =
     let net = c.args.structure.now in
-    all_looked c.args.powers.now.listed (levels net) c.args.states.now c.in_ok-changes.changes.items c.look_at_all.new.changes.items (levels_after net c.args.ids.now (levels net)) (rows_after net c.args.ids.now c.args.states.now) c.in_ok-changes.ensures c.in_ok-look_at_all.ensures
+    all_looked c.args.powers.now.listed (levels net) c.args.states.now.opened c.in_ok-changes.changes.items c.look_at_all.new.changes.items (levels_after net c.args.ids.now (levels net)) (rows_after net c.args.ids.now c.args.states.now.opened) c.in_ok-changes.ensures c.in_ok-look_at_all.ensures

@@ -20,7 +20,7 @@ returns c =
     let k = c.args.at.level in
     let taken = c.in_ok-taken.taken in
     let box = c.with_open.result in
-    opened_shows (levels net) c.args.states.now changes c.put_at.new.changes.items (shown_levels changes (levels net)) (shown_rows changes c.args.states.now) c.requires.shows k c.requires.level taken.value.level c.in_ok-taken.ensures.level taken.value.opened c.args.at.place c.in_ok-taken.ensures.opened (record {
+    opened_shows (levels net) c.args.states.now.opened changes c.put_at.new.changes.items (shown_levels changes (levels net)) (shown_rows changes c.args.states.now.opened) c.requires.shows k c.requires.level taken.value.level c.in_ok-taken.ensures.level taken.value.opened c.args.at.place c.in_ok-taken.ensures.opened (record {
       box = box;
       level_is = c.with_open.ensures.level;
       opened_is = c.with_open.ensures.opened;

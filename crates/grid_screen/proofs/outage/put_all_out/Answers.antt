@@ -28,13 +28,13 @@ loop-id-preserved-then-not-branch c =
     let has = sym (inv.known id) ∙ told _ (has_id c.loop-id.seen id) c.in_ok-add.ensures.new c.if-not-branch.true in
     record {
       known = knows_more c.loop-id.seen c.add.new.self ids i id lt c.id-item.is inv.known c.in_ok-add.ensures.known;
-      shows = shows_as (levels net) c.args.states.now c.loop-id.changes.items _ (levels_after net (take (i + 1) ids) (levels net)) _ (rows_after net (take (i + 1) ids) c.args.states.now) inv.shows
+      shows = shows_as (levels net) c.args.states.now.opened c.loop-id.changes.items _ (levels_after net (take (i + 1) ids) (levels net)) _ (rows_after net (take (i + 1) ids) c.args.states.now.opened) inv.shows
           (sym (levels_again net (take i ids) (levels net) id has) ∙ all_more (levels_with_out net) (levels net) ids i id lt c.id-item.is)
-          (sym (rows_again net (take i ids) c.args.states.now id has) ∙ all_more (rows_with_out net) c.args.states.now ids i id lt c.id-item.is);
+          (sym (rows_again net (take i ids) c.args.states.now.opened id has) ∙ all_more (rows_with_out net) c.args.states.now.opened ids i id lt c.id-item.is);
     }
 
 pub put_out-requires : goal.put_out-requires
-put_out-requires c = shown_so (levels c.args.structure.now) c.args.states.now c.loop-id.changes.items _ _ c.loop-id.invariant.shows
+put_out-requires c = shown_so (levels c.args.structure.now) c.args.states.now.opened c.loop-id.changes.items _ _ c.loop-id.invariant.shows
 
 pub loop-id-preserved : goal.loop-id-preserved
 unfolding levels_after rows_after
@@ -47,9 +47,9 @@ loop-id-preserved c =
     let lt = c.loop-id-test.true in
     record {
       known = knows_more c.loop-id.seen c.add.new.self ids i id lt c.id-item.is inv.known c.in_ok-add.ensures.known;
-      shows = shows_as (levels net) c.args.states.now c.put_out.new.changes.items _ (levels_after net (take (i + 1) ids) (levels net)) _ (rows_after net (take (i + 1) ids) c.args.states.now) c.in_ok-put_out.ensures
+      shows = shows_as (levels net) c.args.states.now.opened c.put_out.new.changes.items _ (levels_after net (take (i + 1) ids) (levels net)) _ (rows_after net (take (i + 1) ids) c.args.states.now.opened) c.in_ok-put_out.ensures
           (ap (λ z. levels_with_out net z id) inv.shows.levels_are ∙ all_more (levels_with_out net) (levels net) ids i id lt c.id-item.is)
-          (ap (λ z. rows_with_out net z id) inv.shows.rows_are ∙ all_more (rows_with_out net) c.args.states.now ids i id lt c.id-item.is);
+          (ap (λ z. rows_with_out net z id) inv.shows.rows_are ∙ all_more (rows_with_out net) c.args.states.now.opened ids i id lt c.id-item.is);
     }
 
 pub returns : goal.returns
@@ -57,5 +57,5 @@ returns c =
     let net = c.args.structure.now in
     let ids = c.args.ids.now in
     let all = take_all c.loop-id.id-index ids c.loop-id-test.false in
-    shows_as (levels net) c.args.states.now c.loop-id.changes.items _ (levels_after net ids (levels net)) _ (rows_after net ids c.args.states.now) c.loop-id.invariant.shows
-    (ap (λ z. levels_after net z (levels net)) all) (ap (λ z. rows_after net z c.args.states.now) all)
+    shows_as (levels net) c.args.states.now.opened c.loop-id.changes.items _ (levels_after net ids (levels net)) _ (rows_after net ids c.args.states.now.opened) c.loop-id.invariant.shows
+    (ap (λ z. levels_after net z (levels net)) all) (ap (λ z. rows_after net z c.args.states.now.opened) all)

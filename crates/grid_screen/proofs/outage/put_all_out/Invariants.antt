@@ -7,5 +7,5 @@ use Rattle.grid_screen.proofs.outage.put_all_out.Given as goal
 abbrev pub invariant-loop-id : goal.invariant-loop-id
 invariant-loop-id l = record {
   known : Knows l.seen (take l.id-index l.ids);
-  shows : Shows (levels l.structure) l.states l.changes.items (levels_after l.structure (take l.id-index l.ids) (levels l.structure)) (rows_after l.structure (take l.id-index l.ids) l.states);
+  shows : Shows (levels l.structure) l.states.opened l.changes.items (levels_after l.structure (take l.id-index l.ids) (levels l.structure)) (rows_after l.structure (take l.id-index l.ids) l.states.opened);
 }

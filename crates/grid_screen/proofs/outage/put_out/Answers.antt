@@ -26,11 +26,11 @@ returns-in-Some c =
     let id = c.args.id.now in
     let new = c.open_switch.new.changes.items in
     let ls = shown_levels c.args.changes.now.items (levels net) in
-    let rows = shown_rows c.args.changes.now.items c.args.states.now in
+    let rows = shown_rows c.args.changes.now.items c.args.states.now.opened in
     let at = c.in-Some.at in
     let out = switch_out net id at.level at.place ls rows (from_spot (find_switch net id) at (sym c.in-Some.is ∙ c.find_switch.ensures)) in
     on_ok_weaker c.open_switch.result
-    (λ s. shows_as (levels net) c.args.states.now new ls (levels_with_out net ls id) _ (rows_with_out net rows id) s (sym out.0) (sym out.1)) c.open_switch.ensures
+    (λ s. shows_as (levels net) c.args.states.now.opened new ls (levels_with_out net ls id) _ (rows_with_out net rows id) s (sym out.0) (sym out.1)) c.open_switch.ensures
 
 pub returns-in-None : goal.returns-in-None
 returns-in-None c =
@@ -38,7 +38,7 @@ returns-in-None c =
     let id = c.args.id.now in
     let new = c.take_out.new.changes.items in
     let ls = shown_levels c.args.changes.now.items (levels net) in
-    let rows = shown_rows c.args.changes.now.items c.args.states.now in
+    let rows = shown_rows c.args.changes.now.items c.args.states.now.opened in
     let out = equipment_out net id ls rows (from_nowhere (find_switch net id) (sym c.in-None.is ∙ c.find_switch.ensures)) in
     on_ok_weaker c.take_out.result
-    (λ s. shows_as (levels net) c.args.states.now new _ (levels_with_out net ls id) rows (rows_with_out net rows id) s (sym out.0) (sym out.1)) c.take_out.ensures
+    (λ s. shows_as (levels net) c.args.states.now.opened new _ (levels_with_out net ls id) rows (rows_with_out net rows id) s (sym out.0) (sym out.1)) c.take_out.ensures

@@ -17,7 +17,7 @@ pub returns-in-Some-clause-opened : goal.returns-in-Some-clause-opened
 returns-in-Some-clause-opened c =
     let changes = c.args.changes.now.items in
     let here : change_at changes c.args.place ≡ Some c.in-Some.changed = sym c.take_at.ensures.taken ∙ c.in-Some.is in
-    sym (row_changed changes c.args.states.now c.args.place c.in-Some.changed (c.requires.changes ∙ sym c.requires.rows) here)
+    sym (row_changed changes c.args.states.now.opened c.args.place c.in-Some.changed (c.requires.changes ∙ sym c.requires.rows) here)
 
 pub returns-in-None-clause-level : goal.returns-in-None-clause-level
 returns-in-None-clause-level c =
@@ -31,8 +31,8 @@ returns-in-None-clause-level c =
 pub returns-in-None-clause-opened : goal.returns-in-None-clause-opened
 returns-in-None-clause-opened c =
     let changes = c.args.changes.now.items in
-    let rows = c.args.states.now in
+    let rows = c.args.states.now.opened in
     let k = c.args.place in
     let here : change_at changes k ≡ None = sym c.take_at.ensures.taken ∙ c.in-None.is in
-    IfOk-weaker c.standing.result (λ s. s.value.opened ≡ c.row.result.now) (λ s. s.value.opened ≡ row_at (shown_rows changes rows) k)
-    (λ s e. e ∙ c.row.ensures ∙ sym (row_kept changes rows k (c.requires.changes ∙ sym c.requires.rows) here)) c.standing.ensures.opened
+    IfOk-weaker c.standing.result (λ s. s.value.opened ≡ c.opened_row.result.now) (λ s. s.value.opened ≡ row_at (shown_rows changes rows) k)
+    (λ s e. e ∙ c.opened_row.ensures ∙ sym (row_kept changes rows k (c.requires.changes ∙ sym c.requires.rows) here)) c.standing.ensures.opened

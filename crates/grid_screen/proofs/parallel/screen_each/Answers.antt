@@ -3,7 +3,7 @@ use Rattle.std.proofs.Crossing.{crosses, frees}
 use denote.Param.Send.{sendable}
 use Rattle.grid_core.proofs.case.Case.TheSendSync as case
 use Rattle.grid_ids.proofs.copies.Memory.TheSendSync as memory
-use Rattle.grid_screen.proofs.Contingency.TheSendSync as contingency
+use Rattle.grid_contingencies.proofs.Contingency.TheSendSync as contingency
 use Rattle.grid_screen.proofs.Figures.TheSendSync as figures
 use Rattle.grid_screen.proofs.Finding.TheSendSync as finding
 use Rattle.grid_screen.proofs.screening.Screening.TheSendSync as kept
@@ -12,9 +12,10 @@ use Rattle.std.specs.List.{AllZip}
 use Rattle.std.specs.Prelude.{IfOk}
 use Rattle.rayon.proofs.ToStd.{slice-AllZip}
 use Rattle.grid_ids.specs.declared.copies.Memory.{Memory}
-use Rattle.grid_screen.specs.declared.Contingency.{Contingency}
+use Rattle.grid_contingencies.specs.declared.Contingency.{Contingency}
 use Rattle.grid_screen.specs.declared.Finding.{Finding}
-use Rattle.grid_screen.specs.Findings.{state_in, finding_of, IsFinding}
+use Rattle.grid_screen.specs.Findings.{state_in}
+use Rattle.grid_screen.specs.Found.{finding_of, IsFinding}
 use Rattle.grid_screen.specs.Outages.{state_without}
 use Rattle.grid_report.proofs.Parted.{all_right}
 use Rattle.grid_screen.proofs.Threaded.{weaker}

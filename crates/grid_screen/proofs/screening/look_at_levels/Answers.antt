@@ -18,16 +18,16 @@ pub loop-place-preserved : goal.loop-place-preserved
 loop-place-preserved c =
     let all = levels c.args.structure.now in
     let listed = c.args.powers.now.listed in
-    let rows = c.args.states.now in
+    let rows = c.args.states.now.opened in
     let k = c.loop-place.place in
     let level = c.level.result.now in
     let at = sym (level_at all k level (k, level) c.level.ensures) in
     let inside = level_within all k level c.level.ensures in
     record {
       places = c.in_ok-push.ensures.ok ∙ map_next (λ at. (node_buses_of (positioned at.1 (row_at rows at.0))).places) (enumerate_from 0 all) k (k, level) c.loop-place.places _ inside at c.loop-place.invariant.places
-          (c.in_ok-seen.ensures.places ∙ ap (λ z. (node_buses_of (positioned level z)).places) c.row.ensures);
+          (c.in_ok-seen.ensures.places ∙ ap (λ z. (node_buses_of (positioned level z)).places) c.opened_row.ensures);
       sums = c.in_ok-push-2.ensures.ok ∙ map_next (λ at. sums_of listed at.1 (row_at rows at.0)) (enumerate_from 0 all) k (k, level) c.loop-place.sums _ inside at c.loop-place.invariant.sums
-          (c.in_ok-seen.ensures.sums ∙ ap (sums_of listed level) c.row.ensures);
+          (c.in_ok-seen.ensures.sums ∙ ap (sums_of listed level) c.opened_row.ensures);
     }
 
 pub returns-clause-places : goal.returns-clause-places
@@ -35,11 +35,11 @@ unfolding level_places
 returns-clause-places c =
     let all = levels c.args.structure.now in
     let end : c.loop-place.place ≡ length all = omega (arith, c.loop-place-test.false, c.loop-place.auto.place-end, c.level_count-place-end.ensures) in
-    c.loop-place.invariant.places ∙ ap (map (λ at. (node_buses_of (positioned at.1 (row_at c.args.states.now at.0))).places)) (take_all c.loop-place.place (enumerate_from 0 all) (omega (arith, end, length-enumerate_from 0 all)))
+    c.loop-place.invariant.places ∙ ap (map (λ at. (node_buses_of (positioned at.1 (row_at c.args.states.now.opened at.0))).places)) (take_all c.loop-place.place (enumerate_from 0 all) (omega (arith, end, length-enumerate_from 0 all)))
 
 pub returns-clause-sums : goal.returns-clause-sums
 unfolding level_sums
 returns-clause-sums c =
     let all = levels c.args.structure.now in
     let end : c.loop-place.place ≡ length all = omega (arith, c.loop-place-test.false, c.loop-place.auto.place-end, c.level_count-place-end.ensures) in
-    c.loop-place.invariant.sums ∙ ap (map (λ at. sums_of c.args.powers.now.listed at.1 (row_at c.args.states.now at.0))) (take_all c.loop-place.place (enumerate_from 0 all) (omega (arith, end, length-enumerate_from 0 all)))
+    c.loop-place.invariant.sums ∙ ap (map (λ at. sums_of c.args.powers.now.listed at.1 (row_at c.args.states.now.opened at.0))) (take_all c.loop-place.place (enumerate_from 0 all) (omega (arith, end, length-enumerate_from 0 all)))

@@ -9,6 +9,6 @@ use Rattle.grid_screen.proofs.screening.look_at_levels.Given as goal
 
 abbrev pub invariant-loop-place : goal.invariant-loop-place
 invariant-loop-place l = record {
-  places : l.places ≡ map (λ at. (node_buses_of (positioned at.1 (row_at l.states at.0))).places) (take l.place (enumerate_from 0 (levels l.structure)));
-  sums : l.sums ≡ map (λ at. sums_of l.powers.listed at.1 (row_at l.states at.0)) (take l.place (enumerate_from 0 (levels l.structure)));
+  places : l.places ≡ map (λ at. (node_buses_of (positioned at.1 (row_at l.states.opened at.0))).places) (take l.place (enumerate_from 0 (levels l.structure)));
+  sums : l.sums ≡ map (λ at. sums_of l.powers.listed at.1 (row_at l.states.opened at.0)) (take l.place (enumerate_from 0 (levels l.structure)));
 }

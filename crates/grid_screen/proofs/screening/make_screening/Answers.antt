@@ -13,4 +13,4 @@ pub list_links-requires : goal.list_links-requires
 unfolding level_places
 list_links-requires c =
     let all = levels c.args.structure.now in
-    ap length (c.slice.ensures ∙ c.in_ok-all.ensures.places) ∙ length-map (enumerate_from 0 all) (λ at. (node_buses_of (positioned at.1 (row_at c.args.states.now at.0))).places) ∙ length-enumerate_from 0 all
+    ap length (c.slice.ensures ∙ c.in_ok-all.ensures.places) ∙ length-map (enumerate_from 0 all) (λ at. (node_buses_of (positioned at.1 (row_at c.args.states.now.opened at.0))).places) ∙ length-enumerate_from 0 all

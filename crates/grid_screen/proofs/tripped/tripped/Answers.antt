@@ -2,7 +2,6 @@ use Rattle.std.proofs.Common.{◌≡◌, sym, ap, ◌∙◌, subst, List, ℕ}
 use Rattle.std.specs.Prelude.{flat_map}
 use Rattle.std.proofs.lemmas.Result.{IfOk-weaker}
 use Rattle.grid_json.specs.Seen.{Knows}
-use Rattle.grid_structure.specs.declared.SwitchAt.{SwitchAt}
 use Rattle.grid_screen.specs.Faults.{AreTripped}
 use Rattle.grid_screen.specs.Opening.{network_trips}
 use Rattle.grid_screen.specs.Walks.{AreTouched, IsSettled}

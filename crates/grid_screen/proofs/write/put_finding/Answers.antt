@@ -9,5 +9,5 @@ pub returns-clause-ok : goal.returns-clause-ok
 unfolding screen_line
 returns-clause-ok c =
     on_ok_weaker c.put-4.result
-    (five_puts c.args.out.now c.put.new.self c.put-2.new.self c.put-3.new.self c.put_found.new.out c.put-4.new.self (codes "contingency ") c.args.contingency.now.name (codes ": ") (finding_text c.args.finding.now) (codes "\n")
+    (five_puts c.args.out.now c.put.new.self c.put-2.new.self c.put-3.new.self c.put_found.new.out c.put-4.new.self (codes "contingency ") c.args.name.now (codes ": ") (finding_text c.args.telling.now.format c.args.telling.now.structure.now c.args.finding.now) (codes "\n")
     c.in_ok-put.ensures.ok (c.in_ok-put-2.ensures.ok ∙ ap (λ t. c.put.new.self ++ t) c.text.ensures.text) c.in_ok-put-3.ensures.ok c.in_ok-put_found.ensures.ok) c.put-4.ensures.ok

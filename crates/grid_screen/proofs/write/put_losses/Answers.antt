@@ -9,5 +9,5 @@ pub returns-clause-ok : goal.returns-clause-ok
 unfolding losses_text
 returns-clause-ok c =
     on_ok_weaker c.put_signed-2.result
-    (four_puts c.args.out.now c.put.new.self c.put_signed.new.self c.put-2.new.self c.put_signed-2.new.self (codes ", lost load ") (signed c.args.load.now) (codes ", lost generation ") (signed c.args.generation.now)
+    (four_puts c.args.out.now c.put.new.self c.put_signed.new.self c.put-2.new.self c.put_signed-2.new.self (codes ", lost load ") (signed c.args.losses.now.load) (codes ", lost generation ") (signed c.args.losses.now.generation)
     c.in_ok-put.ensures.ok c.in_ok-put_signed.ensures.ok c.in_ok-put-2.ensures.ok) c.put_signed-2.ensures.ok

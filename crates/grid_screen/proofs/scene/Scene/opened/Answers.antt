@@ -6,8 +6,8 @@ use Rattle.grid_screen.specs.Grounds.{Ground}
 use Rattle.grid_screen.proofs.Shown.{changed_at, row_changed, row_kept}
 use Rattle.grid_screen.proofs.scene.Scene.opened.Goals as goal
 
-pub row-requires : goal.row-requires
-row-requires c =
+pub opened_row-requires : goal.opened_row-requires
+opened_row-requires c =
     let few = ap (λ (z : Ground). length (levels z.net)) c.self.view_is in
     omega (arith, c.requires, few, c.self.invariant.0, c.self.invariant.1)
 
@@ -16,11 +16,11 @@ returns-in-Some c =
     let changes = c.self.inside.changes.items in
     let few = ap (λ (z : Ground). length (levels z.net)) c.self.view_is in
     let here = changed_at changes c.args.place c.index.result.now (omega (arith, c.requires, few, c.self.invariant.0)) c.index.ensures ∙ c.in-Some.is in
-    c.slice.ensures ∙ ap (λ (z : Changed). z.opened) c.deref.ensures ∙ sym (row_changed changes c.self.inside.states.now c.args.place c.in-Some.changed (c.self.invariant.0 ∙ sym c.self.invariant.1) here) ∙ ap (λ (z : Ground). row_at z.opened c.args.place) c.self.view_is
+    c.slice.ensures ∙ ap (λ (z : Changed). z.opened) c.deref.ensures ∙ sym (row_changed changes c.self.inside.states.now.opened c.args.place c.in-Some.changed (c.self.invariant.0 ∙ sym c.self.invariant.1) here) ∙ ap (λ (z : Ground). row_at z.opened c.args.place) c.self.view_is
 
 pub returns-in-None : goal.returns-in-None
 returns-in-None c =
     let changes = c.self.inside.changes.items in
     let few = ap (λ (z : Ground). length (levels z.net)) c.self.view_is in
     let here = changed_at changes c.args.place c.index.result.now (omega (arith, c.requires, few, c.self.invariant.0)) c.index.ensures ∙ c.in-None.is in
-    c.row.ensures ∙ sym (row_kept changes c.self.inside.states.now c.args.place (c.self.invariant.0 ∙ sym c.self.invariant.1) here) ∙ ap (λ (z : Ground). row_at z.opened c.args.place) c.self.view_is
+    c.opened_row.ensures ∙ sym (row_kept changes c.self.inside.states.now.opened c.args.place (c.self.invariant.0 ∙ sym c.self.invariant.1) here) ∙ ap (λ (z : Ground). row_at z.opened c.args.place) c.self.view_is

@@ -1,0 +1,11 @@
+pub mod Alone
+pub mod Bused
+pub mod Disconnecting
+pub mod InBuses
+pub mod Lesser
+pub mod Lost
+pub mod Saying
+pub mod Scanned
+pub mod Summed
+pub mod Told
+pub mod Unconnected

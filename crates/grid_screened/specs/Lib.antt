@@ -1,0 +1,4 @@
+pub mod Unconnected
+pub mod Said
+pub mod Disconnecting
+pub mod Laws

@@ -1,0 +1,4 @@
+//! Laws of what screening finds and tells.
+#![tactic(auto)]
+
+pub mod laws;
