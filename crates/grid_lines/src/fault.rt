@@ -5,9 +5,10 @@ ghost use Rattle.grid_lines.specs.Told.{told_number};
 
 use crate::look::{Job, Seen};
 use crate::not_json::{NotJson, not_json};
+use crate::sentence::Shown;
 use crate::told::why_seen;
-use crate::why::{Why, why_of};
-use crate::wrong_words::{WrongWords, file_hint, wrong_words};
+use crate::why::Why;
+use crate::wrong_words::{WrongWords, wrong_words};
 use grid_forms::{Form, Status, read_words};
 use grid_json::{Place, Reason};
 use std::alloc::{AllocError, Global};
@@ -88,6 +89,23 @@ fn step_of(place: &str) -> Option<(usize, usize)> {
     Some((worker, position.saturating_add(1)))
 }
 
+/// The step of a command with its word, in words.
+fn step_told(
+    alloc: Global,
+    job: &mut Job<'_>,
+    command: usize,
+    worker: usize,
+    step: usize,
+) -> Result<String, AllocError> {
+    if let Some(member) = job.member(command, "do") {
+        if let Some(word) = job.text(member) {
+            let word = Shown(word);
+            return format!(in alloc; " (step {step} of worker {worker}, `{word}`)");
+        }
+    }
+    format!(in alloc; " (step {step} of worker {worker})")
+}
+
 /// Whose fault it is, in words: the command's, by its step, or else the object's, by its id.
 fn owner_of(
     alloc: Global,
@@ -95,16 +113,15 @@ fn owner_of(
     seen: &Seen<'_>,
     place: &str,
 ) -> Result<String, AllocError> {
-    let (Some(command), Some((worker, step))) = (seen.command, step_of(place)) else {
-        return match job.shown(alloc, seen.owner)? {
-            Some(id) => format!(in alloc; " of `{id}`"),
-            None => Ok(String::new(alloc)),
-        };
+    if let (Some(command), Some((worker, step))) = (seen.command, step_of(place)) {
+        return step_told(alloc, job, command, worker, step);
+    }
+    let Some(owner) = seen.owner else {
+        return Ok(String::new(alloc));
     };
-    let word = job.member(command, "do");
-    match job.shown(alloc, word)? {
-        Some(word) => format!(in alloc; " (step {step} of worker {worker}, `{word}`)"),
-        None => format!(in alloc; " (step {step} of worker {worker})"),
+    match job.text(owner) {
+        Some(id) => format!(in alloc; " of `{}`", Shown(id)),
+        None => Ok(String::new(alloc)),
     }
 }
 
@@ -123,17 +140,18 @@ fn seen_in(
     place: &Place,
     reason: &Reason,
     input: &[u8],
-) -> Result<(Option<Why>, String), AllocError> {
+) -> Result<Option<(Option<String>, String)>, AllocError> {
     let Ok(text) = std::str::from_utf8(input) else {
-        return Ok((None, String::new(alloc)));
+        return Ok(None);
     };
     let mut job = Job::new(alloc, text);
     let there = place_there(place.text(), reason);
     let Some(seen) = Seen::at(alloc, &mut job, form, there)? else {
-        return Ok((None, String::new(alloc)));
+        return Ok(None);
     };
     let owner = owner_of(alloc, &mut job, &seen, there)?;
-    Ok((why_seen(alloc, &mut job, &seen, reason)?, owner))
+    let why = why_seen(alloc, &mut job, &seen, reason)?;
+    Ok(Some((why, owner)))
 }
 
 /// What is told of a job's first fault.
@@ -141,12 +159,12 @@ fn bad_job(alloc: Global, form: Option<Form>, place: Place, reason: Reason, inpu
     ensures { told_number result ≡ 6 }
 {
     let (why, owner) = match seen_in(alloc, form, &place, &reason, input) {
-        Ok(seen) => seen,
-        Err(_) => (None, String::new(alloc)),
+        Ok(Some(seen)) => seen,
+        _ => (None, String::new(alloc)),
     };
     let why = match why {
-        Some(why) => why,
-        None => why_of(reason),
+        Some(why) => Why::Seen(why),
+        None => Why::Alone(reason),
     };
     Fault::BadJob { place, owner, why }
 }
@@ -164,8 +182,7 @@ fn fault_of(
     match status {
         Status::Done => None,
         Status::Usage => {
-            let why = wrong_words(alloc, words, around.names_file);
-            let hint = file_hint(alloc, &why);
+            let (why, hint) = wrong_words(alloc, words, around.names_file);
             Some(Fault::Usage { why, hint })
         }
         Status::ReadFault => Some(Fault::ReadFault {

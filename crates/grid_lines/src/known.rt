@@ -1,7 +1,11 @@
 //! The members that the objects of a job may have, and the words that it may use: for the line on standard error.
 //! They are those of the reader, listed once more.
 
+use crate::sentence::{Members, Words};
 use grid_forms::Form;
+
+/// What stands in one column of a table, by what stands in the other.
+type Row = (&'static str, Members);
 
 /// The words of `do`, by the format that each came with.
 const COMMANDS: [(&str, i64); 23] = [
@@ -59,6 +63,23 @@ const INJECTIONS: [(&str, i64); 6] = [
 
 const TRANSFORMERS: [(&str, i64); 2] = [("TWO_WINDINGS", 1), ("THREE_WINDINGS", 1)];
 
+/// The pieces of which contingencies are made.
+const PIECES: [(&str, i64); 7] = [
+    ("LINE", 1),
+    ("TWO_WINDINGS", 1),
+    ("THREE_WINDINGS", 1),
+    ("GENERATOR", 1),
+    ("LOAD", 1),
+    ("BUSBAR_SECTION", 1),
+    ("BREAKER", 1),
+];
+
+/// What becomes of the piece of a contingency that is made.
+const ROLES: [(&str, i64); 2] = [("out", 1), ("fault", 1)];
+
+/// Of which findings the lines are told.
+const TOLD: [(&str, i64); 2] = [("all", 1), ("losses", 1)];
+
 const BRANCHES: [(&str, i64); 3] = [("LINE", 1), ("TWO_WINDINGS", 1), ("THREE_WINDINGS", 1)];
 
 const EVENTS: [(&str, i64); 6] = [
@@ -71,70 +92,120 @@ const EVENTS: [(&str, i64); 6] = [
 ];
 
 /// What the kind is of, in an object that stands in this array or is this command.
-pub(crate) fn kinds_of(holder: &str, command: &str) -> Option<&'static [(&'static str, i64)]> {
+pub(crate) fn kinds_of(holder: &str, command: &str) -> Option<Words> {
     match (holder, command) {
         ("switches", _) | (_, "add_switch") => Some(&SWITCHES),
         ("injections", _) | (_, "add_injection") => Some(&INJECTIONS),
         ("transformers", _) => Some(&TRANSFORMERS),
+        ("each", _) => Some(&PIECES),
         (_, "add_branch") => Some(&BRANCHES),
         _ => None,
     }
 }
 
+/// What may become of a piece.
+pub(crate) fn roles() -> Words {
+    &ROLES
+}
+
+/// The words that tell of which findings the lines are told.
+pub(crate) fn told_words() -> Words {
+    &TOLD
+}
+
 /// The events that a listener may hear.
-pub(crate) fn events() -> &'static [(&'static str, i64)] {
+pub(crate) fn events() -> Words {
     &EVENTS
 }
 
 /// The words of `do`.
-pub(crate) fn commands(form: Option<Form>) -> &'static [(&'static str, i64)] {
+pub(crate) fn commands(form: Option<Form>) -> Words {
     match form {
         Some(Form::Configured(_)) => &CONFIGURED_COMMANDS,
         _ => &COMMANDS,
     }
 }
 
-/// The members of the object at the top.
-fn members_of_top(form: Option<Form>) -> &'static [&'static str] {
-    match form {
-        Some(Form::Hvdc(_)) => &["job", "hvdc"],
-        Some(Form::Screen(_)) => &["job", "contingencies"],
-        Some(Form::Configured(_)) => &["format", "configured", "workers", "order"],
-        _ => JOB,
+/// The members that a table has for a word.
+fn members_in(table: &'static [Row], word: &str) -> Option<Members> {
+    let (_, members) = table.iter().find(|(known, _)| *known == word)?;
+    Some(*members)
+}
+
+/// Whether the name is one of these.
+pub(crate) fn has(names: &[&str], name: &str) -> bool {
+    names.iter().any(|known| *known == name)
+}
+
+/// What a table says of a word that is in its other column; else the last text.
+fn column_of(table: &[Row], word: &str, otherwise: &'static str) -> &'static str {
+    for (column, words) in table {
+        if has(words, word) {
+            return column;
+        }
     }
+    otherwise
 }
 
 const JOB: &[&str] = &["format", "network", "listeners", "workers", "order"];
 
-/// Members that belong to inputs of one form alone, with all that such an input may have, and that form.
-const FORMS: [(&str, &[&str], &str); 4] = [
-    ("contingencies", &["job", "contingencies"], "screen"),
-    ("hvdc", &["job", "hvdc"], "hvdc"),
+const CONFIGURED: &[&str] = &["format", "configured", "workers", "order"];
+
+/// Those of a job with contingencies in the second format.
+const SCREEN: &[&str] = &["format", "job", "variant", "contingencies", "each", "only"];
+
+const HVDC: &[&str] = &["job", "hvdc"];
+
+/// The members of the object at the top.
+fn members_of_top(form: Option<Form>) -> Members {
+    match form {
+        Some(Form::Hvdc(_)) => HVDC,
+        Some(Form::Configured(_)) => CONFIGURED,
+        _ => JOB,
+    }
+}
+
+/// Members that belong to inputs of one form alone, with all that such an input may have, and what is told of a member
+/// that another form has.
+const FORMS: [(&str, Members, &str); 4] = [
+    ("contingencies", SCREEN, ": this is a job for screen (63)"),
+    ("hvdc", HVDC, ": this is a job for hvdc (63)"),
     (
         "configured",
-        &["format", "configured", "workers", "order"],
-        "configured",
+        CONFIGURED,
+        ": this is a job for configured (63)",
     ),
-    ("network", JOB, "check, replay, run or print"),
+    (
+        "network",
+        JOB,
+        ": this is a job for check, replay, run or print (63)",
+    ),
 ];
 
-/// The form, in words, whose input has the members of these names.
-pub(crate) fn other_form(names: &[&str]) -> Option<&'static str> {
-    for (own, members, form) in &FORMS {
-        let has_own = names.iter().any(|name| name == own);
-        if has_own
-            && names
-                .iter()
-                .all(|name| members.iter().any(|member| member == name))
-        {
-            return Some(*form);
+/// Whether all names are among the members, and this one is among the names.
+fn is_of_form(names: &[&str], own: &str, members: Members) -> bool {
+    let mut has_own = false;
+    for name in names {
+        if !has(members, name) {
+            return false;
+        }
+        has_own = has_own || *name == own;
+    }
+    has_own
+}
+
+/// What is told of the form whose input has the members of these names; where there is none, only the number.
+pub(crate) fn other_form(names: &[&str]) -> &'static str {
+    for (own, members, told) in FORMS {
+        if is_of_form(names, own, members) {
+            return told;
         }
     }
-    None
+    " (63)"
 }
 
 /// The members of an object that is a member of another one.
-pub(crate) fn members_of_named(form: Option<Form>, name: &str) -> Option<&'static [&'static str]> {
+pub(crate) fn members_of_named(form: Option<Form>, name: &str) -> Option<Members> {
     match name {
         "" => Some(members_of_top(form)),
         "job" => Some(JOB),
@@ -144,11 +215,11 @@ pub(crate) fn members_of_named(form: Option<Form>, name: &str) -> Option<&'stati
     }
 }
 
-/// The members of an object that stands in an array, but of one with a kind.
-pub(crate) fn members_of_item(holder: &str) -> Option<&'static [&'static str]> {
-    match holder {
-        "substations" => Some(&["id", "levels", "transformers"]),
-        "levels" => Some(&[
+const ITEMS: [Row; 11] = [
+    ("substations", &["id", "levels", "transformers"]),
+    (
+        "levels",
+        &[
             "id",
             "nominal_v",
             "low_v",
@@ -157,9 +228,12 @@ pub(crate) fn members_of_item(holder: &str) -> Option<&'static [&'static str]> {
             "switches",
             "internal",
             "injections",
-        ]),
-        "busbars" => Some(&["id", "node"]),
-        "switches" => Some(&[
+        ],
+    ),
+    ("busbars", &["id", "node"]),
+    (
+        "switches",
+        &[
             "id",
             "kind",
             "node1",
@@ -167,48 +241,95 @@ pub(crate) fn members_of_item(holder: &str) -> Option<&'static [&'static str]> {
             "open",
             "retained",
             "fictitious",
-        ]),
-        "internal" => Some(&["node1", "node2"]),
-        "transformers" => Some(&["kind", "id", "ends", "rated_u"]),
-        "lines" => Some(&["id", "ends"]),
-        "ends" => Some(&["level", "node"]),
-        "listeners" => Some(&["kinds", "variant"]),
-        "hvdc" => Some(&["id", "station1", "station2"]),
-        "contingencies" => Some(&["name", "out"]),
+        ],
+    ),
+    ("internal", &["node1", "node2"]),
+    ("injections", &["kind", "id", "node"]),
+    ("transformers", &["kind", "id", "ends", "rated_u"]),
+    ("lines", &["id", "ends"]),
+    ("ends", &["level", "node"]),
+    ("listeners", &["kinds", "variant"]),
+    ("hvdc", &["id", "station1", "station2"]),
+];
+
+/// The members of an object that stands in an array, but those that its kind brings.
+pub(crate) fn members_of_item(holder: &str) -> Option<Members> {
+    members_in(&ITEMS, holder)
+}
+
+/// The members of an object of a job with contingencies, but of what all jobs have, by the job's format: of the object
+/// at the top, or of one that stands in an array. In the first format `format` may stand at the top, too.
+pub(crate) fn members_of_screen(holder: &str, format: i64) -> Option<Members> {
+    match (holder, format) {
+        ("", 1) => Some(&["job", "contingencies"]),
+        ("", _) => Some(SCREEN),
+        ("contingencies", 1) => Some(&["name", "out"]),
+        ("contingencies", _) => Some(&["name", "out", "fault", "stuck"]),
+        ("each", _) => Some(&["kind", "as"]),
         _ => None,
     }
 }
 
-/// The members of an object that stands in an array of a network with configured buses.
-pub(crate) fn members_of_configured(holder: &str) -> Option<&'static [&'static str]> {
-    match holder {
-        "levels" => Some(&["id", "nominal_v", "buses", "switches", "injections"]),
-        "switches" => Some(&["id", "bus1", "bus2", "open"]),
-        "lines" => Some(&["id", "ends"]),
-        "ends" => Some(&["level", "bus", "connected"]),
-        _ => None,
-    }
+const CONFIGURED_ITEMS: [Row; 5] = [
+    (
+        "levels",
+        &["id", "nominal_v", "buses", "switches", "injections"],
+    ),
+    ("switches", &["id", "bus1", "bus2", "open"]),
+    ("injections", &["kind", "id", "bus", "connected"]),
+    ("lines", &["id", "ends"]),
+    ("ends", &["level", "bus", "connected"]),
+];
+
+/// The members of an object that stands in an array of a network with configured buses, but those that its kind brings.
+pub(crate) fn members_of_configured(holder: &str) -> Option<Members> {
+    members_in(&CONFIGURED_ITEMS, holder)
 }
+
+const KINDS: [Row; 6] = [
+    ("LOAD", &["p0", "q0"]),
+    ("GENERATOR", &["target_p", "target_v", "min_p", "max_p"]),
+    ("BATTERY", &["target_p", "target_q", "min_p", "max_p"]),
+    ("SHUNT_COMPENSATOR", &["section_count", "max_sections"]),
+    ("STATIC_VAR_COMPENSATOR", &["target_q"]),
+    ("CONVERTER_STATION", &["target_q"]),
+];
 
 /// The members that an injection has by its kind.
-pub(crate) fn members_of_kind(kind: &str) -> &'static [&'static str] {
-    match kind {
-        "LOAD" => &["p0", "q0"],
-        "GENERATOR" => &["target_p", "target_v", "min_p", "max_p"],
-        "BATTERY" => &["target_p", "target_q", "min_p", "max_p"],
-        "SHUNT_COMPENSATOR" => &["section_count", "max_sections"],
-        "STATIC_VAR_COMPENSATOR" | "CONVERTER_STATION" => &["target_q"],
-        _ => &[],
-    }
+pub(crate) fn members_of_kind(kind: &str) -> Members {
+    members_in(&KINDS, kind).unwrap_or(&[])
 }
 
-/// The members of an edit, but of one with a kind.
-fn members_of_edit(command: &str) -> Option<&'static [&'static str]> {
-    match command {
-        "add_substation" | "remove_switch" | "remove_equipment" => Some(&["do", "id"]),
-        "add_level" => Some(&["do", "id", "substation", "nominal_v", "low_v", "high_v"]),
-        "add_busbar" => Some(&["do", "id", "level", "node"]),
-        "add_switch" => Some(&[
+const COMMAND_MEMBERS: [Row; 23] = [
+    ("use", &["do", "variant"]),
+    ("remove", &["do", "variant"]),
+    ("open", &["do", "switch"]),
+    ("close", &["do", "switch"]),
+    ("retain", &["do", "switch", "retained"]),
+    ("set_power", &["do", "equipment", "watts"]),
+    ("totals", &["do"]),
+    ("connect", &["do", "equipment", "side"]),
+    ("disconnect", &["do", "equipment", "side"]),
+    ("bus_breaker_view", &["do", "level"]),
+    ("bus_view", &["do", "level"]),
+    ("components", &["do", "level"]),
+    ("clone", &["do", "from", "to", "overwrite"]),
+    ("add_injection", &["do", "kind", "id", "level", "node"]),
+    (
+        "add_branch",
+        &["do", "kind", "id", "ends", "substation", "rated_u"],
+    ),
+    ("add_substation", &["do", "id"]),
+    ("remove_switch", &["do", "id"]),
+    ("remove_equipment", &["do", "id"]),
+    (
+        "add_level",
+        &["do", "id", "substation", "nominal_v", "low_v", "high_v"],
+    ),
+    ("add_busbar", &["do", "id", "level", "node"]),
+    (
+        "add_switch",
+        &[
             "do",
             "id",
             "level",
@@ -218,89 +339,100 @@ fn members_of_edit(command: &str) -> Option<&'static [&'static str]> {
             "open",
             "retained",
             "fictitious",
-        ]),
-        "add_internal" | "remove_internal" => Some(&["do", "level", "node1", "node2"]),
-        _ => None,
+        ],
+    ),
+    ("add_internal", &["do", "level", "node1", "node2"]),
+    ("remove_internal", &["do", "level", "node1", "node2"]),
+];
+
+/// The members of a command by its word, but those that its kind brings. A line is a branch with fewer.
+pub(crate) fn members_of_command(command: &str, is_line: bool) -> Option<Members> {
+    if is_line && command == "add_branch" {
+        return Some(&["do", "kind", "id", "ends"]);
     }
+    members_in(&COMMAND_MEMBERS, command)
 }
 
-/// The members of a command by its word, but those that its kind brings.
-pub(crate) fn members_of_command(command: &str, kind: &str) -> Option<&'static [&'static str]> {
-    match command {
-        "use" | "remove" => Some(&["do", "variant"]),
-        "open" | "close" => Some(&["do", "switch"]),
-        "retain" => Some(&["do", "switch", "retained"]),
-        "set_power" => Some(&["do", "equipment", "watts"]),
-        "totals" => Some(&["do"]),
-        "connect" | "disconnect" => Some(&["do", "equipment", "side"]),
-        "bus_breaker_view" | "bus_view" | "components" => Some(&["do", "level"]),
-        "clone" => Some(&["do", "from", "to", "overwrite"]),
-        "add_injection" => Some(&["do", "kind", "id", "level", "node"]),
-        "add_branch" if kind == "LINE" => Some(&["do", "kind", "id", "ends"]),
-        "add_branch" => Some(&["do", "kind", "id", "ends", "substation", "rated_u"]),
-        _ => members_of_edit(command),
-    }
-}
+const UNITS: [Row; 3] = [
+    (
+        " of volts",
+        &["nominal_v", "low_v", "high_v", "target_v", "rated_u"],
+    ),
+    (" of watts", &["p0", "target_p", "min_p", "max_p", "watts"]),
+    (" of vars", &["q0", "target_q"]),
+];
 
 /// The unit of the numbers at a member, in words, if they have one.
 pub(crate) fn unit_of(name: &str) -> &'static str {
-    match name {
-        "nominal_v" | "low_v" | "high_v" | "target_v" | "rated_u" => " of volts",
-        "p0" | "target_p" | "min_p" | "max_p" | "watts" => " of watts",
-        "q0" | "target_q" => " of vars",
-        _ => "",
-    }
+    column_of(&UNITS, name, "")
 }
+
+const WANTED: [Row; 4] = [
+    ("an object", &["", "job", "network", "configured"]),
+    (
+        "a whole number",
+        &[
+            "format",
+            "node",
+            "node1",
+            "node2",
+            "nominal_v",
+            "low_v",
+            "high_v",
+            "p0",
+            "q0",
+            "target_p",
+            "target_v",
+            "target_q",
+            "min_p",
+            "max_p",
+            "section_count",
+            "max_sections",
+            "side",
+            "watts",
+        ],
+    ),
+    (
+        "true or false",
+        &["open", "retained", "fictitious", "overwrite", "connected"],
+    ),
+    (
+        "a text",
+        &[
+            "id",
+            "kind",
+            "as",
+            "only",
+            "do",
+            "level",
+            "substation",
+            "switch",
+            "equipment",
+            "variant",
+            "from",
+            "to",
+            "bus",
+            "bus1",
+            "bus2",
+            "name",
+            "station1",
+            "station2",
+        ],
+    ),
+];
 
 /// What must stand at a member, in words; nothing where it is an array or another thing.
 pub(crate) fn wanted_at(name: &str) -> &'static str {
-    match name {
-        "" | "job" | "network" | "configured" => "an object",
-        "format"
-        | "node"
-        | "node1"
-        | "node2"
-        | "nominal_v"
-        | "low_v"
-        | "high_v"
-        | "p0"
-        | "q0"
-        | "target_p"
-        | "target_v"
-        | "target_q"
-        | "min_p"
-        | "max_p"
-        | "section_count"
-        | "max_sections"
-        | "side"
-        | "watts" => "a whole number",
-        "open" | "retained" | "fictitious" | "overwrite" | "connected" => "true or false",
-        "id"
-        | "kind"
-        | "do"
-        | "level"
-        | "substation"
-        | "switch"
-        | "equipment"
-        | "variant"
-        | "from"
-        | "to"
-        | "bus"
-        | "bus1"
-        | "bus2"
-        | "name"
-        | "station1"
-        | "station2" => "a text",
-        _ => "an array",
-    }
+    column_of(&WANTED, name, "an array")
 }
+
+const WANTED_ITEMS: [Row; 3] = [
+    ("a whole number", &["order", "rated_u"]),
+    ("a text", &["kinds", "out", "fault", "stuck", "buses"]),
+    ("an array", &["workers"]),
+];
 
 /// What must stand as an item of an array, in words.
 pub(crate) fn wanted_in(holder: &str) -> &'static str {
-    match holder {
-        "order" | "rated_u" => "a whole number",
-        "kinds" | "out" | "buses" => "a text",
-        "workers" => "an array",
-        _ => "an object",
-    }
+    column_of(&WANTED_ITEMS, holder, "an object")
 }

@@ -7,6 +7,7 @@ mod look;
 mod missing;
 mod not_json;
 mod order;
+mod sentence;
 mod stop;
 mod told;
 mod trail;

@@ -6,22 +6,6 @@ use grid_forms::Form;
 use json::Scratch;
 use std::alloc::{AllocError, Global};
 
-/// How many bytes of a text of the job a line shows at most.
-const SHOWN: usize = 40;
-
-/// The front of a text, of at most 40 bytes, with a question mark for each control character.
-pub(crate) fn shown(alloc: Global, text: &str) -> Result<String, AllocError> {
-    let mut front = String::new(alloc);
-    for letter in text.chars() {
-        if front.len().saturating_add(letter.len_utf8()) > SHOWN {
-            front.push_str("..")?;
-            break;
-        }
-        front.push(if letter.is_control() { '?' } else { letter })?;
-    }
-    Ok(front)
-}
-
 /// The text of a job, with the room that reading it needs. Each value is told by where it begins; of members of one
 /// name the last counts.
 #[derive(Drop)]
@@ -123,31 +107,11 @@ impl<'a> Job<'a> {
     }
 
     /// The text of a member, or none.
-    pub(crate) fn word(
-        &mut self,
-        alloc: Global,
-        at: usize,
-        name: &str,
-    ) -> Result<String, AllocError> {
+    pub(crate) fn word(&mut self, at: usize, name: &str) -> &str {
         let Some(member) = self.member(at, name) else {
-            return Ok(String::new(alloc));
+            return "";
         };
-        String::from_str(alloc, self.text(member).unwrap_or(""))
-    }
-
-    /// The front of the text that the value is.
-    pub(crate) fn shown(
-        &mut self,
-        alloc: Global,
-        at: Option<usize>,
-    ) -> Result<Option<String>, AllocError> {
-        let Some(at) = at else {
-            return Ok(None);
-        };
-        match self.text(at) {
-            Some(text) => Ok(Some(shown(alloc, text)?)),
-            None => Ok(None),
-        }
+        self.text(member).unwrap_or("")
     }
 
     /// The job itself, of which the whole text may be a member.
@@ -171,6 +135,15 @@ impl<'a> Job<'a> {
         match self.member(inner, "format") {
             Some(format) => self.whole(format).unwrap_or(4),
             None => 4,
+        }
+    }
+
+    /// The format of a job with contingencies, which is the first where it names none.
+    pub(crate) fn screen_format(&mut self) -> i64 {
+        let top = self.top;
+        match self.member(top, "format") {
+            Some(format) => self.whole(format).unwrap_or(1),
+            None => 1,
         }
     }
 
@@ -276,6 +249,16 @@ impl<'p> Seen<'p> {
         };
         let trail = Trail::to(alloc, &mut walk, place)?;
         Ok(Seen::of(job, form, &trail))
+    }
+
+    /// Whether the job is one with configured buses.
+    pub(crate) fn is_configured(&self) -> bool {
+        matches!(self.form, Some(Form::Configured(_)))
+    }
+
+    /// Whether the job is one with contingencies.
+    pub(crate) fn is_screen(&self) -> bool {
+        matches!(self.form, Some(Form::Screen(_)))
     }
 
     /// Whether the value is an item of an array.

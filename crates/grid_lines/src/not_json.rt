@@ -2,30 +2,24 @@
 
 use crate::stop::{Stop, stop_of};
 use std::alloc::Global;
-use thiserror::Error;
+use std::fmt::{self, Display};
 
-/// Why an input is no JSON. Lines and columns count from 1, columns by bytes. The end of an input is where its last
-/// byte is.
-#[derive(Debug, Drop, Error)]
-pub enum NotJson {
-    #[error("the input is empty, and a job in JSON is wanted")]
-    Empty,
-    #[error("the input begins with a byte order mark, which JSON does not allow")]
-    Mark,
-    #[error("the input is compressed by gzip, and a job in JSON is wanted, as `gzip -dc` gives it")]
-    Gzip,
-    #[error("the input is UTF-16, and a job in JSON is wanted as UTF-8")]
-    Utf16,
-    #[error("the input is not UTF-8, at line {line}, column {column}")]
-    NotUtf8 { line: usize, column: usize },
-    #[error("the input is not JSON: it goes on after its value, at line {line}, column {column}")]
-    GoesOn { line: usize, column: usize },
-    #[error("the input is not JSON: it ends before its value does, at line {line}, column {column}")]
-    Ends { line: usize, column: usize },
-    #[error("the input is not JSON, at line {line}, column {column}")]
-    At { line: usize, column: usize },
-    #[error("the input is not JSON")]
-    Unknown,
+/// Why an input is no JSON.
+#[derive(Clone, Copy, Debug)]
+pub struct NotJson {
+    what: &'static str,
+    /// The line and the column, if they are told. Both count from 1, columns by bytes. The end of an input is where its
+    /// last byte is.
+    place: Option<(usize, usize)>,
+}
+
+impl Display for NotJson {
+    fn fmt<W: fmt::Write>(&self, f: &mut fmt::Formatter<W>) -> fmt::Result {
+        match self.place {
+            Some((line, column)) => write!(f, "{}, at line {line}, column {column}", self.what),
+            None => f.write_str(self.what),
+        }
+    }
 }
 
 /// The line and the column of a byte, or of the end of the input.
@@ -45,12 +39,11 @@ fn place_of(input: &[u8], offset: usize) -> (usize, usize) {
 }
 
 /// What is told of an input that stops to be JSON.
-fn told(input: &[u8], offset: usize, stop: Stop) -> NotJson {
-    let (line, column) = place_of(input, offset);
+fn what_of(stop: Stop) -> &'static str {
     match stop {
-        Stop::Within => NotJson::At { line, column },
-        Stop::Behind => NotJson::GoesOn { line, column },
-        Stop::Early => NotJson::Ends { line, column },
+        Stop::Within => "the input is not JSON",
+        Stop::Behind => "the input is not JSON: it goes on after its value",
+        Stop::Early => "the input is not JSON: it ends before its value does",
     }
 }
 
@@ -67,41 +60,65 @@ fn is_early(alloc: Global, front: &[u8]) -> bool {
 }
 
 /// What is told of an input that is text up to a byte, and that is cut within a character there, or else no text.
-fn no_text(alloc: Global, input: &[u8], offset: usize, is_cut: bool) -> NotJson {
-    let (line, column) = place_of(input, offset);
+fn no_text(alloc: Global, input: &[u8], offset: usize, is_cut: bool) -> &'static str {
     if is_cut && is_early(alloc, input.get(..offset).unwrap_or(&[])) {
-        NotJson::Ends { line, column }
+        what_of(Stop::Early)
     } else {
-        NotJson::NotUtf8 { line, column }
+        "the input is not UTF-8"
     }
 }
 
 /// What the first bytes tell of an input that is no JSON.
-fn by_first_bytes(input: &[u8]) -> Option<NotJson> {
+fn by_first_bytes(input: &[u8]) -> Option<&'static str> {
     match input {
-        [0xef, 0xbb, 0xbf, ..] => Some(NotJson::Mark),
-        [0x1f, 0x8b, ..] => Some(NotJson::Gzip),
-        [0xfe, 0xff, ..] | [0xff, 0xfe, ..] => Some(NotJson::Utf16),
-        _ if input.trim_ascii().is_empty() => Some(NotJson::Empty),
+        [0xef, 0xbb, 0xbf, ..] => {
+            Some("the input begins with a byte order mark, which JSON does not allow")
+        }
+        [0x1f, 0x8b, ..] => {
+            Some(
+                "the input is compressed by gzip, and a job in JSON is wanted, as `gzip -dc` gives it",
+            )
+        }
+        [0xfe, 0xff, ..] | [0xff, 0xfe, ..] => {
+            Some("the input is UTF-16, and a job in JSON is wanted as UTF-8")
+        }
+        _ if input.trim_ascii().is_empty() => {
+            Some("the input is empty, and a job in JSON is wanted")
+        }
         _ => None,
+    }
+}
+
+/// Where these bytes stop to be JSON, and what is told of that; None where memory does not serve.
+fn by_text(alloc: Global, input: &[u8]) -> Option<(usize, &'static str)> {
+    match std::str::from_utf8(input) {
+        Ok(text) => {
+            let (offset, stop) = stop_of(alloc, text)?;
+            Some((offset, what_of(stop)))
+        }
+        Err(error) => {
+            let offset = error.valid_up_to();
+            Some((
+                offset,
+                no_text(alloc, input, offset, error.error_len().is_none()),
+            ))
+        }
     }
 }
 
 /// Why these bytes, which are no JSON, are none.
 pub(crate) fn not_json(alloc: Global, input: &[u8]) -> NotJson {
-    if let Some(why) = by_first_bytes(input) {
-        return why;
+    if let Some(what) = by_first_bytes(input) {
+        return NotJson { what, place: None };
     }
-    match std::str::from_utf8(input) {
-        Ok(text) => match stop_of(alloc, text) {
-            Some((offset, stop)) => told(input, offset, stop),
-            None => NotJson::Unknown,
+    match by_text(alloc, input) {
+        Some((offset, what)) => NotJson {
+            what,
+            place: Some(place_of(input, offset)),
         },
-        Err(error) => no_text(
-            alloc,
-            input,
-            error.valid_up_to(),
-            error.error_len().is_none(),
-        ),
+        None => NotJson {
+            what: "the input is not JSON",
+            place: None,
+        },
     }
 }

@@ -1,7 +1,7 @@
 //! Which worker an order names too often or too seldom.
 
 use crate::look::Job;
-use crate::why::Why;
+use crate::sentence::{Named, Sentence};
 use grid_json::MOST_WORKERS;
 use std::alloc::{AllocError, Global};
 
@@ -29,7 +29,7 @@ fn script_lengths(
 
 /// What an order that does not fit the scripts names.
 #[derive(Drop)]
-struct Named {
+struct Turns {
     /// How often each worker comes.
     often: Vec<usize>,
     /// The first number that is none of a worker.
@@ -42,8 +42,8 @@ fn count_names(
     job: &mut Job<'_>,
     order: usize,
     workers: usize,
-) -> Result<Named, AllocError> {
-    let mut named = Named {
+) -> Result<Turns, AllocError> {
+    let mut named = Turns {
         often: Vec::new(alloc),
         nobody: None,
     };
@@ -72,6 +72,28 @@ fn count_names(
     Ok(named)
 }
 
+/// That a worker comes too often or too seldom.
+fn other_often(worker: usize, named: usize, commands: usize) -> Sentence<'static> {
+    Sentence::two(
+        "worker ",
+        Named::Count(worker),
+        " comes ",
+        Named::Turns { named, commands },
+        " commands (64)",
+    )
+}
+
+/// That a number is none of a worker.
+fn no_worker(worker: i64, workers: usize) -> Sentence<'static> {
+    Sentence::two(
+        "the order names worker ",
+        Named::Number(worker),
+        ", and the job has ",
+        Named::Count(workers),
+        " workers, counted from 0 (64)",
+    )
+}
+
 /// Why an order does not fit the scripts: the first worker that it names too often or too seldom, or else a number
 /// that is no worker's.
 pub(crate) fn order_told(
@@ -79,7 +101,7 @@ pub(crate) fn order_told(
     job: &mut Job<'_>,
     root: usize,
     order: usize,
-) -> Result<Option<Why>, AllocError> {
+) -> Result<Option<Sentence<'static>>, AllocError> {
     let lengths = match job.member(root, "workers") {
         Some(workers) => script_lengths(alloc, job, workers)?,
         None => Vec::new(alloc),
@@ -87,17 +109,11 @@ pub(crate) fn order_told(
     let named = count_names(alloc, job, order, lengths.len())?;
     for (worker, (named, commands)) in named.often.iter().zip(lengths.iter()).enumerate() {
         if named != commands {
-            return Ok(Some(Why::OtherOften {
-                worker,
-                named: *named,
-                commands: *commands,
-            }));
+            return Ok(Some(other_often(worker, *named, *commands)));
         }
     }
-    Ok(
-        named.nobody.map(|worker| Why::NoWorker {
-            worker,
-            workers: lengths.len(),
-        }),
-    )
+    match named.nobody {
+        Some(worker) => Ok(Some(no_worker(worker, lengths.len()))),
+        None => Ok(None),
+    }
 }

@@ -6,7 +6,7 @@ use serde_json::Value;
 use std::alloc::Global;
 
 /// How a text stops to be one JSON value.
-#[derive(Clone, Copy, Debug, Drop)]
+#[derive(Clone, Copy, Drop)]
 pub(crate) enum Stop {
     /// It breaks within its value, or has a number there that no float holds.
     Within,

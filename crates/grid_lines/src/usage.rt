@@ -35,51 +35,47 @@ fn limits(alloc: Global) -> Result<String, AllocError> {
     )
 }
 
-/// A form, and what it does.
-fn form<'a>(alloc: Global, name: &'a str, about: &'a str) -> Command<'a> {
-    Command::new(alloc, name).about(about)
-}
-
 /// The forms, each with what it does.
+const ABOUT_FORMS: [(&str, &str); 9] = [
+    ("check", "Reads a job and counts what it has"),
+    (
+        "replay",
+        "Reads a job, runs its commands in order and writes the report",
+    ),
+    (
+        "run",
+        "Reads a job, runs its workers on threads of their own and writes the report of the order that happened",
+    ),
+    (
+        "print",
+        "Reads a job and writes its network, as a job of the network alone",
+    ),
+    (
+        "hvdc",
+        "Reads a job with HVDC lines, runs its commands in order and writes the components of the buses of each variant",
+    ),
+    (
+        "screen",
+        "Reads a job with contingencies, runs its commands in order and writes what each outage would do to the initial variant",
+    ),
+    (
+        "configured",
+        "Reads a job of a network with configured buses, runs its commands in order and writes the report",
+    ),
+    ("make", "Writes the job made of a seed and a size"),
+    (
+        "trial",
+        "Runs the job that `make` writes and counts what came of it",
+    ),
+];
+
+/// The command with its forms.
 fn with_forms<'a>(alloc: Global, command: Command<'a>) -> Result<Command<'a>, AllocError> {
-    command
-        .subcommand(form(alloc, "check", "Reads a job and counts what it has"))?
-        .subcommand(form(
-            alloc,
-            "replay",
-            "Reads a job, runs its commands in order and writes the report",
-        ))?
-        .subcommand(form(
-            alloc,
-            "run",
-            "Reads a job, runs its workers on threads of their own and writes the report of the order that happened",
-        ))?
-        .subcommand(form(
-            alloc,
-            "print",
-            "Reads a job and writes its network, as a job of the network alone",
-        ))?
-        .subcommand(form(
-            alloc,
-            "hvdc",
-            "Reads a job with HVDC lines, runs its commands in order and writes the components of the buses of each variant",
-        ))?
-        .subcommand(form(
-            alloc,
-            "screen",
-            "Reads a job with contingencies, runs its commands in order and writes what each outage would do to the initial variant",
-        ))?
-        .subcommand(form(
-            alloc,
-            "configured",
-            "Reads a job of a network with configured buses, runs its commands in order and writes the report",
-        ))?
-        .subcommand(form(alloc, "make", "Writes the job made of a seed and a size"))?
-        .subcommand(form(
-            alloc,
-            "trial",
-            "Runs the job that `make` writes and counts what came of it",
-        ))
+    let mut command = command;
+    for (name, about) in ABOUT_FORMS {
+        command = command.subcommand(Command::new(alloc, name).about(about))?;
+    }
+    Ok(command)
 }
 
 /// The usage text: every form, its arguments, the limits and the exit statuses.
