@@ -1,0 +1,11 @@
+pub mod Alike
+pub mod Blocks
+pub mod ChangedLevels
+pub mod Layouts
+pub mod BusNumbers
+pub mod Findings
+pub mod OutageGraphs
+pub mod FirstLevels
+pub mod Exchanges
+pub mod Fields
+pub mod Zips

@@ -1,0 +1,5 @@
+pub mod Figures
+pub mod Outages
+pub mod Layouts
+pub mod Seen
+pub mod Networks

@@ -1,0 +1,15 @@
+pub mod Uniting
+pub mod Trees
+pub mod Taking
+pub mod Orders
+pub mod Ranked
+pub mod Embedding
+pub mod Greatest
+pub mod WeightSums
+pub mod MainComponent
+pub mod Pairs
+pub mod PlaceMarks
+pub mod Joins
+pub mod Alike
+pub mod Changes
+pub mod ClassSums
