@@ -30,7 +30,7 @@ use Rattle.grid_contingencies.specs.declared.Contingency.{Contingency}
 use Rattle.grid_contingencies.specs.declared.ScreenJob.{ScreenJob}
 use Rattle.grid_contingencies.specs.declared.Told.{Told}
 use Rattle.grid_contingencies.specs.declared.Told.TheVariants as whose
-use Rattle.grid_screen.specs.declared.Figures.{Figures}
+use Rattle.grid_figures.specs.declared.Figures.{Figures}
 use Rattle.grid_screen.specs.declared.Finding.{Finding}
 use Rattle.grid_screen.specs.Findings.{figures_of}
 use Rattle.grid_screen.specs.Found.{finding_of, is_loss}

@@ -8,6 +8,7 @@ ghost use Rattle.grid_source.specs.Whole.{IsBegun};
 ghost use Rattle.grid_print.specs.Job.{line_of};
 ghost use Rattle.grid_jsonl.specs.Trees.{more_text};
 ghost use Rattle.grid_jsonl.specs.Outcomes.{lines};
+ghost use Rattle.grid_screen.specs.Findings.{CaseFits};
 ghost use Rattle.grid_screen.specs.Found.{AreFindings, finding_of};
 ghost use Rattle.grid_cli.specs.Layouts.{in_layout};
 ghost use Rattle.grid_cli.specs.Findings.{IsLook, absent_object, absent_text, case_state, end_object, end_text, list_objects, list_text, part_lines, part_text, tells, told_count, told_of, left_fields, listed_in};
@@ -20,7 +21,9 @@ use grid_ids::{Id, Memory};
 use grid_json::Format;
 use grid_jsonl::{Lined, open_with, put_id, put_number, put_state};
 use grid_report::{ReportFault, Shown, Text, put_refusal};
-use grid_screen::{Figures, Finding, Telling, is_loss, put_finding, put_finding_line, screen};
+use grid_screen::{
+    Figures, Finding, ScreenedCase, Telling, is_loss, put_finding, put_finding_line, screen,
+};
 use grid_source::Sink;
 use std::alloc::Global;
 use std::thread::Threads;
@@ -30,8 +33,16 @@ const PIECE: usize = 1_024;
 
 /// The figures of a case, and how what is found on it is told.
 #[derive(Clone, Copy)]
-pub(crate) struct Look {
-    pub(crate) before: Figures,
+struct Look {
+    before: Figures,
+    layout: Layout,
+    format: Format,
+    only: Told,
+}
+
+/// How what is found on a case is told.
+#[derive(Clone, Copy)]
+pub(crate) struct Manner {
     pub(crate) layout: Layout,
     pub(crate) format: Format,
     pub(crate) only: Told,
@@ -218,7 +229,7 @@ fn parts_of<'a>(
 fn write_piece<R: Threads + Sync, K: Sink>(
     rt: &R,
     alloc: Global,
-    case: &Case,
+    case: &ScreenedCase<'_>,
     look: &Look,
     first: u64,
     piece: &[Contingency],
@@ -237,7 +248,8 @@ fn write_piece<R: Threads + Sync, K: Sink>(
     ensures stays { result ≢ Err ReportFault.Stopped → K.faults sink.new ≡ K.faults sink.old }
 {
     let findings = screen(rt, alloc, case, piece)?;
-    let parts = parts_of(alloc, case, look, first, piece, findings.slice())?;
+    let whole = case.case();
+    let parts = parts_of(alloc, whole, look, first, piece, findings.slice())?;
     write_parts(alloc, look.layout, parts.as_slice(), sink)?;
     Ok(parts.len() as u64)
 }
@@ -246,7 +258,7 @@ fn write_piece<R: Threads + Sync, K: Sink>(
 fn write_list<R: Threads + Sync, K: Sink>(
     rt: &R,
     alloc: Global,
-    case: &Case,
+    case: &ScreenedCase<'_>,
     look: &Look,
     list: &[Contingency],
     sink: &mut K,
@@ -290,10 +302,10 @@ pub(crate) fn write_part<K: Sink>(
 }
 
 /// Writes what is told of the steps and of a list of contingencies, and the last line.
-pub(crate) fn write_findings<R: Threads + Sync, K: Sink>(
+fn write_findings<R: Threads + Sync, K: Sink>(
     rt: &R,
     alloc: Global,
-    case: &Case,
+    case: &ScreenedCase<'_>,
     look: &Look,
     journal: &[Entry],
     list: &[Contingency],
@@ -319,4 +331,35 @@ pub(crate) fn write_findings<R: Threads + Sync, K: Sink>(
         Part::End(look.only, told, left_out),
         sink,
     )
+}
+
+/// Screens a list of contingencies on a case, and writes what is told of the steps and of the list, and the last line.
+#[tactic(auto, using(grid_report::proofs::Begun::at_start))]
+pub(crate) fn screen_case<R: Threads + Sync, K: Sink>(
+    rt: &R,
+    alloc: Global,
+    case: &Case,
+    manner: Manner,
+    journal: &[Entry],
+    list: &[Contingency],
+    sink: &mut K,
+) -> Result<(), ReportFault>
+    requires { CaseFits case.now }
+    ensures ok { OnOk result (Appends (K.written sink.old) (K.written sink.new)
+        (listed_in manner.layout manner.format manner.only (case_state case.now) journal.now list.now)) }
+    ensures err { OnErr result (IsBegun (K.written sink.old)
+        (listed_in manner.layout manner.format manner.only (case_state case.now) journal.now list.now)
+        (K.written sink.new)) }
+    ensures cause { result ≡ Err ReportFault.Stopped
+        → Rose (K.faults sink.old) (K.faults sink.new) }
+    ensures stays { result ≢ Err ReportFault.Stopped → K.faults sink.new ≡ K.faults sink.old }
+{
+    let kept = ScreenedCase::of(alloc, case)?;
+    let look = Look {
+        before: kept.figures(),
+        layout: manner.layout,
+        format: manner.format,
+        only: manner.only,
+    };
+    write_findings(rt, alloc, &kept, &look, journal, list, sink)
 }

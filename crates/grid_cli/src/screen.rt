@@ -12,7 +12,7 @@ ghost use Rattle.grid_cli.specs.Once.{OutcomeOf, Writes, ReadsScreen, ReadsNone,
 ghost use Rattle.grid_cli.specs.Screen.{absent_in, screen_text};
 ghost use Rattle.grid_cli.specs.Warnings.{replay_warning, WarnsDone};
 
-use crate::findings::{Look, Part, write_findings};
+use crate::findings::{Manner, Part, screen_case};
 use crate::layout::write_parts;
 use crate::once::{read_input, status_for, status_of};
 use crate::running::replayed;
@@ -23,7 +23,6 @@ use grid_ids::{Id, Memory};
 use grid_json::Job;
 use grid_jsonl::put_warning;
 use grid_report::{ReportFault, Text};
-use grid_screen::find::figures;
 use grid_screen::laws::cases_fit;
 use grid_slots::INITIAL_STATE;
 use grid_source::{Input, Sink, Source};
@@ -137,14 +136,21 @@ fn run_and_screen<R: Threads + Sync, K: Sink>(
     };
     world.keeps();
     cases_fit();
-    let look = Look {
-        before: figures(alloc, &case)?,
+    let list = with_made(alloc, contingencies, &case.structure, &each)?;
+    let manner = Manner {
         layout,
         format,
         only,
     };
-    let list = with_made(alloc, contingencies, &case.structure, &each)?;
-    write_findings(rt, alloc, &case, &look, world.entries(), list.slice(), sink)
+    screen_case(
+        rt,
+        alloc,
+        &case,
+        manner,
+        world.entries(),
+        list.slice(),
+        sink,
+    )
 }
 
 /// Runs a job in its order, and writes what each contingency does to its variant.

@@ -21,11 +21,12 @@ use Rattle.grid_islands.specs.Numbering.{counted_from, number_of_node}
 use Rattle.grid_islands.proofs.Blocks.{position_in}
 use Rattle.grid_islands.proofs.Counting.{level_at, level_within}
 use Rattle.grid_islands.proofs.Linking.{buses_as, number_as}
-use Rattle.grid_screen.specs.declared.outage.Changed.{Changed}
-use Rattle.grid_screen.specs.declared.screening.BusSums.{BusSums}
-use Rattle.grid_screen.specs.Screened.{Changes, change_at, bus_sums, buses_under, buses_over, sums_of, level_sums, present_sums, sums_in, sums_before, IsLooked, IsLookedAt}
-use Rattle.grid_screen.specs.Steps.{Stands}
-use Rattle.grid_screen.proofs.Shown.{Change, level_changed, level_kept, row_changed, row_kept, length-shown_levels}
+use Rattle.grid_outages.specs.declared.outage.Changed.{Changed}
+use Rattle.grid_unions.specs.declared.summed.Sums.{Sums}
+use Rattle.grid_sums.specs.Sums.{bus_sums, buses_under, sums_of}
+use Rattle.grid_outages.specs.Changes.{Changes, change_at, buses_over, level_sums, present_sums, sums_in, sums_before, IsLooked, IsLookedAt}
+use Rattle.grid_outages.specs.Steps.{Stands}
+use Rattle.grid_outages.proofs.Showing.{Change, level_changed, level_kept, row_changed, row_kept, length-shown_levels}
 use Rattle.std.proofs.lemmas.Option.{slice_get_within}
 
 -- ---- lists by place
@@ -77,7 +78,7 @@ held_at listed level opened z =
 -- ---- the present levels
 
 module _ (listed : Listed) (before : List VoltageLevel) (flags : List (List Bool)) (changes : Changes) (ls : List VoltageLevel) (rows : List (List Bool)) (s : Stands listed before flags changes ls rows) where
-  abbrev pub kept : List (List BusSums)
+  abbrev pub kept : List (List Sums)
   kept = level_sums listed before flags
 
   kept_at : (k : ℕ) (l : VoltageLevel) → slice_get before k ≡ Some l → get_or kept k [] ≡ sums_of listed l (row_at flags k)
@@ -124,7 +125,7 @@ module _ (listed : Listed) (before : List VoltageLevel) (flags : List (List Bool
   abbrev pub all : List NetworkBus
   all = buses_over listed ls rows
 
-  abbrev pub own_sums : NetworkBus → BusSums
+  abbrev pub own_sums : NetworkBus → Sums
   own_sums b = bus_sums b.1
 
   -- those of all buses

@@ -28,17 +28,17 @@ use Rattle.grid_screen.specs.FaultLaws.{IsClearOf, ZoneIsCleared, OneNodeTrips}
 use Rattle.grid_screen.specs.Findings.{CaseFits, state_in}
 use Rattle.grid_screen.specs.Grounds.{IsGround, with_flag_of}
 use Rattle.grid_screen.specs.Outages.{is_switch, state_without}
-use Rattle.grid_screen.specs.Screened.{level_without}
-use Rattle.grid_screen.specs.Steps.{taken_out, levels_with_out, rows_with_out, levels_after, rows_after}
+use Rattle.grid_outages.specs.Changes.{level_without}
+use Rattle.grid_outages.specs.Steps.{taken_out, levels_with_out, rows_with_out, levels_after, rows_after}
 use Rattle.grid_screen.specs.Walks.{IsNode}
 use Rattle.grid_screen.specs.Zones.{site_at, network_sites, sites_of, sites_by, passes_fault, passing_fault, fault_ties, is_hit, zone_over}
-use Rattle.grid_screen.proofs.Again.{levels_again}
-use Rattle.grid_screen.proofs.Changing.{equipment_out}
+use Rattle.grid_outages.proofs.Again.{levels_again}
+use Rattle.grid_outages.proofs.Changing.{equipment_out}
 use Rattle.grid_screen.proofs.Clearings.{cleared_is, switch_read}
 use Rattle.grid_screen.proofs.Growing.{got_below}
 use Rattle.grid_screen.proofs.Leasts.{ground_of, grounded, after_row}
 use Rattle.grid_screen.proofs.Lessened.{fewer, none_left, stays_open, out_is_open}
-use Rattle.grid_screen.proofs.Members.{Among, among_got, got_among, among_left, among_right, among_parts, among_map, map_among, among_filter, filter_among, among_flat, among_enumerate}
+use Rattle.grid_outages.proofs.Members.{Among, among_got, got_among, among_left, among_right, among_parts, among_map, map_among, among_filter, filter_among, among_flat, among_enumerate}
 use Rattle.grid_screen.proofs.Outcomes.{outcome}
 use Rattle.grid_screen.proofs.Owned.{among_has, has_among, switch_own, placed_no_switch}
 use Rattle.grid_screen.proofs.Running.{map_back}

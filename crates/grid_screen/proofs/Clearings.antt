@@ -4,14 +4,12 @@ use Rattle.std.specs.Prelude.{slice_get, filter, Box}
 use Rattle.std.specs.declared.alloc.Global.{Global}
 use Rattle.std.specs.List.{flat_map, enumerate_from, list_all}
 use Rattle.std.proofs.lemmas.Bool.{and_from}
-use Rattle.std.proofs.lemmas.List.{append-nil, take_all, take_more}
+use Rattle.std.proofs.lemmas.List.{append-nil, take_more}
 use Rattle.std.proofs.lemmas.Option.{slice_get_past}
-use Rattle.std.proofs.lemmas.List.FromFn.{length-enumerate_from}
 use Rattle.std.proofs.lemmas.List.Sums.{fold-append}
-use Rattle.std.proofs.lemmas.Grind.{flat_map-append}
 use Rattle.grid_groups.proofs.Steps.{passed_next, skipped_next}
 use Rattle.grid_islands.proofs.Pairing.{gathered_more}
-use Rattle.grid_lemmas.proofs.Lists.{all_at, take_got, some_got, length_map}
+use Rattle.grid_lemmas.proofs.Lists.{all_at, length_map}
 use Rattle.grid_ids.specs.Name.{has_id}
 use Rattle.grid_json.specs.Seen.{Knows}
 use Rattle.grid_level.specs.declared.Placed.{Placed}
@@ -27,6 +25,8 @@ use Rattle.grid_structure.specs.Sites.{levels, switch_spot}
 use Rattle.grid_core.specs.declared.case.Case.{Case}
 use Rattle.grid_core.specs.Solo.{State}
 use Rattle.grid_contingencies.specs.declared.FaultCase.{FaultCase}
+use Rattle.grid_sparse.specs.Options.{present}
+use Rattle.grid_sparse.proofs.Passes.{flat_map_present}
 use Rattle.grid_screen.specs.declared.walk.Touched.{Touched}
 use Rattle.grid_screen.specs.Faults.{trips, spots_that, switch_ids, in_zone, equipment_in, zone_equipment, before_fault, tripped_of, clearing_of, cleared_of, IsClearing}
 use Rattle.grid_screen.specs.FaultLaws.{ClearedIsOutage}
@@ -35,13 +35,13 @@ use Rattle.grid_screen.specs.Grounds.{Ground, IsGround}
 use Rattle.grid_screen.specs.Opening.{network_trips, trips_at, AreSwitches, equipment_hit, equipment_at, network_equipment}
 use Rattle.grid_screen.specs.Outages.{is_switch, with_out, state_without}
 use Rattle.grid_screen.specs.Scenes.{IsScene}
-use Rattle.grid_screen.specs.Screened.{level_without}
-use Rattle.grid_screen.specs.Walks.{Touches, touched_at, hits_in, hits_by, hits, IsNode, IsTouched, IsSettled}
+use Rattle.grid_outages.specs.Changes.{level_without}
+use Rattle.grid_screen.specs.Walks.{Touches, touched_at, hits_in, hits_by, hits, IsNode, IsTouched, AreTouched, IsSettled}
 use Rattle.grid_screen.specs.Zones.{site_at, network_sites, sites_of}
-use Rattle.grid_screen.proofs.Counted.{got_or}
+use Rattle.grid_screen.proofs.Got.{got_or}
 use Rattle.grid_screen.proofs.Growing.{got_below, node_there}
-use Rattle.grid_screen.proofs.Listed.{enumerate_got, filter_last}
-use Rattle.grid_screen.proofs.Members.{Among, among_got, got_among, filter_among, filter_agrees, map_among, flat_among, enumerate_among}
+use Rattle.grid_screen.proofs.Listed.{filter_last}
+use Rattle.grid_outages.proofs.Members.{Among, among_got, got_among, filter_among, filter_agrees, map_among, flat_among, enumerate_among}
 use Rattle.grid_screen.proofs.Passed.{keeps_of}
 use Rattle.grid_screen.proofs.Running.{map_back}
 use Rattle.grid_screen.proofs.Scened.{zone_found}
@@ -123,45 +123,34 @@ terminals_skipped t ps i p start old lt at e was =
 
 -- ---- level by level
 
--- that of the levels before a place
-abbrev pub equipment_before : Ground → Touches → ℕ → List (List ℕ)
-equipment_before g touched place = flat_map (equipment_at touched) (take place (enumerate_from 0 g.present))
-
-equipment_step : (g : Ground) (touched : Touches) (k : ℕ) (m : VoltageLevel) → slice_get g.present k ≡ Some m → equipment_before g touched (k + 1) ≡ equipment_before g touched k ++ equipment_at touched (k, m)
-equipment_step g touched k m at =
-    let all = enumerate_from 0 g.present in
-    let zero_plus : 0 + k ≡ k = omega arith in
-    let got = enumerate_got g.present 0 k m at ∙ ap (λ (z : ℕ). Some (z, m)) zero_plus in
-    let more : k + 1 ≡ suc k = omega arith in
-    ap (flat_map (equipment_at touched)) (ap (λ z. take z all) more ∙ take_got all k (k, m) got)
-    ∙ flat_map-append (equipment_at touched) (take k all) ((k, m) ∷ []) ∙ ap (λ z. equipment_before g touched k ++ z) (append-nil (equipment_at touched (k, m)))
-
-pub equipment_more : (g : Ground) (touched : Touches) (k : ℕ) (m : VoltageLevel) (here : Box Touched Global) (start old new : List (List ℕ)) → slice_get g.present k ≡ Some m → touched_at touched k ≡ Some here
-    → old ≡ start ++ equipment_before g touched k → new ≡ old ++ equipment_hit here.value m.placed → new ≡ start ++ equipment_before g touched (k + 1)
-unfolding hits equipment_at equipment_hit
-equipment_more g touched k m here start old new at there was is =
-    is ∙ ap (λ z. z ++ equipment_hit here.value m.placed) was ∙ append_assoc start (equipment_before g touched k) (equipment_hit here.value m.placed)
-    ∙ ap (λ (z : Option (Box Touched Global)). start ++ (equipment_before g touched k ++ map (λ (p : Placed). p.terminal.equipment) (filter (λ (p : Placed). hits_by z p.node) m.placed))) (sym there)
-    ∙ ap (λ z. start ++ z) (sym (equipment_step g touched k m at))
-
 pub present_long : (g : Ground) → IsGround g → length g.present ≡ length (levels g.net)
 present_long g b = ap length b.left ∙ length_map (level_without b.removed) (levels g.net)
 
-pub equipment_skipped : (g : Ground) (touched : Touches) (k : ℕ) (start old : List (List ℕ)) → IsGround g → k < length (levels g.net) → touched_at touched k ≡ None
-    → old ≡ start ++ equipment_before g touched k → old ≡ start ++ equipment_before g touched (k + 1)
-unfolding hits equipment_at
-equipment_skipped g touched k start old b lt there was =
-    let m = some_got g.present k (let long = present_long g b in omega (arith, lt, long)) in
-    let none = ap (λ (z : Option (Box Touched Global)). map (λ (p : Placed). p.terminal.equipment) (filter (λ (p : Placed). hits_by z p.node) m.0.placed)) there
-    ∙ ap (map (λ (p : Placed). p.terminal.equipment)) (filter_none (λ (p : Placed). hits_by None p.node) m.0.placed (λ p. refl)) in
-    was ∙ ap (λ z. start ++ z) (sym (equipment_step g touched k m.0 m.1 ∙ ap (λ z. equipment_before g touched k ++ z) none ∙ append-nil (equipment_before g touched k)))
+-- the terminals of a level, if it is there
+abbrev pub placed_of : Option VoltageLevel → List Placed
+placed_of (Some l) = l.placed
+placed_of None = []
 
-pub equipment_all : (g : Ground) (touched : Touches) (k : ℕ) (start now : List (List ℕ)) → IsGround g → length (levels g.net) ≤ k → now ≡ start ++ equipment_before g touched k → now ≡ start ++ network_equipment g touched
+-- that of a level that was hit, by its place
+abbrev pub equipment_of : Ground → ℕ × Box Touched Global → List (List ℕ)
+equipment_of g at = equipment_hit at.1.value (placed_of (slice_get g.present at.0))
+
+no_equipment : (touched : Touches) (k : ℕ) (m : VoltageLevel) → touched_at touched k ≡ None → equipment_at touched (k, m) ≡ []
+unfolding hits equipment_at
+no_equipment touched k m at =
+    ap (λ (z : Option (Box Touched Global)). map (λ (p : Placed). p.terminal.equipment) (filter (λ (p : Placed). hits_by z p.node) m.placed)) at
+    ∙ ap (map (λ (p : Placed). p.terminal.equipment)) (filter_none (λ (p : Placed). hits_by None p.node) m.placed (λ p. refl))
+
+own_equipment : (g : Ground) (touched : Touches) (k : ℕ) (here : Box Touched Global) (m : VoltageLevel) → touched_at touched k ≡ Some here → slice_get g.present k ≡ Some m → equipment_at touched (k, m) ≡ equipment_of g (k, here)
+unfolding hits equipment_at equipment_hit
+own_equipment g touched k here m at got =
+    ap (λ (z : Option (Box Touched Global)). map (λ (p : Placed). p.terminal.equipment) (filter (λ (p : Placed). hits_by z p.node) m.placed)) at
+    ∙ ap (λ (z : Option VoltageLevel). map (λ (p : Placed). p.terminal.equipment) (filter (λ (p : Placed). hits_in here.value p.node) (placed_of z))) (sym got)
+
+-- that of all levels is that of the levels that were hit
+pub equipment_present : (g : Ground) (touched : Touches) → IsGround g → AreTouched g touched → network_equipment g touched ≡ flat_map (equipment_of g) (present touched)
 unfolding network_equipment
-equipment_all g touched k start now b most is =
-    let long = length-enumerate_from 0 g.present in
-    let same = present_long g b in
-    is ∙ ap (λ z. start ++ flat_map (equipment_at touched) z) (take_all k (enumerate_from 0 g.present) (omega (arith, most, long, same)))
+equipment_present g touched b each = flat_map_present (equipment_at touched) (equipment_of g) touched g.present (each.long ∙ sym (present_long g b)) (λ k m none got. no_equipment touched k m none) (λ k here m some got. own_equipment g touched k here m some got)
 
 -- ---- by the zone
 

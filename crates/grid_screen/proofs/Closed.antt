@@ -5,7 +5,7 @@ use Rattle.std.specs.List.{flat_map}
 use Rattle.std.proofs.lemmas.Bool.{eqb-true}
 use Rattle.grid_graph.specs.Joined.{end_across, neighbours, within, joined}
 use Rattle.grid_graph.proofs.Reach.{In, In_left, In_right, In_parts, In_here, In_there, across_from, across_first, across_second, within_parts, within_step, within_here, within_saturates, joined_trans, Holds}
-use Rattle.grid_screen.proofs.Members.{Among}
+use Rattle.grid_outages.proofs.Members.{Among}
 
 pub among_in : (x : ℕ) (xs : List ℕ) → Among x xs → In x xs
 among_in x [] i = absurd i

@@ -23,7 +23,7 @@ use Rattle.grid_structure.proofs.Places.{position_found}
 use Rattle.grid_structure.proofs.Removing.{own_id, sides_by}
 use Rattle.grid_structure.proofs.Sides.{Side, has, has-append}
 use Rattle.grid_structure.proofs.Uniquely.{side_in, one_home, one_side, single_in, recorded, branch_once, local_once, names_of_branches}
-use Rattle.grid_screen.proofs.Members.{Among, among_got, among_filter, among_map, any_among}
+use Rattle.grid_outages.proofs.Members.{Among, among_got, among_filter, among_map, any_among}
 use Rattle.grid_screen.proofs.Sitings.{standing_at}
 use Rattle.grid_screen.proofs.Stands.{any_there, end_side}
 

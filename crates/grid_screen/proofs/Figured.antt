@@ -1,31 +1,25 @@
 -- Figures by lists of sums are those of the buses, and pairs and links are of what is there.
-use Rattle.std.proofs.Common.{◌≡◌, refl, ap, ◌∙◌, subst, ℕ, ℤ, pos, ◌+◌, ◌<◌, ◌+ℤ◌, Bool, true, false, cond, ◌&&◌, List, [], ◌∷◌, length, get_or, map, arith, Option, Some, None}
-use Rattle.std.specs.Prelude.{eqb, ◌==◌, count_by, filter, fold, zip, flat_map, position, option_and_then, slice_get}
+use Rattle.std.proofs.Common.{◌≡◌, refl, ap, ◌∙◌, ℕ, ℤ, pos, ◌+◌, ◌<◌, ◌+ℤ◌, Bool, true, false, cond, ◌&&◌, List, [], ◌∷◌, length, map, arith, Option, Some, None}
+use Rattle.std.specs.Prelude.{eqb, ◌==◌, count_by, filter, fold, zip, flat_map, position, option_and_then}
 use Rattle.std.specs.List.{enumerate_from, range_with_len}
-use Rattle.std.specs.Option.{option_map}
 use Rattle.std.proofs.lemmas.List.{length-map}
 use Rattle.std.proofs.lemmas.List.Sums.{sum_by-cons}
 use Rattle.std.proofs.lemmas.List.Elements.{All-nil, All-cons, All-append}
 use Rattle.grid_graph.specs.Joined.{groups}
 use Rattle.grid_graph.specs.Components.{places, component_number, component_numbers}
 use Rattle.grid_graph.specs.Graph.{EndsBelow}
-use Rattle.grid_level.specs.VoltageLevel.{VoltageLevel}
-use Rattle.grid_level.specs.Passing.{nodes}
-use Rattle.grid_islands.specs.Numbering.{number_of_node}
 use Rattle.grid_structure.specs.declared.NamedBranch.{NamedBranch}
 use Rattle.grid_structure.specs.declared.End.{End}
 use Rattle.grid_structure.specs.Network.{Network}
-use Rattle.grid_structure.specs.Sites.{levels, branches, branch_ends, find_level}
+use Rattle.grid_structure.specs.Sites.{branches, branch_ends, find_level}
 use Rattle.grid_structure.proofs.Places.{position_found}
-use Rattle.grid_structure.proofs.Found.{level_below}
 use Rattle.grid_busview.specs.declared.ViewBus.{ViewBus}
 use Rattle.grid_islands.specs.Islands.{NetworkBus, holds, bus_at, pair_between, pairs_among, branch_pairs, bus_pairs}
-use Rattle.grid_screen.specs.declared.Figures.{Figures}
-use Rattle.grid_screen.specs.declared.screening.BusSums.{BusSums}
-use Rattle.grid_screen.specs.declared.screening.Spot.{Spot}
-use Rattle.grid_screen.specs.declared.screening.Link.{Link}
+use Rattle.grid_figures.specs.declared.Figures.{Figures}
+use Rattle.grid_unions.specs.declared.summed.Sums.{Sums}
 use Rattle.grid_screen.specs.Figures.{is_main, main_buses, sum_over, total_over, figures_over}
-use Rattle.grid_screen.specs.Screened.{bus_sums, add_main, is_zero, main_sum, total_sum, figures_by, spot_at, spot_of, link_of, link_between, links_among, branch_links, network_links, LinksFit}
+use Rattle.grid_figures.specs.Figures.{add_main, is_zero, main_sum, total_sum, figures_by}
+use Rattle.grid_sums.specs.Sums.{bus_sums}
 
 -- ---- the buses of component 0
 
@@ -33,7 +27,7 @@ module _ (f : ℕ → ℕ) where
   abbrev of_main : ℕ × NetworkBus → Bool
   of_main bus = f bus.0 == 0
 
-  abbrev sums_at : NetworkBus → BusSums
+  abbrev sums_at : NetworkBus → Sums
   sums_at b = bus_sums b.1
 
   main_counted : (low : ℕ) (all : List NetworkBus) → count_by is_zero (map f (range_with_len low (length all))) ≡ length (filter of_main (enumerate_from low all))
@@ -50,7 +44,7 @@ module _ (f : ℕ → ℕ) where
       by true e = rw e (omega arith)
       by false e = rw e (omega arith)
 
-  main_summed : (watts : BusSums → ℤ) (low : ℕ) (total : ℤ) (all : List NetworkBus)
+  main_summed : (watts : Sums → ℤ) (low : ℕ) (total : ℤ) (all : List NetworkBus)
       → fold (add_main watts) total (zip (map f (range_with_len low (length all))) (map sums_at all)) ≡ fold (λ total (bus : ℕ × NetworkBus). total +ℤ watts (sums_at bus.1)) total (filter of_main (enumerate_from low all))
   main_summed watts low total [] = refl
   main_summed watts low total (b ∷ all) = by (f low == 0) (λ t. main_summed watts (low + 1) t all)
@@ -61,7 +55,7 @@ module _ (f : ℕ → ℕ) where
       more : List (ℕ × NetworkBus)
       more = filter of_main (enumerate_from (low + 1) all)
 
-      rest : List (ℕ × BusSums)
+      rest : List (ℕ × Sums)
       rest = zip (map f (range_with_len (low + 1) (length all))) (map sums_at all)
 
       by : (t : Bool) → ((total : ℤ) → fold (add_main watts) total rest ≡ fold add total more) → fold (add_main watts) (cond t (total +ℤ watts (sums_at b)) total) rest ≡ fold add total (cond t ((low, b) ∷ more) more)
@@ -70,8 +64,8 @@ module _ (f : ℕ → ℕ) where
 
 -- ---- all buses
 
-all_summed : (watts : BusSums → ℤ) (own : ViewBus → ℤ) → ((b : ViewBus) → watts (bus_sums b) ≡ own b) → (total : ℤ) (all : List NetworkBus)
-    → fold (λ total (s : BusSums). total +ℤ watts s) total (map (λ (b : NetworkBus). bus_sums b.1) all) ≡ fold (λ total (b : NetworkBus). total +ℤ own b.1) total all
+all_summed : (watts : Sums → ℤ) (own : ViewBus → ℤ) → ((b : ViewBus) → watts (bus_sums b) ≡ own b) → (total : ℤ) (all : List NetworkBus)
+    → fold (λ total (s : Sums). total +ℤ watts s) total (map (λ (b : NetworkBus). bus_sums b.1) all) ≡ fold (λ total (b : NetworkBus). total +ℤ own b.1) total all
 all_summed watts own same total [] = refl
 all_summed watts own same total (b ∷ all) =
     all_summed watts own same (total +ℤ watts (bus_sums b.1)) all ∙ ap (λ z. fold (λ total (b : NetworkBus). total +ℤ own b.1) (total +ℤ z) all) (same b.1)
@@ -90,8 +84,8 @@ figured all pairs =
     let f = component_number n pairs in
     let main = filter (λ (bus : ℕ × NetworkBus). f bus.0 == 0) (enumerate_from 0 all) in
     let load = fold (λ total (bus : ℕ × NetworkBus). total +ℤ bus.1.1.load) (pos 0) main in
-    let summed = λ (watts : BusSums → ℤ). fold (add_main watts) (pos 0) (zip (map f (range_with_len 0 n)) sums) in
-    let totals : ℤ × ℤ = (fold (λ total (s : BusSums). total +ℤ s.load) (pos 0) sums, fold (λ total (s : BusSums). total +ℤ s.generation) (pos 0) sums) in
+    let summed = λ (watts : Sums → ℤ). fold (add_main watts) (pos 0) (zip (map f (range_with_len 0 n)) sums) in
+    let totals : ℤ × ℤ = (fold (λ total (s : Sums). total +ℤ s.load) (pos 0) sums, fold (λ total (s : Sums). total +ℤ s.generation) (pos 0) sums) in
     let total_load = fold (λ total (b : NetworkBus). total +ℤ b.1.load) (pos 0) all in
     ap (λ z. build z (length (groups (range_with_len 0 z) pairs)) (count_by is_zero (map (component_number z pairs) (range_with_len 0 z)))
     (fold (add_main (λ s. s.load)) (pos 0) (zip (map (component_number z pairs) (range_with_len 0 z)) sums), fold (add_main (λ s. s.generation)) (pos 0) (zip (map (component_number z pairs) (range_with_len 0 z)) sums)) totals) long
@@ -144,51 +138,3 @@ module _ (net : Network) (all : List NetworkBus) where
   pub pairs_below : EndsBelow (bus_pairs net all) (length all)
   unfolding bus_pairs
   pairs_below = of_branches (branches net)
-
--- ---- the levels of links are there
-
-module _ (net : Network) (rows : List (List (Option ℕ))) where
-  abbrev There : Option Spot → Type 0
-  There o = (x : Spot) → o ≡ Some x → x.level < length (levels net)
-
-  abbrev BothThere : Link → Type 0
-  BothThere link = (link.first.level < length (levels net)) × (link.second.level < length (levels net))
-
-  spot_there : (end : End) → There (spot_of net rows end)
-  unfolding spot_of
-  spot_there end x e = by (find_level net end.level) refl e
-    where
-      got : (k : ℕ) (o : Option VoltageLevel) → k < length (levels net) → option_map (λ level. spot_at k end.node (number_of_node (nodes level) (get_or rows k []) end.node)) o ≡ Some x → x.level < length (levels net)
-      got k (Some l) lt h = let same : spot_at k end.node (number_of_node (nodes l) (get_or rows k []) end.node) ≡ x = cc in subst (λ (z : Spot). z.level < length (levels net)) same lt
-      got k None lt h = absurd (cc)
-
-      by : (o : Option ℕ) → find_level net end.level ≡ o → option_and_then (λ place. option_map (λ level. spot_at place end.node (number_of_node (nodes level) (get_or rows place []) end.node)) (slice_get (levels net) place)) o ≡ Some x → x.level < length (levels net)
-      by (Some k) q h = got k (slice_get (levels net) k) (level_below net end.level k q) h
-      by None q h = absurd (cc)
-
-  between_there : (a b : Option Spot) → There a → There b → LinksFit (length (levels net)) (link_between a b)
-  unfolding link_between
-  between_there None b f g = All-nil BothThere
-  between_there (Some x) None f g = All-nil BothThere
-  between_there (Some x) (Some y) f g = All-cons BothThere (link_of x y) [] (f x refl, g y refl) (All-nil BothThere)
-
-  each_there : (a : Option Spot) (ends : List End) → There a → LinksFit (length (levels net)) (flat_map (link_between a) (map (spot_of net rows) ends))
-  each_there a [] f = All-nil BothThere
-  each_there a (end ∷ ends) f =
-      All-append BothThere (link_between a (spot_of net rows end)) (flat_map (link_between a) (map (spot_of net rows) ends)) (between_there a (spot_of net rows end) f (spot_there end)) (each_there a ends f)
-
-  among_there : (ends : List End) → LinksFit (length (levels net)) (links_among (map (spot_of net rows) ends))
-  unfolding links_among
-  among_there [] = All-nil BothThere
-  among_there (end ∷ ends) =
-      All-append BothThere (flat_map (link_between (spot_of net rows end)) (map (spot_of net rows) ends)) (links_among (map (spot_of net rows) ends)) (each_there (spot_of net rows end) ends (spot_there end)) (among_there ends)
-
-  of_all : (bs : List NamedBranch) → LinksFit (length (levels net)) (flat_map (λ b. branch_links net rows b.shape) bs)
-  unfolding branch_links
-  of_all [] = All-nil BothThere
-  of_all (b ∷ bs) =
-      All-append BothThere (branch_links net rows b.shape) (flat_map (λ b. branch_links net rows b.shape) bs) (among_there (branch_ends b.shape)) (of_all bs)
-
-  pub links_there : LinksFit (length (levels net)) (network_links net rows)
-  unfolding network_links
-  links_there = of_all (branches net)

@@ -22,7 +22,7 @@ use Rattle.grid_screen.specs.declared.walk.Walk.{Walk}
 use Rattle.grid_screen.specs.Grounds.{Ground, IsGround, fault_flags}
 use Rattle.grid_screen.specs.Zones.{site_at, passing_fault}
 use Rattle.grid_screen.specs.Walks.{Touches, touched_at, label_in, hits_in, hits_by, hits, IsNode, IsTouched, IsTouchedBy, AreTouched, IsHitIn, is_end_in, ends_in, waiting, HasEdges, HasSites, IsEnd, Grows}
-use Rattle.grid_screen.proofs.Members.{Among, among_got, got_among, among_left, among_right, among_parts, among_map, map_among, among_filter, filter_among, any_among, any_found}
+use Rattle.grid_outages.proofs.Members.{Among, among_got, got_among, among_left, among_right, among_parts, among_map, map_among, among_filter, filter_among, any_among, any_found}
 use Rattle.grid_screen.proofs.Closed.{IsClosed}
 use Rattle.grid_screen.proofs.Grown.{ends_as, hit_same, hit_more, hit_cases}
 use Rattle.grid_screen.proofs.Passed as passed
@@ -70,7 +70,7 @@ waiting_is g k node t touched = ap (cond (hits_in t node) []) (touched.ends.each
 
 -- ---- no site more
 
-pub grows_none : (g : Ground) (walk : Walk) → AreTouched g walk.touched.items → Grows g walk walk []
+pub grows_none : (g : Ground) (walk : Walk) → AreTouched g walk.touched → Grows g walk walk []
 grows_none g walk sees = record {
   touched = sees;
   here = λ i s e. cc;
@@ -84,39 +84,39 @@ grows_none g walk sees = record {
 -- ---- one site more
 
 module _ (g : Ground) (old new : Walk) (s : Site) (t : Touched) (m : VoltageLevel) (box : Box Touched Global)
-    (ground : IsGround g) (sees : AreTouched g old.touched.items) (is_node : IsNode g.net s) (touched : IsTouched g s.level t)
-    (same : (n : ℕ) → hits_in t n ≡ hits_by (touched_at old.touched.items s.level) n) (now : slice_get g.present s.level ≡ Some m)
+    (ground : IsGround g) (sees : AreTouched g old.touched) (is_node : IsNode g.net s) (touched : IsTouched g s.level t)
+    (same : (n : ℕ) → hits_in t n ≡ hits_by (touched_at old.touched s.level) n) (now : slice_get g.present s.level ≡ Some m)
     (below : label_in t s.node < length t.hit.items) (is : IsHitIn t s.node box.value)
-    (put : new.touched.items ≡ slice_set (slice_set old.touched.items s.level None) s.level (Some box))
+    (put : new.touched ≡ slice_set (slice_set old.touched s.level None) s.level (Some box))
     (work : new.work ≡ old.work ++ new_ends t m.placed s.node) where
-  lt : s.level < length old.touched.items
+  lt : s.level < length old.touched
   lt = let inside = got_below (levels g.net) s.level is_node.level is_node.at in omega (arith, inside, sees.long)
 
-  once : new.touched.items ≡ slice_set old.touched.items s.level (Some box)
-  once = put ∙ set_over old.touched.items s.level None (Some box)
+  once : new.touched ≡ slice_set old.touched s.level (Some box)
+  once = put ∙ set_over old.touched s.level None (Some box)
 
-  at_here : touched_at new.touched.items s.level ≡ Some box
-  at_here = ap (λ (z : Touches). touched_at z s.level) once ∙ get_or-set_same old.touched.items s.level (Some box) None lt
+  at_here : touched_at new.touched s.level ≡ Some box
+  at_here = ap (λ (z : Touches). touched_at z s.level) once ∙ get_or-set_same old.touched s.level (Some box) None lt
 
-  at_other : (j : ℕ) → j ≢ s.level → touched_at new.touched.items j ≡ touched_at old.touched.items j
-  at_other j ne = ap (λ (z : Touches). touched_at z j) once ∙ get_or-set_other old.touched.items s.level j (Some box) None ne
+  at_other : (j : ℕ) → j ≢ s.level → touched_at new.touched j ≡ touched_at old.touched j
+  at_other j ne = ap (λ (z : Touches). touched_at z j) once ∙ get_or-set_other old.touched s.level j (Some box) None ne
 
-  new_at : (q : Site) → q.level ≡ s.level → hits new.touched.items q ≡ hits_in box.value q.node
+  new_at : (q : Site) → q.level ≡ s.level → hits new.touched q ≡ hits_in box.value q.node
   unfolding hits
-  new_at q e = ap (λ z. hits_by (touched_at new.touched.items z) q.node) e ∙ ap (λ z. hits_by z q.node) at_here
+  new_at q e = ap (λ z. hits_by (touched_at new.touched z) q.node) e ∙ ap (λ z. hits_by z q.node) at_here
 
-  old_at : (q : Site) → q.level ≡ s.level → hits old.touched.items q ≡ hits_in t q.node
+  old_at : (q : Site) → q.level ≡ s.level → hits old.touched q ≡ hits_in t q.node
   unfolding hits
-  old_at q e = ap (λ z. hits_by (touched_at old.touched.items z) q.node) e ∙ sym (same q.node)
+  old_at q e = ap (λ z. hits_by (touched_at old.touched z) q.node) e ∙ sym (same q.node)
 
-  stays : (q : Site) → q.level ≢ s.level → hits new.touched.items q ≡ hits old.touched.items q
+  stays : (q : Site) → q.level ≢ s.level → hits new.touched q ≡ hits old.touched q
   unfolding hits
   stays q ne = ap (λ z. hits_by z q.node) (at_other q.level ne)
 
   flags : List Bool
   flags = fault_flags g.stuck t.level.now.switches (row_at g.opened s.level)
 
-  each : (k : ℕ) → IsTouchedBy g k (touched_at new.touched.items k)
+  each : (k : ℕ) → IsTouchedBy g k (touched_at new.touched k)
   each k = by (k == s.level) refl
     where
       own : IsTouched g s.level box.value
@@ -130,10 +130,10 @@ module _ (g : Ground) (old new : Walk) (s : Site) (t : Touched) (m : VoltageLeve
         ends = ends_as t.level.now box.value.level.now t.labels.items box.value.labels.items touched.present.placed t.ends.items box.value.ends.items is.level is.labels is.ends touched.ends;
       }
 
-      by : (u : Bool) → (k == s.level) ≡ u → IsTouchedBy g k (touched_at new.touched.items k)
+      by : (u : Bool) → (k == s.level) ≡ u → IsTouchedBy g k (touched_at new.touched k)
       by true e =
           let j = eqb-true k s.level e in
-          subst (λ (z : ℕ). IsTouchedBy g z (touched_at new.touched.items z)) (sym j) (subst (IsTouchedBy g s.level) (sym at_here) own)
+          subst (λ (z : ℕ). IsTouchedBy g z (touched_at new.touched z)) (sym j) (subst (IsTouchedBy g s.level) (sym at_here) own)
       by false e = subst (IsTouchedBy g k) (sym (at_other k (unlike k s.level e))) (sees.each k)
 
   closed : (set : Site → Bool) → HasEdges g set → IsClosed (λ n. set (site_at s.level n)) (passing_where t.level.now flags)
@@ -150,14 +150,14 @@ module _ (g : Ground) (old new : Walk) (s : Site) (t : Touched) (m : VoltageLeve
       let level : h.level ≡ t.level.now = cc in
       subst (λ (z : VoltageLevel). among (nodes z) q.node ≡ true) level h.node
 
-  kept : (q : Site) → hits old.touched.items q ≡ true → hits new.touched.items q ≡ true
+  kept : (q : Site) → hits old.touched q ≡ true → hits new.touched q ≡ true
   kept q h = by (q.level == s.level) refl
     where
-      by : (u : Bool) → (q.level == s.level) ≡ u → hits new.touched.items q ≡ true
+      by : (u : Bool) → (q.level == s.level) ≡ u → hits new.touched q ≡ true
       by true e = let j = eqb-true q.level s.level e in new_at q j ∙ hit_more t s.node box.value is below q.node (sym (old_at q j) ∙ h)
       by false e = stays q (unlike q.level s.level e) ∙ h
 
-  least : (set : Site → Bool) → HasEdges g set → HasSites set (s ∷ []) → ((q : Site) → IsNode g.net q → hits old.touched.items q ≡ true → set q ≡ true) → (q : Site) → IsNode g.net q → hits new.touched.items q ≡ true → set q ≡ true
+  least : (set : Site → Bool) → HasEdges g set → HasSites set (s ∷ []) → ((q : Site) → IsNode g.net q → hits old.touched q ≡ true → set q ≡ true) → (q : Site) → IsNode g.net q → hits new.touched q ≡ true → set q ≡ true
   unfolding flags
   least set edges starts before q h hit = by (q.level == s.level) refl
     where
@@ -179,7 +179,7 @@ module _ (g : Ground) (old new : Walk) (s : Site) (t : Touched) (m : VoltageLeve
       let ends : new_ends t m.placed s.node ≡ ends_in t.level.now t.labels.items m.placed (label_in t s.node) = rw e refl in
       ap (λ z. has_id z id) (work ∙ ap (λ z. old.work ++ z) ends) ∙ has_join old.work (ends_in t.level.now t.labels.items m.placed (label_in t s.node)) id ∙ or_right (has_id old.work id) _ (had id (ends_in t.level.now t.labels.items m.placed (label_in t s.node)) i)
 
-  ends : (q : Site) (p : Placed) → IsEnd g q p → hits new.touched.items q ≡ true → (hits old.touched.items q ≡ true) ⊎ (has_id new.work p.terminal.equipment ≡ true)
+  ends : (q : Site) (p : Placed) → IsEnd g q p → hits new.touched q ≡ true → (hits old.touched q ≡ true) ⊎ (has_id new.work p.terminal.equipment ≡ true)
   unfolding ends_in
   ends q p end hit = by (q.level == s.level) refl
     where
@@ -191,11 +191,11 @@ module _ (g : Ground) (old new : Walk) (s : Site) (t : Touched) (m : VoltageLeve
           let passes = and_from (is_branch_end p.stand) (label_in t p.node == label_in t s.node) end.ends (eq-eqb (label_in t p.node) (label_in t s.node) (ap (label_in t) end.node ∙ label)) in
           fresh e p.terminal.equipment (among_map (λ (x : Placed). x.terminal.equipment) p (filter (is_end_in t.level.now t.labels.items (label_in t s.node)) m.placed) (among_filter (is_end_in t.level.now t.labels.items (label_in t s.node)) p m.placed (among_got m.placed end.index p there) passes))
 
-      one_label : (u : Bool) → hits_in t s.node ≡ u → q.level ≡ s.level → label_in t q.node ≡ label_in t s.node → (hits old.touched.items q ≡ true) ⊎ (has_id new.work p.terminal.equipment ≡ true)
+      one_label : (u : Bool) → hits_in t s.node ≡ u → q.level ≡ s.level → label_in t q.node ≡ label_in t s.node → (hits old.touched q ≡ true) ⊎ (has_id new.work p.terminal.equipment ≡ true)
       one_label true e j label = inl (old_at q j ∙ ap (λ z. get_or t.hit.items z false) label ∙ e)
       one_label false e j label = inr (new_end j label e)
 
-      by : (u : Bool) → (q.level == s.level) ≡ u → (hits old.touched.items q ≡ true) ⊎ (has_id new.work p.terminal.equipment ≡ true)
+      by : (u : Bool) → (q.level == s.level) ≡ u → (hits old.touched q ≡ true) ⊎ (has_id new.work p.terminal.equipment ≡ true)
       by true e =
           let j = eqb-true q.level s.level e in
           elim (hit_cases t s.node box.value is below q.node (sym (new_at q j) ∙ hit)) [
@@ -204,7 +204,7 @@ module _ (g : Ground) (old new : Walk) (s : Site) (t : Touched) (m : VoltageLeve
           ]
       by false e = inl (sym (stays q (unlike q.level s.level e)) ∙ hit)
 
-  reasons : (id : List ℕ) → has_id new.work id ≡ true → (has_id old.work id ≡ true) ⊎ ((q : Site) × (p : Placed) × IsEnd g q p × (hits new.touched.items q ≡ true) × (p.terminal.equipment ≡ id))
+  reasons : (id : List ℕ) → has_id new.work id ≡ true → (has_id old.work id ≡ true) ⊎ ((q : Site) × (p : Placed) × IsEnd g q p × (hits new.touched q ≡ true) × (p.terminal.equipment ≡ id))
   unfolding new_ends ends_in
   reasons id h =
       elim (or_cases (has_id old.work id) (has_id (new_ends t m.placed s.node) id) (sym (has_join old.work (new_ends t m.placed s.node) id) ∙ ap (λ z. has_id z id) (sym work) ∙ h)) [
@@ -213,7 +213,7 @@ module _ (g : Ground) (old new : Walk) (s : Site) (t : Touched) (m : VoltageLeve
       ]
     where
       Reason : Type 0
-      Reason = (q : Site) × (p : Placed) × IsEnd g q p × (hits new.touched.items q ≡ true) × (p.terminal.equipment ≡ id)
+      Reason = (q : Site) × (p : Placed) × IsEnd g q p × (hits new.touched q ≡ true) × (p.terminal.equipment ≡ id)
 
       by : (u : Bool) → Among id (cond u [] (map (λ (x : Placed). x.terminal.equipment) (filter (is_end_in t.level.now t.labels.items (label_in t s.node)) m.placed))) → Reason
       by true i = absurd i
@@ -227,7 +227,7 @@ module _ (g : Ground) (old new : Walk) (s : Site) (t : Touched) (m : VoltageLeve
 
   pub grows_hit : Grows g old new (s ∷ [])
   grows_hit = record {
-    touched = record { long = ap length once ∙ length-set old.touched.items s.level (Some box) ∙ sees.long; each = each };
+    touched = record { long = ap length once ∙ length-set old.touched s.level (Some box) ∙ sees.long; each = each };
     here = λ i q e. here_at i q e;
     kept = kept;
     least = least;
@@ -236,10 +236,10 @@ module _ (g : Ground) (old new : Walk) (s : Site) (t : Touched) (m : VoltageLeve
     reasons = reasons;
   }
     where
-      here_at : (i : ℕ) (q : Site) → slice_get (s ∷ []) i ≡ Some q → hits new.touched.items q ≡ true
+      here_at : (i : ℕ) (q : Site) → slice_get (s ∷ []) i ≡ Some q → hits new.touched q ≡ true
       here_at zero q e =
           let is_it : s ≡ q = cc in
-          subst (λ (z : Site). hits new.touched.items z ≡ true) is_it (new_at s refl ∙ hit_same t s.node box.value is below s.node refl)
+          subst (λ (z : Site). hits new.touched z ≡ true) is_it (new_at s refl ∙ hit_same t s.node box.value is below s.node refl)
       here_at (suc i) q e = cc
 
 -- ---- one after the other

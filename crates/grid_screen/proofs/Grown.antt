@@ -16,7 +16,7 @@ use Rattle.grid_states.specs.Rows.{row_at}
 use Rattle.grid_structure.specs.Sites.{levels}
 use Rattle.grid_screen.specs.declared.walk.Touched.{Touched}
 use Rattle.grid_screen.specs.Grounds.{Ground, IsGround, fault_flags}
-use Rattle.grid_screen.specs.Screened.{level_without}
+use Rattle.grid_outages.specs.Changes.{level_without}
 use Rattle.grid_screen.specs.Walks.{label_by, label_in, hits_in, is_end_in, ends_in, AreEnds, CanList, IsTouched, IsUntouched, CanHit, IsHitIn}
 use Rattle.grid_screen.proofs.Passed as passed
 

@@ -5,7 +5,7 @@ use Rattle.grid_graph.specs.Joined.{joined, neighbours}
 use Rattle.grid_graph.proofs.Reach.{In, Holds, joined_refl}
 use Rattle.grid_structure.specs.declared.Site.{Site}
 use Rattle.grid_screen.specs.Zones.{site_at, site_number, pair_number, is_hit}
-use Rattle.grid_screen.proofs.Members.{Among, among_map, map_among, any_among, any_found}
+use Rattle.grid_outages.proofs.Members.{Among, among_map, map_among, any_among, any_found}
 use Rattle.grid_screen.proofs.Closed.{IsClosed, among_in, within_alike, next_first, next_second, next_among, joined_next}
 
 -- ---- numbers of sites

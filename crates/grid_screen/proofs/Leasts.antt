@@ -21,9 +21,9 @@ use Rattle.grid_screen.specs.FaultLaws.{ZoneIsLeast, FailureSpreads}
 use Rattle.grid_screen.specs.Faults.{before_fault, zone_from, zone_of}
 use Rattle.grid_screen.specs.Findings.{CaseFits, state_in}
 use Rattle.grid_screen.specs.Grounds.{Ground, IsGround, ground}
-use Rattle.grid_screen.specs.Steps.{rows_by, rows_with_out, rows_after}
+use Rattle.grid_outages.specs.Steps.{rows_by, rows_with_out, rows_after}
 use Rattle.grid_screen.specs.Zones.{sites_at, network_sites, sites_of, passes_fault, passing_fault, level_ties, branch_ties, fault_ties, is_hit, zone_over}
-use Rattle.grid_screen.proofs.Members.{Among, among_got, got_among, among_left, among_right, among_parts, among_map, map_among, among_filter, filter_among, among_flat, flat_among}
+use Rattle.grid_outages.proofs.Members.{Among, among_got, got_among, among_left, among_right, among_parts, among_map, map_among, among_filter, filter_among, among_flat, flat_among}
 use Rattle.grid_screen.proofs.Outcomes.{outcome}
 use Rattle.grid_screen.proofs.Zoned.{IsPast, zone_least, zone_held, zone_begun, starts_are_nodes}
 

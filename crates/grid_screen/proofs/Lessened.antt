@@ -12,11 +12,11 @@ use Rattle.grid_structure.specs.Clearing.{cleared, cleared_at}
 use Rattle.grid_structure.specs.Network.{Network}
 use Rattle.grid_structure.specs.Sites.{find_switch, site}
 use Rattle.grid_structure.proofs.Framing.{is_same}
-use Rattle.grid_screen.specs.Steps.{level_of_site, cleared_side, taken_out, levels_by, rows_by, levels_with_out, rows_with_out, levels_after, rows_after}
-use Rattle.grid_screen.proofs.Again.{rows_again}
-use Rattle.grid_screen.proofs.Changing.{switch_out}
+use Rattle.grid_outages.specs.Steps.{level_of_site, cleared_side, taken_out, levels_by, rows_by, levels_with_out, rows_with_out, levels_after, rows_after}
+use Rattle.grid_outages.proofs.Again.{rows_again}
+use Rattle.grid_outages.proofs.Changing.{switch_out}
 use Rattle.grid_screen.proofs.Leasts.{after_row, after_rows}
-use Rattle.grid_screen.proofs.Members.{Among, filter_among}
+use Rattle.grid_outages.proofs.Members.{Among, filter_among}
 
 -- ---- terminals
 

@@ -5,23 +5,22 @@ use Rattle.std.specs.declared.alloc.Global.{Global}
 use Rattle.std.specs.Option.{option_map}
 use Rattle.std.specs.List.{flat_map, enumerate_from}
 use Rattle.std.proofs.lemmas.List.{append-nil, take_all}
-use Rattle.std.proofs.lemmas.List.FromFn.{length-enumerate_from}
-use Rattle.std.proofs.lemmas.Grind.{flat_map-append}
-use Rattle.grid_lemmas.proofs.Lists.{map_one_more, take_got, some_got}
+use Rattle.grid_lemmas.proofs.Lists.{map_one_more, some_got}
 use Rattle.grid_level.specs.VoltageLevel.{VoltageLevel}
 use Rattle.grid_level.specs.Passing.{nodes}
 use Rattle.grid_groups.specs.Labels.{label_of, index_in}
 use Rattle.grid_groups.proofs.Indices.{index_at}
 use Rattle.grid_states.specs.Rows.{row_at}
 use Rattle.grid_structure.specs.declared.Site.{Site}
-use Rattle.grid_structure.specs.Network.{Network}
 use Rattle.grid_structure.specs.Sites.{levels}
+use Rattle.grid_sparse.specs.Options.{present}
+use Rattle.grid_sparse.proofs.Passes.{flat_map_present}
 use Rattle.grid_screen.specs.declared.walk.Touched.{Touched}
 use Rattle.grid_screen.specs.Grounds.{Ground, fault_flags}
 use Rattle.grid_screen.specs.Listing.{is_hit, Fits, hit_sites}
 use Rattle.grid_screen.specs.Walks.{Touches, touched_at, hits_in, hits_by, hits, IsTouched, IsTouchedBy, AreTouched}
 use Rattle.grid_screen.specs.Zones.{site_at, network_sites}
-use Rattle.grid_screen.proofs.Members.{map_among, filter_agrees}
+use Rattle.grid_outages.proofs.Members.{map_among, filter_agrees}
 use Rattle.grid_screen.proofs.Growing.{got_below}
 use Rattle.grid_screen.proofs.Passed as passed
 
@@ -89,10 +88,6 @@ fits g place t h =
 abbrev pub level_sites : ℕ × VoltageLevel → List Site
 level_sites at = map (site_at at.0) (nodes at.1)
 
--- the sites of the levels before a place that are hit
-abbrev pub zone_before : Network → Touches → ℕ → List Site
-zone_before net touched place = filter (hits touched) (flat_map level_sites (take place (enumerate_from 0 (levels net))))
-
 abbrev numbered : {X : Type 0} → ℕ → X → Option (ℕ × X)
 numbered n x = Some (n, x)
 
@@ -111,45 +106,39 @@ filter_join {X} p (x ∷ xs) ys = by (p x) (filter_join p xs ys)
     by true again = ap (λ z. x ∷ z) again
     by false again = again
 
-level_step : (net : Network) (touched : Touches) (k : ℕ) (l : VoltageLevel) → slice_get (levels net) k ≡ Some l → zone_before net touched (k + 1) ≡ zone_before net touched k ++ filter (hits touched) (map (site_at k) (nodes l))
-level_step net touched k l at =
-    let all = enumerate_from 0 (levels net) in
-    let zero_plus : 0 + k ≡ k = omega arith in
-    let got = enumerate_got (levels net) 0 k l at ∙ ap (λ (z : ℕ). numbered z l) zero_plus in
-    let more : k + 1 ≡ suc k = omega arith in
-    ap (λ z. filter (hits touched) (flat_map level_sites (take z all))) more
-    ∙ ap (λ z. filter (hits touched) (flat_map level_sites z)) (take_got all k (k, l) got)
-    ∙ ap (filter (hits touched)) (flat_map-append level_sites (take k all) ((k, l) ∷ []) ∙ ap (λ z. flat_map level_sites (take k all) ++ z) (append-nil (map (site_at k) (nodes l))))
-    ∙ filter_join (hits touched) (flat_map level_sites (take k all)) (map (site_at k) (nodes l))
-
 none_pass : {X : Type 0} (xs : List X) → filter (λ (x : X). false) xs ≡ []
 none_pass [] = refl
 none_pass (x ∷ xs) = none_pass xs
 
-pub level_more : (g : Ground) (touched : Touches) (k : ℕ) (here : Box Touched Global) (old new : List Site) → AreTouched g touched → touched_at touched k ≡ Some here
-    → old ≡ zone_before g.net touched k → new ≡ old ++ hit_sites k here.value → new ≡ zone_before g.net touched (k + 1)
-unfolding hit_sites hits
-level_more g touched k here old new each at was is =
-    let h = subst (IsTouchedBy g k) at (each.each k) in
-    let alike = filter_agrees (λ (s : Site). hits_in here.value s.node) (hits touched) (map (site_at k) (nodes here.value.level.now))
-    (λ s i. let n = map_among (site_at k) s (nodes here.value.level.now) i in
-    let level : s.level ≡ k = ap (λ (z : Site). z.level) n.2 in
-    sym (ap (λ z. hits_by (touched_at touched z) s.node) level ∙ ap (λ z. hits_by z s.node) at)) in
-    is ∙ ap (λ z. z ++ filter (λ (s : Site). hits_in here.value s.node) (map (site_at k) (nodes here.value.level.now))) was
-    ∙ ap (λ z. zone_before g.net touched k ++ z) alike ∙ sym (level_step g.net touched k here.value.level.now h.at)
+filter_flat : {X Y : Type 0} (p : Y → Bool) (f : X → List Y) (xs : List X) → filter p (flat_map f xs) ≡ flat_map (λ x. filter p (f x)) xs
+filter_flat p f [] = refl
+filter_flat p f (x ∷ xs) = filter_join p (f x) (flat_map f xs) ∙ ap (λ z. filter p (f x) ++ z) (filter_flat p f xs)
 
-pub level_skipped : (net : Network) (touched : Touches) (k : ℕ) (old : List Site) → k < length (levels net) → touched_at touched k ≡ None → old ≡ zone_before net touched k → old ≡ zone_before net touched (k + 1)
+-- those of a level that was hit, by its place
+abbrev pub sites_hit : ℕ × Box Touched Global → List Site
+sites_hit at = hit_sites at.0 at.1.value
+
+hit_there : (touched : Touches) (k : ℕ) (l : VoltageLevel) (o : Option (Box Touched Global)) → touched_at touched k ≡ o → filter (hits touched) (level_sites (k, l)) ≡ filter (λ s. hits_by o s.node) (level_sites (k, l))
 unfolding hits
-level_skipped net touched k old lt at was =
-    let l = some_got (levels net) k lt in
-    let none = filter_agrees (hits touched) (λ (s : Site). false) (map (site_at k) (nodes l.0))
-    (λ s i. let n = map_among (site_at k) s (nodes l.0) i in
+hit_there touched k l o at =
+    filter_agrees (hits touched) (λ (s : Site). hits_by o s.node) (level_sites (k, l))
+    (λ s i. let n = map_among (site_at k) s (nodes l) i in
     let level : s.level ≡ k = ap (λ (z : Site). z.level) n.2 in
-    ap (λ z. hits_by (touched_at touched z) s.node) level ∙ ap (λ z. hits_by z s.node) at) ∙ none_pass (map (site_at k) (nodes l.0)) in
-    was ∙ sym (level_step net touched k l.0 l.1 ∙ ap (λ z. zone_before net touched k ++ z) none ∙ append-nil (zone_before net touched k))
+    ap (λ z. hits_by (touched_at touched z) s.node) level ∙ ap (λ z. hits_by z s.node) at)
 
-pub zone_all : (net : Network) (touched : Touches) (k : ℕ) (now : List Site) → length (levels net) ≤ k → now ≡ zone_before net touched k → now ≡ filter (hits touched) (network_sites net)
+own_sites : (g : Ground) (touched : Touches) (k : ℕ) (here : Box Touched Global) (l : VoltageLevel) → AreTouched g touched → touched_at touched k ≡ Some here → slice_get (levels g.net) k ≡ Some l → filter (hits touched) (level_sites (k, l)) ≡ hit_sites k here.value
+unfolding hit_sites
+own_sites g touched k here l each at got =
+    let h = subst (IsTouchedBy g k) at (each.each k) in
+    let there = h.at in
+    let same : l ≡ here.value.level.now = cc in
+    hit_there touched k l (Some here) at ∙ ap (λ (z : VoltageLevel). filter (λ (s : Site). hits_in here.value s.node) (level_sites (k, z))) same
+
+-- the sites of a network that are hit are those of the levels that were hit
+pub zone_present : (g : Ground) (touched : Touches) → AreTouched g touched → filter (hits touched) (network_sites g.net) ≡ flat_map sites_hit (present touched)
 unfolding network_sites
-zone_all net touched k now most is =
-    let long = length-enumerate_from 0 (levels net) in
-    is ∙ ap (λ z. filter (hits touched) (flat_map level_sites z)) (take_all k (enumerate_from 0 (levels net)) (omega (arith, most, long)))
+zone_present g touched each =
+    filter_flat (hits touched) level_sites (enumerate_from 0 (levels g.net))
+    ∙ flat_map_present (λ (at : ℕ × VoltageLevel). filter (hits touched) (level_sites at)) sites_hit touched (levels g.net) each.long
+    (λ k l none got. hit_there touched k l None none ∙ none_pass (level_sites (k, l)))
+    (λ k here l some got. own_sites g touched k here l each some got)

@@ -1,44 +1,37 @@
 -- The figures by what is kept and changed are those of the state after the outage.
-use Rattle.std.proofs.Common.{◌≡◌, refl, sym, ap, ◌∙◌, subst, ℕ, Bool, List, [], length, map}
+use Rattle.std.proofs.Common.{◌≡◌, refl, sym, ap, ◌∙◌, subst, ℕ, List, [], length, map}
 use Rattle.std.specs.Prelude.{flat_map}
-use Rattle.std.specs.List.{enumerate_from}
 use Rattle.std.proofs.lemmas.List.{length-map}
-use Rattle.std.proofs.lemmas.List.FromFn.{length-enumerate_from}
 use Rattle.grid_graph.specs.Components.{places}
 use Rattle.grid_graph.specs.Graph.{EndsBelow}
-use Rattle.grid_level.specs.VoltageLevel.{VoltageLevel}
-use Rattle.grid_powers.specs.Listed.{Listed}
-use Rattle.grid_states.specs.Rows.{row_at}
 use Rattle.grid_structure.specs.Sites.{levels}
 use Rattle.grid_structure.specs.Soundness.{IsSound}
 use Rattle.grid_islands.specs.Islands.{NetworkBus, bus_pairs}
 use Rattle.grid_core.specs.Solo.{State}
-use Rattle.grid_screen.specs.declared.screening.BusSums.{BusSums}
+use Rattle.grid_unions.specs.declared.summed.Sums.{Sums}
 use Rattle.grid_screen.specs.Figures.{figures_over}
 use Rattle.grid_screen.specs.Findings.{figures_of}
 use Rattle.grid_screen.specs.Outages.{state_without}
-use Rattle.grid_screen.specs.Screened.{Changes, bus_sums, sums_of, buses_over, level_sums, level_places, sums_before, network_links, link_pairs, figures_by}
-use Rattle.grid_screen.specs.Steps.{Stands, levels_after, rows_after}
+use Rattle.grid_figures.specs.Figures.{figures_by}
+use Rattle.grid_sums.specs.Sums.{bus_sums}
+use Rattle.grid_outages.specs.Changes.{Changes, buses_over, level_sums, level_places, sums_before, network_links, link_pairs}
+use Rattle.grid_outages.specs.Steps.{Stands, levels_after, rows_after}
 use Rattle.grid_screen.proofs.Buses.{all_sums}
 use Rattle.grid_screen.proofs.Figured.{figured, pairs_below}
 use Rattle.grid_screen.proofs.Outed.{pairs_left}
-use Rattle.grid_screen.proofs.Shown.{stands_as}
+use Rattle.grid_outages.proofs.Showing.{stands_as}
 use Rattle.grid_screen.proofs.Stepped.{Outcome, none_out, all_more, buses_of_state}
-
-pub kept_long : (listed : Listed) (ls : List VoltageLevel) (rows : List (List Bool)) → length (level_sums listed ls rows) ≡ length ls
-unfolding level_sums
-kept_long listed ls rows = length-map (enumerate_from 0 ls) (λ (at : ℕ × VoltageLevel). sums_of listed at.1 (row_at rows at.0)) ∙ length-enumerate_from 0 ls
 
 -- the state after the outage, with what the levels and rows by list are
 pub outcome : (first : State) (ids : List (List ℕ)) → IsSound first.structure → Outcome first (state_without first ids) (levels_after first.structure ids (levels first.structure)) (rows_after first.structure ids first.opened)
 unfolding state_without levels_after rows_after
 outcome first ids sound = all_more first first (levels first.structure) first.opened ids sound (record { removed = []; out = none_out first sound; levels_are = refl; rows_are = refl })
 
-pub record Screens (first : State) (ids : List (List ℕ)) (sums : List BusSums) (pairs : List (ℕ × ℕ)) : Type 0 where
+pub record Screens (first : State) (ids : List (List ℕ)) (sums : List Sums) (pairs : List (ℕ × ℕ)) : Type 0 where
   pub ends : EndsBelow pairs (length sums)
   pub is : figures_by sums pairs ≡ figures_of (state_without first ids)
 
-pub screens : (first : State) (ids : List (List ℕ)) (changes : Changes) (firsts : List ℕ) (sums : List BusSums) (pairs : List (ℕ × ℕ)) → IsSound first.structure
+pub screens : (first : State) (ids : List (List ℕ)) (changes : Changes) (firsts : List ℕ) (sums : List Sums) (pairs : List (ℕ × ℕ)) → IsSound first.structure
     → Stands first.powers (levels first.structure) first.opened changes (levels_after first.structure ids (levels first.structure)) (rows_after first.structure ids first.opened)
     → firsts ≡ map (λ (place : ℕ). length (sums_before (level_sums first.powers (levels first.structure) first.opened) changes place)) (places (length (levels first.structure)))
     → sums ≡ sums_before (level_sums first.powers (levels first.structure) first.opened) changes (length (levels first.structure))

@@ -28,13 +28,13 @@ use Rattle.grid_busview.specs.Views.{node_buses_of}
 use Rattle.grid_islands.specs.Islands.{NetworkBus, holds, bus_at, pair_between, pairs_among, branch_pairs, bus_pairs}
 use Rattle.grid_islands.specs.Numbering.{number_of_node, node_within}
 use Rattle.grid_islands.proofs.Counting.{level_at, level_within}
-use Rattle.grid_screen.specs.declared.screening.BusSums.{BusSums}
-use Rattle.grid_screen.specs.declared.screening.Spot.{Spot}
-use Rattle.grid_screen.specs.declared.screening.Link.{Link}
-use Rattle.grid_screen.specs.Screened.{Changes, change_at, buses_over, level_sums, level_places, sums_before, spot_at, spot_of, link_between, links_among, branch_links, network_links, level_without, branches_without, place_among, place_in, number_at, link_pairs}
-use Rattle.grid_screen.specs.Steps.{Stands}
+use Rattle.grid_unions.specs.declared.summed.Sums.{Sums}
+use Rattle.grid_outages.specs.declared.screening.Spot.{Spot}
+use Rattle.grid_outages.specs.declared.screening.Link.{Link}
+use Rattle.grid_outages.specs.Changes.{Changes, change_at, buses_over, level_sums, level_places, sums_before, spot_at, spot_of, link_between, links_among, branch_links, network_links, level_without, branches_without, place_among, place_in, number_at, link_pairs}
+use Rattle.grid_outages.specs.Steps.{Stands}
 use Rattle.grid_screen.proofs.Buses.{bus_number, same_level, same_row, own_level, own_row, looked_at}
-use Rattle.grid_screen.proofs.Shown.{Change}
+use Rattle.grid_outages.proofs.Showing.{Change}
 use Rattle.grid_screen.proofs.Stands.{Ended, AllStand, all_stand, ends_alike, branches_alike}
 use Rattle.std.proofs.lemmas.Option.{slice_get_within}
 
@@ -195,7 +195,7 @@ left_branches {X} f removed (b ∷ bs) = by (has_id removed b.id) (left_branches
 
 module _ (net new : Network) (sound : IsSound net) (removed : List (List ℕ)) (listed : Listed) (flags : List (List Bool)) (changes : Changes) (rows : List (List Bool)) (left : levels new ≡ map (level_without removed) (levels net))
     (fewer : branches new ≡ branches_without removed (branches net)) (s : Stands listed (levels net) flags changes (levels new) rows) where
-  abbrev pub sums_kept : List (List BusSums)
+  abbrev pub sums_kept : List (List Sums)
   sums_kept = level_sums listed (levels net) flags
 
   abbrev pub first_of : ℕ → ℕ

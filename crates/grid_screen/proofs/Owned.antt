@@ -16,7 +16,7 @@ use Rattle.grid_structure.specs.Soundness.{IsSound}
 use Rattle.grid_structure.proofs.Counts.{times, times-append, differ-times, there}
 use Rattle.grid_structure.proofs.Framing.{is_same}
 use Rattle.grid_structure.proofs.Places.{position_found, none_position}
-use Rattle.grid_screen.proofs.Members.{Among, among_got, any_among, any_found, among_map, among_flat}
+use Rattle.grid_outages.proofs.Members.{Among, among_got, any_among, any_found, among_map, among_flat}
 use Rattle.grid_screen.proofs.Sitings.{found_there}
 use Rattle.grid_screen.proofs.Stands.{of_equipment}
 

@@ -21,7 +21,7 @@ use Rattle.grid_groups.proofs.Indices.{among_In, In_among, index_below, at_index
 use Rattle.grid_groups.proofs.Standing.{marked, passing_ends}
 use Rattle.grid_screen.specs.Zones.{passes_fault, passing_fault}
 use Rattle.grid_screen.specs.Grounds.{fault_flags}
-use Rattle.grid_screen.proofs.Members.{Among}
+use Rattle.grid_outages.proofs.Members.{Among}
 use Rattle.grid_screen.proofs.Closed.{IsClosed, within_alike, next_first}
 
 -- ---- what passes

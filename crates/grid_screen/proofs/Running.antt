@@ -10,7 +10,7 @@ use Rattle.grid_level.specs.Kept.{among}
 use Rattle.grid_level.specs.Passing.{nodes, positioned}
 use Rattle.grid_level.specs.Sound.{level_passes}
 use Rattle.grid_lemmas.proofs.Lists.{all_at}
-use Rattle.grid_screen.specs.Screened.{level_without}
+use Rattle.grid_outages.specs.Changes.{level_without}
 use Rattle.grid_states.specs.Rows.{row_at}
 use Rattle.grid_structure.specs.declared.Site.{Site}
 use Rattle.grid_structure.specs.Sites.{levels}
@@ -21,7 +21,7 @@ use Rattle.grid_screen.specs.declared.walk.Walk.{Walk}
 use Rattle.grid_screen.specs.Grounds.{Ground, IsGround, fault_flags}
 use Rattle.grid_screen.specs.Zones.{passing_fault, sites_of_equipment}
 use Rattle.grid_screen.specs.Walks.{Touches, touched_at, hits_by, hits, IsNode, IsTouchedBy, AreTouched, HasEdges, HasEnds, HasSites, IsEnd, Grows, IsOpen, Reaches, Runs, IsSettled}
-use Rattle.grid_screen.proofs.Members.{Among, among_got, got_among, filter_among}
+use Rattle.grid_outages.proofs.Members.{Among, among_got, got_among, filter_among}
 use Rattle.grid_screen.proofs.Growing.{had, has_some}
 use Rattle.grid_screen.proofs.Passed as passed
 
@@ -87,16 +87,16 @@ id_waits : (rest : List (List ℕ)) (id : List ℕ) (work : List (List ℕ)) →
 id_waits rest id work e = ap (λ z. has_id z id) e ∙ has_join rest (id ∷ []) id ∙ or_right (has_id rest id) _ (had id (id ∷ []) (inl refl))
 
 module _ (g : Ground) (ground : IsGround g) (old mid new : Walk) (id : List ℕ) (is_open : IsOpen g old) (same : mid.touched ≡ old.touched) (work : old.work ≡ mid.work ++ id ∷ []) (grows : Grows g mid new (sites_of_equipment g.net id)) where
-  kept : (s : Site) → hits old.touched.items s ≡ true → hits new.touched.items s ≡ true
-  kept s h = grows.kept s (ap (λ z. hits z.items s) same ∙ h)
+  kept : (s : Site) → hits old.touched s ≡ true → hits new.touched s ≡ true
+  kept s h = grows.kept s (ap (λ (z : Touches). hits z s) same ∙ h)
 
   pub open_more : IsOpen g new
   open_more = record {
     touched = grows.touched;
     pending = λ s p end hit. elim (grows.ends s p end hit) [
-      | inl was ↦ elim (is_open.pending s p end (ap (λ z. hits z.items s) (sym same) ∙ was)) [
+      | inl was ↦ elim (is_open.pending s p end (ap (λ (z : Touches). hits z s) (sym same) ∙ was)) [
         | inl waits ↦ elim (taken_id mid.work id p.terminal.equipment old.work work waits) [
-          | inl own ↦ inr (subst (λ (z : List ℕ). HasSites (hits new.touched.items) (sites_of_equipment g.net z)) (sym own) grows.here)
+          | inl own ↦ inr (subst (λ (z : List ℕ). HasSites (hits new.touched) (sites_of_equipment g.net z)) (sym own) grows.here)
           | inr still ↦ inl (grows.waits p.terminal.equipment still)
         ]
         | inr all ↦ inr (λ i q e. kept q (all i q e))
@@ -109,21 +109,21 @@ module _ (g : Ground) (ground : IsGround g) (old mid new : Walk) (id : List ℕ)
     ];
   }
 
-  pub reaches_more : (first : Touches) → Reaches g first old.touched.items → Reaches g first new.touched.items
+  pub reaches_more : (first : Touches) → Reaches g first old.touched → Reaches g first new.touched
   reaches_more first r = record {
     kept = λ s h. kept s (r.kept s h);
     least = λ set edges ends before s node hit.
-        let was = λ (q : Site) (n : IsNode g.net q) (h : hits old.touched.items q ≡ true). r.least set edges ends before q n h in
+        let was = λ (q : Site) (n : IsNode g.net q) (h : hits old.touched q ≡ true). r.least set edges ends before q n h in
         let why = is_open.reasons id (id_waits mid.work id old.work work) in
         grows.least set edges (subst (λ (z : List ℕ). HasSites set (sites_of_equipment g.net z)) why.4 (ends why.0 why.1 why.2 (was why.0 (end_is_node g ground why.0 why.1 why.2) why.3)))
-        (λ q n h. was q n (ap (λ z. hits z.items q) (sym same) ∙ h)) s node hit;
+        (λ q n h. was q n (ap (λ (z : Touches). hits z q) (sym same) ∙ h)) s node hit;
   }
 
 pub nothing_left : {X : Type 0} (xs : List X) → (0 < length xs → ⊥) → xs ≡ []
 nothing_left [] h = refl
 nothing_left (x ∷ xs) h = absurd (h (omega arith))
 
-pub ends_all : (g : Ground) (walk : Walk) → IsOpen g walk → walk.work ≡ [] → HasEnds g (hits walk.touched.items)
+pub ends_all : (g : Ground) (walk : Walk) → IsOpen g walk → walk.work ≡ [] → HasEnds g (hits walk.touched)
 unfolding has_id
 ends_all g walk is_open e s p end hit = elim (is_open.pending s p end hit) [
   | inl waits ↦ absurd (false≢true (ap (λ z. has_id z p.terminal.equipment) (sym e) ∙ waits))
@@ -139,11 +139,11 @@ none_hit : (touched : Touches) → ((k : ℕ) → touched_at touched k ≡ None)
 unfolding hits
 none_hit touched none s h = false≢true (sym (ap (λ z. hits_by z s.node) (none s.level)) ∙ h)
 
-pub opened : (g : Ground) (first walk : Walk) (starts : List Site) → ((k : ℕ) → touched_at first.touched.items k ≡ None) → first.work ≡ [] → Grows g first walk starts → IsOpen g walk
+pub opened : (g : Ground) (first walk : Walk) (starts : List Site) → ((k : ℕ) → touched_at first.touched k ≡ None) → first.work ≡ [] → Grows g first walk starts → IsOpen g walk
 unfolding has_id
 opened g first walk starts none work grows = record {
   touched = grows.touched;
-  pending = λ s p end hit. elim (grows.ends s p end hit) [ inl was ↦ absurd (none_hit first.touched.items none s was) | inr waits ↦ inl waits ];
+  pending = λ s p end hit. elim (grows.ends s p end hit) [ inl was ↦ absurd (none_hit first.touched none s was) | inr waits ↦ inl waits ];
   reasons = λ id h. elim (grows.reasons id h) [ inl was ↦ absurd (false≢true (ap (λ z. has_id z id) (sym work) ∙ was)) | inr r ↦ r ];
 }
 
@@ -163,11 +163,11 @@ edges_hit g ground touched each k i l pair at got = by (touched_at touched k) (e
         let passes = subst (λ z. Among pair z) (passed.fault_passing g.stuck own (row_at g.opened k) (ground.flags k own h.at)) there in
         ap (λ z. get_or t.value.hit.items z false) (passed.pair_label own flags t.value.labels.items h.keeps h.labels pair passes)
 
-pub settled : (g : Ground) → IsGround g → (first walk last : Walk) (starts : List Site) → ((k : ℕ) → touched_at first.touched.items k ≡ None) → Grows g first walk starts → Runs g walk last → IsSettled g starts last.touched.items
+pub settled : (g : Ground) → IsGround g → (first walk last : Walk) (starts : List Site) → ((k : ℕ) → touched_at first.touched k ≡ None) → Grows g first walk starts → Runs g walk last → IsSettled g starts last.touched
 settled g ground first walk last starts none grows runs = record {
   each = runs.touched;
   here = λ i s e. runs.reaches.kept s (grows.here i s e);
-  edges = edges_hit g ground last.touched.items runs.touched;
+  edges = edges_hit g ground last.touched runs.touched;
   ends = runs.ends;
-  least = λ set edges ends begun s node hit. runs.reaches.least set edges ends (λ q n h. grows.least set edges begun (λ r m was. absurd (none_hit first.touched.items none r was)) q n h) s node hit;
+  least = λ set edges ends begun s node hit. runs.reaches.least set edges ends (λ q n h. grows.least set edges begun (λ r m was. absurd (none_hit first.touched none r was)) q n h) s node hit;
 }

@@ -12,13 +12,13 @@ use Rattle.grid_structure.specs.declared.Site.{Site}
 use Rattle.grid_screen.specs.Faults.{before_fault, zone_from, zone_of, IsZone}
 use Rattle.grid_screen.specs.Findings.{state_in}
 use Rattle.grid_screen.specs.Grounds.{Ground, IsGround, ground}
-use Rattle.grid_screen.specs.Screened.{Changes, level_without, branches_without, shown_levels, shown_rows}
+use Rattle.grid_outages.specs.Changes.{Changes, level_without, branches_without, shown_levels, shown_rows}
 use Rattle.grid_screen.specs.Scenes.{IsScene}
 use Rattle.grid_screen.specs.Walks.{Touches, hits, IsSettled}
 use Rattle.grid_screen.specs.Zones.{network_sites, sites_of, fault_ties, zone_over}
-use Rattle.grid_screen.specs.Steps.{Shows, levels_after, rows_after}
+use Rattle.grid_outages.specs.Steps.{Shows, levels_after, rows_after}
 use Rattle.grid_screen.proofs.Outcomes.{outcome}
-use Rattle.grid_screen.proofs.Shown.{length-shown_rows}
+use Rattle.grid_outages.proofs.Showing.{length-shown_rows}
 use Rattle.grid_screen.proofs.Stepped.{Outcome}
 use Rattle.grid_screen.proofs.Zoned.{IsPast, zone_is, starts_are_nodes}
 

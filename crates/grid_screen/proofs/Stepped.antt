@@ -33,11 +33,12 @@ use Rattle.grid_requests.specs.declared.request.Request.TheVariants.{OpenSwitch,
 use Rattle.grid_core.specs.Solo.{State, solo, edited, changed_state, refused, rows_after, set_from, flag_at, with_opened, bus_view_at, positioned_at}
 use Rattle.grid_core.proofs.Asking.{open_found}
 use Rattle.grid_core.proofs.Planned.{bus_view-positioned}
-use Rattle.grid_screen.specs.Screened.{level_without, branches_without, buses_under, buses_over}
+use Rattle.grid_sums.specs.Sums.{buses_under}
+use Rattle.grid_outages.specs.Changes.{level_without, branches_without, buses_over}
 use Rattle.grid_screen.specs.Outages.{is_switch, outage_request, with_out}
 use Rattle.grid_screen.specs.Findings.{level_buses, state_buses}
-use Rattle.grid_screen.specs.Steps.{levels_with_out, rows_with_out, taken_out, cleared_side}
-use Rattle.grid_screen.proofs.Changing.{switch_out, equipment_out}
+use Rattle.grid_outages.specs.Steps.{levels_with_out, rows_with_out, taken_out, cleared_side}
+use Rattle.grid_outages.proofs.Changing.{switch_out, equipment_out}
 use Rattle.grid_screen.proofs.Removed.{lessened, no_branch}
 use Rattle.grid_screen.proofs.Stands.{Sited, sited, none_gone}
 

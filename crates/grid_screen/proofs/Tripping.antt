@@ -1,15 +1,14 @@
 -- The breakers that trip, level by level and switch by switch.
-use Rattle.std.proofs.Common.{◌≡◌, refl, sym, ap, ◌∙◌, subst, ℕ, zero, suc, ◌+◌, ◌<◌, ◌≤◌, Bool, true, false, cond, ◌&&◌, ◌||◌, List, [], ◌∷◌, ◌++◌, map, length, get_or, take, arith, Some, None, Option, append_assoc}
+use Rattle.std.proofs.Common.{◌≡◌, refl, sym, ap, ◌∙◌, subst, ℕ, zero, suc, ◌+◌, ◌≤◌, Bool, true, false, cond, ◌&&◌, ◌||◌, List, [], ◌∷◌, ◌++◌, map, length, get_or, take, arith, Some, None, Option, append_assoc}
 use Rattle.std.specs.Prelude.{slice_get, filter, Box, ◌==◌}
 use Rattle.std.specs.declared.alloc.Global.{Global}
 use Rattle.std.specs.List.{flat_map, enumerate_from, list_any}
 use Rattle.std.proofs.lemmas.Bool.{and_parts, and_from, eqb-true, eq-eqb}
 use Rattle.std.proofs.lemmas.List.{append-nil, take_all}
 use Rattle.std.proofs.lemmas.List.FromFn.{length-enumerate_from}
-use Rattle.std.proofs.lemmas.Grind.{flat_map-append}
 use Rattle.grid_ids.specs.Name.{has_id}
 use Rattle.grid_lemmas.proofs.Bools.{same_test}
-use Rattle.grid_lemmas.proofs.Lists.{take_got, some_got}
+use Rattle.grid_lemmas.proofs.Lists.{take_got}
 use Rattle.grid_level.specs.declared.Switch.{Switch}
 use Rattle.grid_level.specs.VoltageLevel.{VoltageLevel}
 use Rattle.grid_level.specs.Passing.{with_opened, positioned}
@@ -18,6 +17,8 @@ use Rattle.grid_structure.specs.declared.Site.{Site}
 use Rattle.grid_structure.specs.declared.SwitchAt.{SwitchAt}
 use Rattle.grid_structure.specs.Network.{Network}
 use Rattle.grid_structure.specs.Sites.{levels, switch_spot}
+use Rattle.grid_sparse.specs.Options.{present}
+use Rattle.grid_sparse.proofs.Passes.{flat_map_present}
 use Rattle.grid_screen.specs.declared.walk.Touched.{Touched}
 use Rattle.grid_core.specs.declared.case.Case.{Case}
 use Rattle.grid_core.specs.Solo.{State, positioned_at}
@@ -26,15 +27,15 @@ use Rattle.grid_contingencies.specs.declared.FaultCase.{FaultCase}
 use Rattle.grid_screen.specs.Faults.{can_trip, trips, spots_that, same_site, in_zone, tripped_in, tripped_from, tripped_of, before_fault, AreTripped}
 use Rattle.grid_screen.specs.Findings.{state_in}
 use Rattle.grid_screen.specs.Scenes.{IsScene}
-use Rattle.grid_screen.specs.Screened.{level_without}
+use Rattle.grid_outages.specs.Changes.{level_without}
 use Rattle.grid_screen.specs.Grounds.{Ground, IsGround, with_flag_of}
 use Rattle.grid_screen.specs.Opening.{level_trips, trips_at, network_trips}
 use Rattle.grid_screen.specs.Walks.{Touches, touched_at, hits_in, hits_by, hits, IsNode, IsTouchedBy, AreTouched, IsSettled}
 use Rattle.grid_screen.specs.Zones.{site_at, network_sites, sites_of}
-use Rattle.grid_screen.proofs.Counted.{got_or}
+use Rattle.grid_screen.proofs.Got.{got_or}
 use Rattle.grid_screen.proofs.Growing.{got_below}
 use Rattle.grid_screen.proofs.Listed.{enumerate_got, filter_last}
-use Rattle.grid_screen.proofs.Members.{any_among, any_found, among_filter, filter_among, filter_agrees, enumerate_among}
+use Rattle.grid_outages.proofs.Members.{any_among, any_found, among_filter, filter_among, filter_agrees, enumerate_among}
 use Rattle.grid_screen.proofs.Sitings.{first_is_node, second_is_node}
 use Rattle.grid_screen.proofs.Scened.{past, zone_found}
 use Rattle.grid_screen.proofs.Zoned.{node_among}
@@ -121,47 +122,34 @@ pub filter_none : {X : Type 0} (p : X → Bool) (xs : List X) → ((x : X) → p
 filter_none p [] h = refl
 filter_none p (x ∷ xs) h = rw (h x) (filter_none p xs h)
 
--- those of the levels before a place
-abbrev pub trips_before : Ground → List (List ℕ) → Touches → ℕ → List SwitchAt
-trips_before g hit touched place = flat_map (trips_at g hit touched) (take place (enumerate_from 0 (levels g.net)))
+-- those of a level that was hit, by its place
+abbrev pub trips_of : Ground → List (List ℕ) → ℕ × Box Touched Global → List SwitchAt
+trips_of g hit at = level_trips g hit at.0 at.1.value
 
-trips_step : (g : Ground) (hit : List (List ℕ)) (touched : Touches) (k : ℕ) (l : VoltageLevel) → slice_get (levels g.net) k ≡ Some l → trips_before g hit touched (k + 1) ≡ trips_before g hit touched k ++ trips_at g hit touched (k, l)
-trips_step g hit touched k l at =
-    let all = enumerate_from 0 (levels g.net) in
-    let zero_plus : 0 + k ≡ k = omega arith in
-    let got = enumerate_got (levels g.net) 0 k l at ∙ ap (λ (z : ℕ). Some (z, l)) zero_plus in
-    let more : k + 1 ≡ suc k = omega arith in
-    ap (flat_map (trips_at g hit touched)) (ap (λ z. take z all) more ∙ take_got all k (k, l) got)
-    ∙ flat_map-append (trips_at g hit touched) (take k all) ((k, l) ∷ []) ∙ ap (λ z. trips_before g hit touched k ++ z) (append-nil (trips_at g hit touched (k, l)))
-
-pub trips_more : (g : Ground) (hit : List (List ℕ)) (touched : Touches) (k : ℕ) (here : Box Touched Global) (old new : List SwitchAt) → AreTouched g touched → touched_at touched k ≡ Some here
-    → old ≡ trips_before g hit touched k → new ≡ old ++ level_trips g hit k here.value → new ≡ trips_before g hit touched (k + 1)
-unfolding hits level_trips trips_at
-trips_more g hit touched k here old new each at was is =
-    let h = subst (IsTouchedBy g k) at (each.each k) in
-    is ∙ ap (λ z. z ++ level_trips g hit k here.value) was
-    ∙ ap (λ (z : Option (Box Touched Global)). trips_before g hit touched k ++ spots_that (trips g.stuck hit (hits_by z)) k (positioned here.value.level.now (row_at g.opened k)).switches) (sym at)
-    ∙ sym (trips_step g hit touched k here.value.level.now h.at)
-
-pub trips_skipped : (g : Ground) (hit : List (List ℕ)) (touched : Touches) (k : ℕ) (old : List SwitchAt) → k < length (levels g.net) → touched_at touched k ≡ None
-    → old ≡ trips_before g hit touched k → old ≡ trips_before g hit touched (k + 1)
+no_trips : (g : Ground) (hit : List (List ℕ)) (touched : Touches) (k : ℕ) (l : VoltageLevel) → touched_at touched k ≡ None → trips_at g hit touched (k, l) ≡ []
 unfolding hits trips_at spots_that trips
-trips_skipped g hit touched k old lt at was =
-    let l = some_got (levels g.net) k lt in
-    let ss = (positioned l.0 (row_at g.opened k)).switches in
-    let none = ap (λ (z : Option (Box Touched Global)). spots_that (trips g.stuck hit (hits_by z)) k ss) at
-    ∙ ap (map (λ (s : ℕ × Switch). switch_spot (k, s.0))) (filter_none (λ (s : ℕ × Switch). can_trip g.stuck hit s.1 && (hits_by None s.1.node1 || hits_by None s.1.node2)) (enumerate_from 0 ss) (λ s. false_right (can_trip g.stuck hit s.1))) in
-    was ∙ sym (trips_step g hit touched k l.0 l.1 ∙ ap (λ z. trips_before g hit touched k ++ z) none ∙ append-nil (trips_before g hit touched k))
+no_trips g hit touched k l at =
+    let ss = (positioned l (row_at g.opened k)).switches in
+    ap (λ (z : Option (Box Touched Global)). spots_that (trips g.stuck hit (hits_by z)) k ss) at
+    ∙ ap (map (λ (s : ℕ × Switch). switch_spot (k, s.0))) (filter_none (λ (s : ℕ × Switch). can_trip g.stuck hit s.1 && (hits_by None s.1.node1 || hits_by None s.1.node2)) (enumerate_from 0 ss) (λ s. false_right (can_trip g.stuck hit s.1)))
   where
     false_right : (t : Bool) → (t && false) ≡ false
     false_right true = refl
     false_right false = refl
 
-pub trips_all : (g : Ground) (hit : List (List ℕ)) (touched : Touches) (k : ℕ) (now : List SwitchAt) → length (levels g.net) ≤ k → now ≡ trips_before g hit touched k → now ≡ network_trips g hit touched
+own_trips : (g : Ground) (hit : List (List ℕ)) (touched : Touches) (k : ℕ) (here : Box Touched Global) (l : VoltageLevel) → AreTouched g touched → touched_at touched k ≡ Some here → slice_get (levels g.net) k ≡ Some l → trips_at g hit touched (k, l) ≡ level_trips g hit k here.value
+unfolding hits level_trips trips_at
+own_trips g hit touched k here l each at got =
+    let h = subst (IsTouchedBy g k) at (each.each k) in
+    let there = h.at in
+    let same : l ≡ here.value.level.now = cc in
+    ap (λ (z : Option (Box Touched Global)). spots_that (trips g.stuck hit (hits_by z)) k (positioned l (row_at g.opened k)).switches) at
+    ∙ ap (λ (z : VoltageLevel). spots_that (trips g.stuck hit (hits_in here.value)) k (positioned z (row_at g.opened k)).switches) same
+
+-- those of all levels are those of the levels that were hit
+pub trips_present : (g : Ground) (hit : List (List ℕ)) (touched : Touches) → AreTouched g touched → network_trips g hit touched ≡ flat_map (trips_of g hit) (present touched)
 unfolding network_trips
-trips_all g hit touched k now most is =
-    let long = length-enumerate_from 0 (levels g.net) in
-    is ∙ ap (flat_map (trips_at g hit touched)) (take_all k (enumerate_from 0 (levels g.net)) (omega (arith, most, long)))
+trips_present g hit touched each = flat_map_present (trips_at g hit touched) (trips_of g hit) touched (levels g.net) each.long (λ k l none got. no_trips g hit touched k l none) (λ k here l some got. own_trips g hit touched k here l each some got)
 
 -- ---- by the zone
 

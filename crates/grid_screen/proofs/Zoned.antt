@@ -22,11 +22,11 @@ use Rattle.grid_structure.specs.declared.SwitchAt.{SwitchAt}
 use Rattle.grid_structure.specs.Network.{Network}
 use Rattle.grid_structure.specs.Sites.{levels, branches, site, find_switch, first_found, terminal_spot}
 use Rattle.grid_structure.specs.Soundness.{IsSound}
-use Rattle.grid_screen.specs.Screened.{level_without, branches_without}
+use Rattle.grid_outages.specs.Changes.{level_without, branches_without}
 use Rattle.grid_screen.specs.Grounds.{Ground, IsGround, fault_flags}
 use Rattle.grid_screen.specs.Zones.{site_at, sites_at, network_sites, sites_of, sites_by, sites_of_equipment, passes_fault, passing_fault, level_ties, each_two, branch_ties, fault_ties, is_hit, zone_over}
 use Rattle.grid_screen.specs.Walks.{Touches, hits, IsNode, HasEdges, HasEnds, IsEnd, IsSettled, site_of_side}
-use Rattle.grid_screen.proofs.Members.{Among, among_got, got_among, among_left, among_right, among_parts, among_map, map_among, filter_among, among_flat, flat_among, among_enumerate, enumerate_among, any_among, any_found, filter_agrees}
+use Rattle.grid_outages.proofs.Members.{Among, among_got, got_among, among_left, among_right, among_parts, among_map, map_among, filter_among, among_flat, flat_among, among_enumerate, enumerate_among, any_among, any_found, filter_agrees}
 use Rattle.grid_screen.proofs.Hitting.{AreAmong, hit_start, hit_tie, hit_least}
 use Rattle.grid_screen.proofs.Passed as passed
 use Rattle.grid_screen.proofs.Sitings.{standing_at, site_is_node, three_sides, first_is_node, second_is_node, two_sites, switch_there}

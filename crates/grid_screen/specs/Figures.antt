@@ -6,7 +6,7 @@ use Rattle.grid_graph.specs.Joined.{groups}
 use Rattle.grid_graph.specs.Components.{places, component_number}
 use Rattle.grid_busview.specs.declared.ViewBus.{ViewBus}
 use Rattle.grid_islands.specs.Islands.{NetworkBus}
-use Rattle.grid_screen.specs.declared.Figures.{Figures}
+use Rattle.grid_figures.specs.declared.Figures.{Figures}
 
 -- the bus of a number is of component 0, among so many buses that these pairs join
 unfoldable pub is_main : ℕ → List (ℕ × ℕ) → ℕ → Bool

@@ -7,7 +7,7 @@ use Rattle.grid_islands.specs.Islands.{NetworkBus, bus_pairs}
 use Rattle.grid_core.specs.declared.case.Case.{Case}
 use Rattle.grid_core.specs.Fitting.{RowsFit}
 use Rattle.grid_core.specs.Solo.{State, state_seen, bus_view_at}
-use Rattle.grid_screen.specs.declared.Figures.{Figures}
+use Rattle.grid_figures.specs.declared.Figures.{Figures}
 use Rattle.grid_screen.specs.Figures.{figures_over}
 
 -- ---- the figures of a state

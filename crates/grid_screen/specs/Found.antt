@@ -11,7 +11,7 @@ use Rattle.grid_core.specs.declared.case.Case.{Case}
 use Rattle.grid_core.specs.Solo.{State}
 use Rattle.grid_contingencies.specs.declared.FaultCase.{FaultCase}
 use Rattle.grid_contingencies.specs.declared.Contingency.{Contingency}
-use Rattle.grid_screen.specs.declared.Figures.{Figures}
+use Rattle.grid_figures.specs.declared.Figures.{Figures}
 use Rattle.grid_screen.specs.declared.Losses.{Losses}
 use Rattle.grid_screen.specs.declared.Finding.{Finding}
 use Rattle.grid_screen.specs.declared.Finding.TheVariants.{UnknownId, NoBreaker, Effect}

@@ -7,7 +7,7 @@ use Rattle.grid_states.specs.Rows.{row_at}
 use Rattle.grid_structure.specs.Network.{Network}
 use Rattle.grid_structure.specs.Sites.{levels}
 use Rattle.grid_structure.specs.Soundness.{IsSound}
-use Rattle.grid_screen.specs.Screened.{level_without}
+use Rattle.grid_outages.specs.Changes.{level_without}
 use Rattle.grid_screen.specs.Zones.{passes_fault}
 
 -- the network that is screened, its levels before the fault with the flags of their switches, true for open, and the

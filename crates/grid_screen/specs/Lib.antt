@@ -2,10 +2,6 @@ pub mod Figures
 pub mod Outages
 pub mod Findings
 pub mod Alike
-pub mod Counting
-pub mod Copied
-pub mod Screened
-pub mod Steps
 pub mod Kept
 pub mod Laws
 pub mod Texts
@@ -15,6 +11,8 @@ pub mod Walks
 pub mod Zones
 pub mod Faults
 pub mod Found
+pub mod Starts
+pub mod Started
 pub mod Listing
 pub mod Opening
 pub mod Scenes

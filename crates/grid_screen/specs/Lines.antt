@@ -8,7 +8,7 @@ use Rattle.grid_jsonl.specs.Trees.{sum_value}
 use Rattle.grid_jsonl.specs.Outcomes.{object_of_kind}
 use Rattle.grid_structure.specs.declared.SwitchAt.{SwitchAt}
 use Rattle.grid_structure.specs.Network.{Network}
-use Rattle.grid_screen.specs.declared.Figures.{Figures}
+use Rattle.grid_figures.specs.declared.Figures.{Figures}
 use Rattle.grid_screen.specs.declared.Losses.{Losses}
 use Rattle.grid_screen.specs.declared.Finding.{Finding}
 use Rattle.grid_screen.specs.declared.Finding.TheVariants.{UnknownId, NoBreaker, Effect}

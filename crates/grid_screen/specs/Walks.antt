@@ -143,13 +143,13 @@ HasSites set sites = (i : ℕ) (s : Site) → slice_get sites i ≡ Some s → s
 
 -- these sites were hit, and with them just what edges join to them; the equipment of each branch end that was hit waits
 pub record Grows (g : Ground) (old new : Walk) (sites : List Site) : Type 0 where
-  pub touched : AreTouched g new.touched.items
-  pub here : HasSites (hits new.touched.items) sites
-  pub kept : (s : Site) → hits old.touched.items s ≡ true → hits new.touched.items s ≡ true
-  pub least : (set : Site → Bool) → HasEdges g set → HasSites set sites → ((s : Site) → IsNode g.net s → hits old.touched.items s ≡ true → set s ≡ true) → (s : Site) → IsNode g.net s → hits new.touched.items s ≡ true → set s ≡ true
-  pub ends : (s : Site) (p : Placed) → IsEnd g s p → hits new.touched.items s ≡ true → (hits old.touched.items s ≡ true) ⊎ (has_id new.work p.terminal.equipment ≡ true)
+  pub touched : AreTouched g new.touched
+  pub here : HasSites (hits new.touched) sites
+  pub kept : (s : Site) → hits old.touched s ≡ true → hits new.touched s ≡ true
+  pub least : (set : Site → Bool) → HasEdges g set → HasSites set sites → ((s : Site) → IsNode g.net s → hits old.touched s ≡ true → set s ≡ true) → (s : Site) → IsNode g.net s → hits new.touched s ≡ true → set s ≡ true
+  pub ends : (s : Site) (p : Placed) → IsEnd g s p → hits new.touched s ≡ true → (hits old.touched s ≡ true) ⊎ (has_id new.work p.terminal.equipment ≡ true)
   pub waits : (id : List ℕ) → has_id old.work id ≡ true → has_id new.work id ≡ true
-  pub reasons : (id : List ℕ) → has_id new.work id ≡ true → (has_id old.work id ≡ true) ⊎ ((s : Site) × (p : Placed) × IsEnd g s p × (hits new.touched.items s ≡ true) × (p.terminal.equipment ≡ id))
+  pub reasons : (id : List ℕ) → has_id new.work id ≡ true → (has_id old.work id ≡ true) ⊎ ((s : Site) × (p : Placed) × IsEnd g s p × (hits new.touched s ≡ true) × (p.terminal.equipment ≡ id))
 
 -- ---- from id to id
 
@@ -170,9 +170,9 @@ pub record IsSwitchOf (net : Network) (at : SwitchAt) : Type 0 where
 
 -- of each branch end that was hit, the equipment waits or its terminals were hit; and what waits is of such a one
 pub record IsOpen (g : Ground) (walk : Walk) : Type 0 where
-  pub touched : AreTouched g walk.touched.items
-  pub pending : (s : Site) (p : Placed) → IsEnd g s p → hits walk.touched.items s ≡ true → (has_id walk.work p.terminal.equipment ≡ true) ⊎ HasSites (hits walk.touched.items) (sites_of_equipment g.net p.terminal.equipment)
-  pub reasons : (id : List ℕ) → has_id walk.work id ≡ true → (s : Site) × (p : Placed) × IsEnd g s p × (hits walk.touched.items s ≡ true) × (p.terminal.equipment ≡ id)
+  pub touched : AreTouched g walk.touched
+  pub pending : (s : Site) (p : Placed) → IsEnd g s p → hits walk.touched s ≡ true → (has_id walk.work p.terminal.equipment ≡ true) ⊎ HasSites (hits walk.touched) (sites_of_equipment g.net p.terminal.equipment)
+  pub reasons : (id : List ℕ) → has_id walk.work id ≡ true → (s : Site) × (p : Placed) × IsEnd g s p × (hits walk.touched s ≡ true) × (p.terminal.equipment ≡ id)
 
 -- with a branch end a set of sites has all terminals of its branch
 abbrev pub HasEnds : Ground → (Site → Bool) → Type 0
@@ -184,9 +184,9 @@ pub record Reaches (g : Ground) (old new : Touches) : Type 0 where
   pub least : (set : Site → Bool) → HasEdges g set → HasEnds g set → ((s : Site) → IsNode g.net s → hits old s ≡ true → set s ≡ true) → (s : Site) → IsNode g.net s → hits new s ≡ true → set s ≡ true
 
 pub record Runs (g : Ground) (old new : Walk) : Type 0 where
-  pub touched : AreTouched g new.touched.items
-  pub reaches : Reaches g old.touched.items new.touched.items
-  pub ends : HasEnds g (hits new.touched.items)
+  pub touched : AreTouched g new.touched
+  pub reaches : Reaches g old.touched new.touched
+  pub ends : HasEnds g (hits new.touched)
 
 -- the starts are hit, with each site what edges and branches join to it, and nothing else
 pub record IsSettled (g : Ground) (starts : List Site) (touched : Touches) : Type 0 where

@@ -13,7 +13,7 @@ ghost use Rattle.grid_screen.specs.Walks.{AreTouched, IsSwitchOf};
 use crate::faults::Breakers;
 use crate::scene::{Scene, set_of};
 use crate::tripped::{is_hit_at, list_tripped};
-use crate::walk::{Touched, walk_from};
+use crate::walk::{Touched, Touches, walk_from};
 use grid_contingencies::FaultCase;
 use grid_core::Case;
 use grid_ids::{Duplicate, Id, Ids, Memory};
@@ -77,20 +77,13 @@ fn push_equipment(ids: &mut Ids, touched: &Touched, placed: &[Placed]) -> Result
 }
 
 // Puts the equipment with terminals last that a walk has hit.
-fn push_hit_equipment(
-    ids: &mut Ids,
-    scene: &Scene,
-    touched: &[Option<Box<Touched>>],
-) -> Result<(), Memory>
+fn push_hit_equipment(ids: &mut Ids, scene: &Scene, touched: &Touches) -> Result<(), Memory>
     requires { AreTouched scene.now touched.now }
     ensures { OnOk result (ids.new ≡ ids.old ++ network_equipment scene.now touched.now) }
 {
     scene.keeps();
-    for place in 0..scene.structure().level_count() {
-        let Some(here) = &touched[place as usize] else {
-            continue;
-        };
-        push_equipment(ids, here, scene.level(place).placed())?;
+    for (place, here) in touched.iter() {
+        push_equipment(ids, here, scene.level(*place).placed())?;
     }
     Ok(())
 }

@@ -3,20 +3,22 @@
 ghost use Rattle.std.specs.Prelude.{◌≡◌, ◌+ℤ◌, neg_ℤ, true, false, IfOk};
 ghost use Rattle.grid_screen.specs.Findings.{CaseFits, AreFigures};
 ghost use Rattle.grid_screen.specs.Found as found;
-ghost use Rattle.grid_screen.specs.Found.{IsFinding, IsEffect};
-ghost use Rattle.grid_screen.specs.Kept.{IsKeptOf, AreFiguresWithout};
+ghost use Rattle.grid_screen.specs.Found.{IsFinding};
+ghost use Rattle.grid_screen.specs.Kept.{IsKeptOf, IsOutageOf, AreFiguresWithout};
+ghost use Rattle.grid_screen.specs.Starts.{StartsEffect, IsStart, finding_from};
+ghost use Rattle.grid_figures.specs.Outages.{OutageFits, AreFiguresUnder};
+ghost use Rattle.grid_outages.specs.Effects.{IsWhole};
 
 use crate::amiss::find_amiss;
 use crate::clearing::clear;
-use crate::counting::count_figures;
 use crate::faults::Breakers;
-use crate::outage::find_changes;
-use crate::present::{list_pairs, list_present};
-use crate::screening::{Screening, make_screening};
 use crate::{Figures, Finding, Losses};
 use grid_contingencies::{Contingency, FaultCase};
 use grid_core::Case;
+use grid_figures::{Outage, figures_after_each};
 use grid_ids::{Duplicate, Id, Memory};
+use grid_outages::{Screening, find_changes, make_screening, outage_of};
+use grid_structure::SwitchAt;
 use std::alloc::Global;
 
 /// What a case gives for every outage.
@@ -24,11 +26,43 @@ pub(crate) fn screening_of(alloc: Global, case: &Case) -> Result<Screening, Memo
     requires { CaseFits case.now }
     ensures { IfOk result (IsKeptOf case.now) }
 {
-    make_screening(alloc, &case.structure, &case.states, &case.powers)
+    let kept = make_screening(alloc, &case.structure, &case.states, &case.powers)?;
+    Ok(kept)
 }
 
-/// The figures of a case after these ids are out. The time is that of the levels and branches, but for a view of each
-/// level that an id touches: no other level is looked at again.
+/// What it is to the figures that these ids are out. The time is that of a view of each level that an id touches, and of
+/// its links: no other level is looked at again.
+pub(crate) fn outage_without(
+    alloc: Global,
+    case: &Case,
+    kept: &Screening,
+    ids: &[Id],
+) -> Result<Outage, Memory>
+    requires fits { CaseFits case.now }
+    requires kept { IsKeptOf case.now kept.now }
+    ensures { IfOk result (IsOutageOf case.now kept.now ids.now) }
+{
+    case.structure.keeps();
+    let changes = find_changes(alloc, &case.structure, &case.states, &case.powers, ids)?;
+    let outage = outage_of(alloc, kept, &changes)?;
+    Ok(outage)
+}
+
+// The figures after an outage.
+fn figures_after(alloc: Global, kept: &Screening, outage: Outage) -> Result<Figures, Memory>
+    requires kept { IsWhole kept.now }
+    requires outage { OutageFits kept.now.sums kept.now.joined outage }
+    ensures { IfOk result (AreFiguresUnder kept.now.sums kept.now.joined outage) }
+{
+    let outages = [outage];
+    let figures = figures_after_each(alloc, kept.sums.slice(), kept.joined.slice(), &outages)?;
+    match figures.first() {
+        Some(figures) => Ok(*figures),
+        None => Err(Memory),
+    }
+}
+
+/// The figures of a case after these ids are out.
 pub(crate) fn figures_without(
     alloc: Global,
     case: &Case,
@@ -39,11 +73,8 @@ pub(crate) fn figures_without(
     requires kept { IsKeptOf case.now kept.now }
     ensures { IfOk result (AreFiguresWithout case.now ids.now) }
 {
-    case.structure.keeps();
-    let changes = find_changes(alloc, &case.structure, &case.states, &case.powers, ids)?;
-    let present = list_present(alloc, kept.sums.slice(), &changes)?;
-    let pairs = list_pairs(alloc, &present.firsts, &changes, kept.links.slice())?;
-    count_figures(alloc, &present.sums, &pairs)
+    let outage = outage_without(alloc, case, kept, ids)?;
+    figures_after(alloc, kept, outage)
 }
 
 // A sum before less one after. It is want of memory, too, where that would not fit its type.
@@ -82,77 +113,122 @@ fn effect_of(before: &Figures, after: Figures, tripped: Option<Breakers>) -> Res
     })
 }
 
-// The effect of what is out.
-fn find_outage(
-    alloc: Global,
-    case: &Case,
-    kept: &Screening,
-    before: &Figures,
-    event: &FaultCase,
-) -> Result<Finding, Memory>
-    requires fits { CaseFits case.now }
-    requires kept { IsKeptOf case.now kept.now }
-    requires before { AreFigures case.now before.now }
-    ensures { IfOk result (IsEffect case.now event.now false) }
-{
-    let after = figures_without(alloc, case, kept, event.out.slice())?;
-    effect_of(before, after, None)
+/// How a finding is made of the figures after an outage.
+#[derive(Drop)]
+pub(crate) enum End {
+    /// It is this one, whatever they are.
+    Amiss(Finding),
+    /// It is the effect, with the breakers that tripped where there is a fault.
+    Effect(Option<Breakers>),
 }
 
-// The effect of a fault that is cleared.
-fn find_cleared(
+/// An outage, and how a finding is made of the figures after it.
+#[derive(Drop)]
+pub(crate) struct Start {
+    pub outage: Outage,
+    pub end: End,
+}
+
+// What is out.
+fn start_outage(
     alloc: Global,
     case: &Case,
     kept: &Screening,
-    before: &Figures,
     event: &FaultCase,
-) -> Result<Finding, Memory>
+) -> Result<Start, Memory>
     requires fits { CaseFits case.now }
     requires kept { IsKeptOf case.now kept.now }
-    requires before { AreFigures case.now before.now }
-    ensures { IfOk result (IsEffect case.now event.now true) }
+    ensures { IfOk result (StartsEffect case.now kept.now event.now false) }
+{
+    Ok(Start {
+        outage: outage_without(alloc, case, kept, event.out.slice())?,
+        end: End::Effect(None),
+    })
+}
+
+// A fault that is cleared.
+fn start_cleared(
+    alloc: Global,
+    case: &Case,
+    kept: &Screening,
+    event: &FaultCase,
+) -> Result<Start, Memory>
+    requires fits { CaseFits case.now }
+    requires kept { IsKeptOf case.now kept.now }
+    ensures { IfOk result (StartsEffect case.now kept.now event.now true) }
 {
     let cleared = clear(alloc, case, event, event.out.copy()?)?;
-    let after = figures_without(alloc, case, kept, cleared.ids.slice())?;
-    effect_of(before, after, Some(cleared.tripped))
+    let outage = outage_without(alloc, case, kept, cleared.ids.slice())?;
+    Ok(Start {
+        outage,
+        end: End::Effect(Some(cleared.tripped)),
+    })
 }
 
-// The effect of a contingency in which no id is amiss.
-fn find_effect(
+// A contingency in which no id is amiss.
+fn start_effect(
     alloc: Global,
     case: &Case,
     kept: &Screening,
-    before: &Figures,
     contingency: &Contingency,
-) -> Result<Finding, Memory>
+) -> Result<Start, Memory>
     requires fits { CaseFits case.now }
     requires kept { IsKeptOf case.now kept.now }
-    requires before { AreFigures case.now before.now }
-    ensures { IfOk result (IsEffect case.now contingency.now.event contingency.now.has_fault) }
+    ensures { IfOk result (StartsEffect case.now kept.now contingency.now.event contingency.now.has_fault) }
 {
     if contingency.has_fault {
-        return find_cleared(alloc, case, kept, before, &contingency.event);
+        return start_cleared(alloc, case, kept, &contingency.event);
     }
-    find_outage(alloc, case, kept, before, &contingency.event)
+    start_outage(alloc, case, kept, &contingency.event)
 }
 
-/// What is found of a contingency, by what is kept of the case.
+/// What is found of a contingency, but for the figures after it. Where an id is amiss, nothing is out.
 #[tactic(auto, unfolding(crate::specs::Found::found_of, crate::specs::Found::finding_of))]
-pub(crate) fn find_with(
+pub(crate) fn start_of(
     alloc: Global,
     case: &Case,
     kept: &Screening,
-    before: &Figures,
     contingency: &Contingency,
-) -> Result<Finding, Memory>
+) -> Result<Start, Memory>
     requires fits { CaseFits case.now }
     requires kept { IsKeptOf case.now kept.now }
-    requires before { AreFigures case.now before.now }
-    ensures { IfOk result (IsFinding case.now contingency.now) }
+    ensures { IfOk result (IsStart case.now kept.now contingency.now) }
 {
     match find_amiss(&case.structure, &contingency.event)? {
-        Some(amiss) => Ok(amiss),
-        None => find_effect(alloc, case, kept, before, contingency),
+        Some(amiss) => Ok(Start {
+            outage: outage_without(alloc, case, kept, &[])?,
+            end: End::Amiss(amiss),
+        }),
+        None => start_effect(alloc, case, kept, contingency),
+    }
+}
+
+// A copy of these breakers.
+fn copy_breakers(alloc: Global, breakers: &[SwitchAt]) -> Result<Breakers, Memory>
+    ensures { IfOk result (λ copy. copy ≡ breakers.now) }
+{
+    match Vec::from_slice(alloc, breakers) {
+        Ok(copy) => Ok(Breakers::from_vec(copy)),
+        Err(_) => Err(Memory),
+    }
+}
+
+/// The finding that the figures after an outage make.
+pub(crate) fn finding_by(
+    alloc: Global,
+    before: &Figures,
+    after: &Figures,
+    end: &End,
+) -> Result<Finding, Memory>
+    ensures { IfOk result (λ finding. finding ≡ finding_from before.now after.now end.now) }
+{
+    match end {
+        End::Amiss(finding) => Ok(finding.copy()?),
+        End::Effect(None) => effect_of(before, *after, None),
+        End::Effect(Some(tripped)) => {
+            let tripped = copy_breakers(alloc, tripped.slice())?;
+            effect_of(before, *after, Some(tripped))
+        }
     }
 }
 
@@ -182,5 +258,7 @@ pub fn find_one(
     ensures { IfOk result (IsFinding case.now contingency.now) }
 {
     let kept = screening_of(alloc, case)?;
-    find_with(alloc, case, &kept, before, contingency)
+    let start = start_of(alloc, case, &kept, contingency)?;
+    let after = figures_after(alloc, &kept, start.outage)?;
+    finding_by(alloc, before, &after, &start.end)
 }

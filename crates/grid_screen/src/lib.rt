@@ -8,17 +8,15 @@ ghost use Rattle.grid_ids.specs.Clones.{items_clone_equals};
 mod alike;
 mod amiss;
 pub mod clearing;
-mod counting;
 pub mod faults;
 pub mod find;
 pub mod laws;
 mod line;
 pub mod loss;
-mod outage;
 mod parallel;
-mod present;
+mod part;
 mod scene;
-mod screening;
+mod screened;
 pub mod tripped;
 mod walk;
 mod write;
@@ -26,34 +24,15 @@ pub mod zone;
 
 use faults::Breakers;
 pub use find::find_one;
+pub use grid_figures::Figures;
 use grid_ids::{Duplicate, Id, Seq};
 use grid_json::Format;
 use grid_structure::Structure;
 pub use line::put_finding_line;
 pub use loss::is_loss;
 pub use parallel::screen;
+pub use screened::ScreenedCase;
 pub use write::put_finding;
-
-/// The figures of a network: how many buses and components it has, and what stands in the main component, which is
-/// component 0: the one with the most buses, and of those with as many the one with the earliest bus. All are 0 where
-/// there is no bus. The figures are this project's own.
-#[derive(Clone, Copy, Debug, PartialEq, Eq)]
-pub struct Figures {
-    /// How many buses there are, over the bus views of all levels.
-    pub buses: u32,
-    /// How many components they make.
-    pub components: u32,
-    /// How many buses the main component has.
-    pub main: u32,
-    /// The sum over the loads of the main component's buses, in W.
-    pub load: i128,
-    /// The sum over the generators and batteries of the main component's buses, in W.
-    pub generation: i128,
-    /// The sum over the loads of all buses, in W.
-    pub total_load: i128,
-    /// The sum over the generators and batteries of all buses, in W.
-    pub total_generation: i128,
-}
 
 /// What a contingency costs, in W: sums before less those after, which may be below 0.
 #[derive(Clone, Copy, Debug, PartialEq, Eq)]

@@ -7,12 +7,12 @@ ghost use Rattle.grid_screen.specs.Findings.{CaseFits};
 ghost use Rattle.grid_screen.specs.Grounds.{Ground, IsGround};
 ghost use Rattle.grid_screen.specs.Scenes.{IsScene};
 
-use crate::outage::{Changes, changes_without};
 use grid_contingencies::FaultCase;
 use grid_core::Case;
 use grid_ids::{Id, Memory};
 use grid_json::SeenIds;
 use grid_level::Level;
+use grid_outages::{Changes, changes_without};
 use grid_states::States;
 use grid_structure::Structure;
 use std::alloc::Global;
@@ -32,17 +32,17 @@ impl<'a> Model for Scene<'a> {
     ghost use Rattle.std.specs.Prelude.{◌≡◌, length};
     ghost use Rattle.grid_structure.specs.Sites.{levels};
     ghost use Rattle.grid_screen.specs.Grounds.{Ground, IsGround, ground};
-    ghost use Rattle.grid_screen.specs.Screened.{shown_levels, shown_rows};
+    ghost use Rattle.grid_outages.specs.Changes.{shown_levels, shown_rows};
 
     ghost Value = { Ground };
 
-    ghost view = { λ s. ground s.structure.now (shown_levels s.changes.items (levels s.structure.now))
-        (shown_rows s.changes.items s.states.now.opened) s.stuck };
+    ghost view = { λ s. ground s.structure.now (shown_levels s.changes (levels s.structure.now))
+        (shown_rows s.changes s.states.now.opened) s.stuck };
 
-    ghost invariant = { λ s. (length s.changes.items ≡ length (levels s.structure.now))
+    ghost invariant = { λ s. (length s.changes ≡ length (levels s.structure.now))
         × (length s.states.now.opened ≡ length (levels s.structure.now))
-        × IsGround (ground s.structure.now (shown_levels s.changes.items (levels s.structure.now))
-        (shown_rows s.changes.items s.states.now.opened) s.stuck) };
+        × IsGround (ground s.structure.now (shown_levels s.changes (levels s.structure.now))
+        (shown_rows s.changes s.states.now.opened) s.stuck) };
 }
 
 /// The ids of a list, to look them up in.
@@ -103,7 +103,7 @@ impl<'a> Scene<'a> {
         requires { place < length (levels self.now.net) }
         ensures { slice_get self.now.present place ≡ Some result.now }
     {
-        match &self.changes[place as usize] {
+        match self.changes.get(place) {
             Some(changed) => changed.level.level(),
             None => self.structure.level(place),
         }
@@ -114,7 +114,7 @@ impl<'a> Scene<'a> {
         requires { place < length (levels self.now.net) }
         ensures { result.now ≡ row_at self.now.opened place }
     {
-        match &self.changes[place as usize] {
+        match self.changes.get(place) {
             Some(changed) => changed.opened.slice(),
             None => self.states.opened_row(place),
         }

@@ -12,7 +12,7 @@ ghost use Rattle.grid_screen.specs.Walks.{AreTouched, IsTouched, hits_in};
 
 use crate::faults::Breakers;
 use crate::scene::{Scene, set_of};
-use crate::walk::{Touched, label_at, walk_from};
+use crate::walk::{Touched, Touches, label_at, walk_from};
 use grid_contingencies::{FaultCase, is_operable};
 use grid_core::Case;
 use grid_ids::Memory;
@@ -82,18 +82,15 @@ pub(crate) fn list_tripped(
     alloc: Global,
     scene: &Scene,
     hit: &SeenIds,
-    touched: &[Option<Box<Touched>>],
+    touched: &Touches,
 ) -> Result<Breakers, Memory>
     requires { AreTouched scene.now touched.now }
     ensures { IfOk result (λ tripped. tripped ≡ network_trips scene.now hit.now touched.now) }
 {
     scene.keeps();
     let mut tripped = Breakers::empty(alloc);
-    for place in 0..scene.structure().level_count() {
-        let Some(here) = &touched[place as usize] else {
-            continue;
-        };
-        push_tripped(&mut tripped, scene, hit, place, here)?;
+    for (place, here) in touched.iter() {
+        push_tripped(&mut tripped, scene, hit, *place, here)?;
     }
     Ok(tripped)
 }

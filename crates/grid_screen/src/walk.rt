@@ -17,6 +17,7 @@ use grid_groups::{index_of, labels};
 use grid_ids::{Duplicate, Id, Ids, Memory};
 use grid_json::SeenIds;
 use grid_level::{Level, Placed, Stand, Switch};
+use grid_sparse::Sparse;
 use grid_structure::{Site, SwitchAt};
 use std::alloc::Global;
 
@@ -31,11 +32,13 @@ pub(crate) struct Touched<'a> {
     pub ends: Vec<Ids>,
 }
 
-/// For each level by place what is hit of it, none where the walk was not there; and the ids of the equipment whose
-/// terminals the walk has not gone to yet.
+/// For each level by place what is hit of it, none where the walk was not there.
+pub(crate) type Touches<'a> = Sparse<Box<Touched<'a>>>;
+
+/// What is hit, and the ids of the equipment whose terminals the walk has not gone to yet.
 #[derive(Drop)]
 pub(crate) struct Walk<'a> {
-    pub touched: Vec<Option<Box<Touched<'a>>>>,
+    pub touched: Touches<'a>,
     pub work: Ids,
 }
 
@@ -163,41 +166,21 @@ fn look<'a>(alloc: Global, scene: &Scene<'a>, place: u32) -> Result<Box<Touched<
     untouched(alloc, level, labels, ends)
 }
 
-// Takes out what is hit at a place, if the walk was there.
-fn take_at<'a>(
-    touched: &mut Vec<Option<Box<Touched<'a>>>>,
-    place: usize,
-) -> Option<Box<Touched<'a>>>
-    requires { place < length touched.old.items }
-    ensures taken { result ≡ touched_at touched.old.items place }
-    ensures left { touched.new.items ≡ slice_set touched.old.items place None }
-{
-    touched[place].take()
-}
-
-// Puts what is hit at a place.
-fn put_at<'a>(touched: &mut Vec<Option<Box<Touched<'a>>>>, place: usize, here: Box<Touched<'a>>)
-    requires { place < length touched.old.items }
-    ensures { touched.new.items ≡ slice_set touched.old.items place (Some here.entry) }
-{
-    touched[place] = Some(here);
-}
-
 // Takes out what is hit at a place, where the walk may not have been yet.
 fn take_touched<'a>(
     alloc: Global,
     scene: &Scene<'a>,
-    touched: &mut Vec<Option<Box<Touched<'a>>>>,
+    touched: &mut Touches<'a>,
     place: u32,
 ) -> Result<Box<Touched<'a>>, Memory>
     requires place { place < length (levels scene.now.net) }
-    requires touched { AreTouched scene.now touched.old.items }
+    requires touched { AreTouched scene.now touched.old }
     ensures touched { IfOk result (λ t. IsTouched scene.now place t.value) }
     ensures same { IfOk result (λ t. (node : ℕ)
-        → hits_in t.value node ≡ hits_by (touched_at touched.old.items place) node) }
-    ensures left { OnOk result (touched.new.items ≡ slice_set touched.old.items place None) }
+        → hits_in t.value node ≡ hits_by (touched_at touched.old place) node) }
+    ensures left { OnOk result (touched.new ≡ slice_set touched.old place None) }
 {
-    match take_at(touched, place as usize) {
+    match touched.take(place) {
         Some(here) => Ok(here),
         None => look(alloc, scene, place),
     }
@@ -241,14 +224,14 @@ fn hit_in<'a>(here: Box<Touched<'a>>, node: u16, work: &mut Ids) -> Result<Box<T
 
 // Hits a site.
 fn hit<'a>(alloc: Global, scene: &Scene<'a>, walk: &mut Walk<'a>, site: Site) -> Result<(), Memory>
-    requires touched { AreTouched scene.now walk.old.touched.items }
+    requires touched { AreTouched scene.now walk.old.touched }
     requires site { IsNode scene.now.net site }
     ensures { OnOk result (Grows scene.now walk.old walk.new (site ∷ [])) }
 {
     scene.keeps();
     let here = take_touched(alloc, scene, &mut walk.touched, site.level)?;
     let here = hit_in(here, site.node, &mut walk.work)?;
-    put_at(&mut walk.touched, site.level as usize, here);
+    walk.touched.put(site.level, here)?;
     Ok(())
 }
 
@@ -260,7 +243,7 @@ fn hit_side<'a>(
     id: &Id,
     side: u8,
 ) -> Result<(), Memory>
-    requires { AreTouched scene.now walk.old.touched.items }
+    requires { AreTouched scene.now walk.old.touched }
     ensures { OnOk result (Grows scene.now walk.old walk.new (site_of_side scene.now.net id.now side)) }
 {
     scene.keeps();
@@ -277,7 +260,7 @@ fn hit_equipment<'a>(
     walk: &mut Walk<'a>,
     id: &Id,
 ) -> Result<(), Memory>
-    requires { AreTouched scene.now walk.old.touched.items }
+    requires { AreTouched scene.now walk.old.touched }
     ensures { OnOk result (Grows scene.now walk.old walk.new (sites_of_equipment scene.now.net id.now)) }
 {
     hit_side(alloc, scene, walk, id, 1)?;
@@ -292,7 +275,7 @@ fn hit_switch<'a>(
     walk: &mut Walk<'a>,
     at: SwitchAt,
 ) -> Result<(), Memory>
-    requires touched { AreTouched scene.now walk.old.touched.items }
+    requires touched { AreTouched scene.now walk.old.touched }
     requires at { IsSwitchOf scene.now.net at }
     ensures { OnOk result (Grows scene.now walk.old walk.new (sites_of_switch scene.now.net (switch_place at))) }
 {
@@ -307,7 +290,7 @@ fn hit_switch<'a>(
 // Hits the sites of the switch or of the equipment of an id.
 #[tactic(auto, unfolding(crate::specs::Zones::sites_of))]
 fn hit_id<'a>(alloc: Global, scene: &Scene<'a>, walk: &mut Walk<'a>, id: &Id) -> Result<(), Memory>
-    requires { AreTouched scene.now walk.old.touched.items }
+    requires { AreTouched scene.now walk.old.touched }
     ensures { OnOk result (Grows scene.now walk.old walk.new (sites_of scene.now.net id.now)) }
 {
     match scene.structure().find_switch(id) {
@@ -323,7 +306,7 @@ fn hit_all<'a>(
     walk: &mut Walk<'a>,
     ids: &[Id],
 ) -> Result<(), Memory>
-    requires { AreTouched scene.now walk.old.touched.items }
+    requires { AreTouched scene.now walk.old.touched }
     ensures { OnOk result (Grows scene.now walk.old walk.new (flat_map (sites_of scene.now.net) ids.now)) }
 {
     for id in ids {
@@ -348,18 +331,6 @@ fn go_on<'a>(alloc: Global, scene: &Scene<'a>, walk: &mut Walk<'a>) -> Result<()
     Err(Memory)
 }
 
-// Of no level something is hit.
-fn nowhere<'a>(alloc: Global, count: u32) -> Result<Vec<Option<Box<Touched<'a>>>>, Memory>
-    ensures long { IfOk result (λ touched. length touched.items ≡ count) }
-    ensures none { IfOk result (λ touched. (k : ℕ) → touched_at touched.items k ≡ None) }
-{
-    let mut touched = Vec::with_capacity(alloc, count as usize)?;
-    for _place in 0..count {
-        touched.push(None)?;
-    }
-    Ok(touched)
-}
-
 /// What is hit where these ids are: the sites that are joined to theirs. The time is that of one look at each level
 /// that is hit, and of a look-up for each branch end there.
 pub(crate) fn walk_from<'a>(
@@ -368,10 +339,10 @@ pub(crate) fn walk_from<'a>(
     ids: &[Id],
 ) -> Result<Walk<'a>, Memory>
     ensures { IfOk result (λ walk. IsSettled scene.now (flat_map (sites_of scene.now.net) ids.now)
-        walk.touched.items) }
+        walk.touched) }
 {
     scene.keeps();
-    let touched = nowhere(alloc, scene.structure().level_count())?;
+    let touched = Sparse::new(alloc, scene.structure().level_count());
     let work = Ids::empty(alloc);
     let mut walk = Walk { touched, work };
     hit_all(alloc, scene, &mut walk, ids)?;

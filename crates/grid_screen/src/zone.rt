@@ -10,7 +10,7 @@ ghost use Rattle.grid_screen.specs.Listing.{hit_sites};
 
 use crate::faults::Zone;
 use crate::scene::Scene;
-use crate::walk::{Touched, walk_from};
+use crate::walk::{Touched, Touches, walk_from};
 use grid_contingencies::FaultCase;
 use grid_core::Case;
 use grid_ids::Memory;
@@ -42,17 +42,14 @@ fn push_hit(zone: &mut Zone, place: u32, touched: &Touched) -> Result<(), Memory
 }
 
 // The sites that are hit.
-fn list_hit(alloc: Global, scene: &Scene, touched: &[Option<Box<Touched>>]) -> Result<Zone, Memory>
+fn list_hit(alloc: Global, scene: &Scene, touched: &Touches) -> Result<Zone, Memory>
     requires { AreTouched scene.now touched.now }
     ensures { IfOk result (λ zone. zone ≡ filter (hits touched.now) (network_sites scene.now.net)) }
 {
     scene.keeps();
     let mut zone = Zone::empty(alloc);
-    for place in 0..scene.structure().level_count() {
-        let Some(here) = &touched[place as usize] else {
-            continue;
-        };
-        push_hit(&mut zone, place, here)?;
+    for (place, here) in touched.iter() {
+        push_hit(&mut zone, *place, here)?;
     }
     Ok(zone)
 }

@@ -16,7 +16,7 @@ use Rattle.grid_structure.proofs.Framing.{is_same, local, locals}
 use Rattle.grid_structure.proofs.Uniquely.{local_once}
 use Rattle.grid_busview.specs.Views.{is_load, is_generation}
 use Rattle.grid_screen.proofs.Ended.{is_end, branch_of_end}
-use Rattle.grid_screen.proofs.Members.{Among, got_among, among_map, among_filter}
+use Rattle.grid_outages.proofs.Members.{Among, got_among, among_map, among_filter}
 use Rattle.grid_screen.proofs.Owned.{among_has}
 
 -- ---- what stands once

@@ -22,7 +22,7 @@ use Rattle.grid_groups.specs.Groups.{group_under, leaders}
 use Rattle.grid_connect.proofs.Joining.{level_holds}
 use Rattle.grid_busview.specs.declared.ViewBus.{ViewBus}
 use Rattle.grid_busview.specs.Views.{is_load, is_generation, fed_among, watts_over, is_bus, is_valid, is_feeder, bus_of, bus_leasts, bus_view_of}
-use Rattle.grid_screen.proofs.Members.{Among, any_found}
+use Rattle.grid_outages.proofs.Members.{Among, any_found}
 use Rattle.grid_screen.proofs.Closed.{among_in, IsClosed, within_alike, joined_next, next_first, next_second}
 use Rattle.grid_screened.proofs.Summed.{sum_of, fold_sum, sum_alike, sum-map, sum-filter, passing_only, AreApart, set_by_set}
 

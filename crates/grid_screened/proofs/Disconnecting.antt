@@ -48,7 +48,7 @@ use Rattle.grid_screen.proofs.Closed.{within_alike, next_first, next_second, joi
 use Rattle.grid_screen.proofs.Ended.{is_end}
 use Rattle.grid_screen.proofs.Growing.{got_below}
 use Rattle.grid_screen.proofs.Leasts.{ground_of, grounded, zone_is_least}
-use Rattle.grid_screen.proofs.Members.{Among, among_got, got_among, among_parts, map_among, among_filter, any_among, any_found, filter_agrees, flat_among, enumerate_among}
+use Rattle.grid_outages.proofs.Members.{Among, among_got, got_among, among_parts, map_among, among_filter, any_among, any_found, filter_agrees, flat_among, enumerate_among}
 use Rattle.grid_screen.proofs.Owned.{placed_no_switch, switch_own}
 use Rattle.grid_screen.proofs.Passed.{keeps_of}
 use Rattle.grid_screen.proofs.Sitings.{standing_at, first_is_node, second_is_node}

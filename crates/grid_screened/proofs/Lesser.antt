@@ -13,9 +13,9 @@ use Rattle.grid_level.specs.Passing.{bus, switch_edge, internal_edge, edges, end
 use Rattle.grid_level.proofs.Reading.{among_rising}
 use Rattle.grid_groups.proofs.Indices.{among_In, In_among}
 use Rattle.grid_groups.proofs.Standing.{nodes-positioned}
-use Rattle.grid_screen.specs.Screened.{level_without}
+use Rattle.grid_outages.specs.Changes.{level_without}
 use Rattle.grid_screened.proofs.Bused.{IsLeft}
-use Rattle.grid_screen.proofs.Members.{Among, among_left, among_right, among_parts}
+use Rattle.grid_outages.proofs.Members.{Among, among_left, among_right, among_parts}
 
 -- ---- nodes
 

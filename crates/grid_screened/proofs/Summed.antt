@@ -3,7 +3,7 @@ use Rattle.std.proofs.Common.{◌≡◌, refl, sym, ap, ◌∙◌, ℤ, pos, Boo
 use Rattle.std.specs.Prelude.{◌+ℤ◌, neg_ℤ, filter, flat_map, fold}
 use Rattle.std.specs.List.{list_any}
 use Rattle.std.proofs.lemmas.Int.{ints}
-use Rattle.grid_screen.proofs.Members.{Among}
+use Rattle.grid_outages.proofs.Members.{Among}
 
 module _ {X : Type 0} where
   abbrev pub sum_of : (X → ℤ) → List X → ℤ

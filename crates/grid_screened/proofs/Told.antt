@@ -17,7 +17,7 @@ use Rattle.grid_structure.specs.Soundness.{IsSound}
 use Rattle.grid_json.specs.declared.format.Format.TheVariants as formats
 use Rattle.grid_core.specs.Solo.{State, positioned_at}
 use Rattle.grid_contingencies.specs.declared.FaultCase.{FaultCase}
-use Rattle.grid_screen.specs.declared.Figures.{Figures}
+use Rattle.grid_figures.specs.declared.Figures.{Figures}
 use Rattle.grid_screen.specs.declared.Losses.{Losses}
 use Rattle.grid_screen.specs.declared.Finding.{Finding}
 use Rattle.grid_screen.specs.declared.Finding.TheVariants.{UnknownId, NoBreaker, Effect}
@@ -27,11 +27,11 @@ use Rattle.grid_screen.specs.Findings.{figures_of}
 use Rattle.grid_screen.specs.Found.{first_of, first_amiss, first_no_breaker, stuck_amiss, losses_of, effect_of, effect_in, amiss_or, found_of, finding_of}
 use Rattle.grid_screen.specs.Outages.{first_unknown, is_known}
 use Rattle.grid_screened.specs.Said.{ids_of, said_of}
-use Rattle.grid_screen.specs.Screened.{level_without}
+use Rattle.grid_outages.specs.Changes.{level_without}
 use Rattle.grid_screen.specs.Texts.{screen_line, second_text}
 use Rattle.grid_screened.specs.Laws.{LinesAreTold, PairsAreTold}
 use Rattle.grid_screen.proofs.Clearings.{switch_read}
-use Rattle.grid_screen.proofs.Members.{Among, flat_among, map_among, filter_among, enumerate_among}
+use Rattle.grid_outages.proofs.Members.{Among, flat_among, map_among, filter_among, enumerate_among}
 use Rattle.grid_screen.proofs.Outcomes.{outcome}
 use Rattle.grid_screen.proofs.Owned.{switch_own}
 use Rattle.grid_screen.proofs.Running.{map_back}

@@ -23,8 +23,8 @@ use Rattle.grid_screen.specs.Findings.{state_buses, figures_of}
 use Rattle.grid_screen.specs.Found.{losses_of}
 use Rattle.grid_screen.specs.Faults.{before_fault, clearing_of}
 use Rattle.grid_screen.specs.Outages.{state_without}
-use Rattle.grid_screen.specs.Screened.{level_without, buses_over}
-use Rattle.grid_screen.specs.Steps.{levels_after, rows_after}
+use Rattle.grid_outages.specs.Changes.{level_without, buses_over}
+use Rattle.grid_outages.specs.Steps.{levels_after, rows_after}
 use Rattle.grid_screened.specs.Unconnected.{stands_in_bus, is_unconnected, unconnected_watts}
 use Rattle.grid_screened.proofs.Alone.{load_alone, generation_alone}
 use Rattle.grid_screened.proofs.Bused.{in_bus, load_sum, generation_sum}

@@ -27,7 +27,7 @@ returns-clause-ok g c =
     listed_for c.args.layout c.args.screened c.in_ok-world.world c.entries-2.result.now c.in_ok-name.name c.in-Some.case c.slice.result.now c.in_ok-world.ensures c.entries-2.ensures c.in_ok-name.ensures
     (sym c.in_ok-case.ensures ∙ c.in-Some.is) (c.slice.ensures ∙ c.in_ok-list.ensures)
     in
-    on_ok_weaker c.write_findings.result (subst (Appends (g.K.Sink.written c.args.sink.now) (g.K.Sink.written c.write_findings.new.sink)) text) c.write_findings.ensures.ok
+    on_ok_weaker c.screen_case.result (subst (Appends (g.K.Sink.written c.args.sink.now) (g.K.Sink.written c.screen_case.new.sink)) text) c.screen_case.ensures.ok
 
 pub returns-clause-err : goal.returns-clause-err
 returns-clause-err g c =
@@ -35,9 +35,9 @@ returns-clause-err g c =
     listed_for c.args.layout c.args.screened c.in_ok-world.world c.entries-2.result.now c.in_ok-name.name c.in-Some.case c.slice.result.now c.in_ok-world.ensures c.entries-2.ensures c.in_ok-name.ensures
     (sym c.in_ok-case.ensures ∙ c.in-Some.is) (c.slice.ensures ∙ c.in_ok-list.ensures)
     in
-    on_err_map c.write_findings.result (subst (λ t. IsBegun (g.K.Sink.written c.args.sink.now) t (g.K.Sink.written c.write_findings.new.sink)) text) c.write_findings.ensures.err
+    on_err_map c.screen_case.result (subst (λ t. IsBegun (g.K.Sink.written c.args.sink.now) t (g.K.Sink.written c.screen_case.new.sink)) text) c.screen_case.ensures.err
 
 pub returns-clause-warning : goal.returns-clause-warning
 returns-clause-warning g c =
-    whatever c.write_findings.result
+    whatever c.screen_case.result
     (warned c.args.screened.job c.in_ok-world.world c.entries.result.now c.args.warning.now c.put_warning.new.out c.in_ok-put_warning.ensures.ok c.requires.silent c.entries.ensures c.in_ok-world.ensures)

@@ -4,7 +4,7 @@ use Rattle.std.proofs.lemmas.List.{map-append, take_all}
 use Rattle.std.proofs.lemmas.Option.{get_or_from_slice_get}
 use Rattle.grid_groups.proofs.Steps.{map_next}
 use Rattle.grid_screen.specs.declared.Finding.{Finding}
-use Rattle.grid_screen.proofs.Counted.{got_or}
+use Rattle.grid_screen.proofs.Got.{got_or}
 use Rattle.grid_screen.proofs.alike.spread.Goals as goal
 
 pub loop-group-init : goal.loop-group-init

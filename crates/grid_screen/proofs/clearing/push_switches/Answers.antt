@@ -3,7 +3,7 @@ use Rattle.std.specs.Prelude.{flat_map}
 use Rattle.std.proofs.lemmas.List.{append-nil, take_all}
 use Rattle.grid_screen.specs.Faults.{switch_ids}
 use Rattle.grid_screen.proofs.Clearings.{flat_step}
-use Rattle.grid_screen.proofs.Counted.{got_or}
+use Rattle.grid_screen.proofs.Got.{got_or}
 use Rattle.grid_screen.proofs.clearing.push_switches.Goals as goal
 
 pub loop-at-init : goal.loop-at-init

@@ -9,7 +9,7 @@ use Rattle.grid_screen.proofs.parallel.screen.Goals as goal
 pub returns : goal.returns
 unfolding finding_of
 returns g c =
-    let case = c.args.case.now in
+    let case = c.args.screened.now in
     let list = c.args.list.now in
     IfOk-weaker c.spread.result (λ findings. map (λ finding. Some finding) findings ≡ map (slice_get c.slice.result.now) c.deref.result.now) (AreFindings case list)
     (λ findings e retained.

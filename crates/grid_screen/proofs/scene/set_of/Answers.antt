@@ -2,7 +2,7 @@ use Rattle.std.proofs.Common.{ap}
 use Rattle.std.proofs.lemmas.List.{take_all}
 use Rattle.grid_ids.specs.Name.{has_id}
 use Rattle.grid_json.specs.Seen.{Knows}
-use Rattle.grid_screen.proofs.Again.{knows_more}
+use Rattle.grid_outages.proofs.Again.{knows_more}
 use Rattle.grid_screen.proofs.scene.set_of.Goals as goal
 use Rattle.std.proofs.Common.{subst}
 

@@ -1,5 +1,5 @@
 use Rattle.std.proofs.Common.{ap, ◌∙◌, [], ◌∷◌, ◌++◌, length, length-append, get_or, arith}
-use Rattle.grid_screen.proofs.Members.{one_same}
+use Rattle.grid_outages.proofs.Members.{one_same}
 use Rattle.grid_screen.proofs.walk.empty_lists.Goals as goal
 
 pub loop-label-init : goal.loop-label-init

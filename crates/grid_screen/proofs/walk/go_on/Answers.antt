@@ -5,7 +5,7 @@ use Rattle.grid_screen.proofs.Running.{reaches_none, reaches_more, open_more, en
 use Rattle.grid_screen.proofs.walk.go_on.Goals as goal
 
 pub loop-turn-init : goal.loop-turn-init
-loop-turn-init c = record { open_still = c.requires; reaches = reaches_none c.args.scene.now c.args.walk.now.touched.items }
+loop-turn-init c = record { open_still = c.requires; reaches = reaches_none c.args.scene.now c.args.walk.now.touched }
 
 pub hit_equipment-requires : goal.hit_equipment-requires
 hit_equipment-requires c = c.loop-turn.invariant.open_still.touched
@@ -17,7 +17,7 @@ loop-turn-preserved c =
     let mid : Walk = record { touched = c.loop-turn.walk.touched; work = c.pop.new.self } in
     record {
       open_still = open_more g c.keeps.ensures c.loop-turn.walk mid c.hit_equipment.new.walk c.in-Some.id inv.open_still refl c.in-Some.ensures.item c.in_ok-hit_equipment.ensures;
-      reaches = reaches_more g c.keeps.ensures c.loop-turn.walk mid c.hit_equipment.new.walk c.in-Some.id inv.open_still refl c.in-Some.ensures.item c.in_ok-hit_equipment.ensures c.args.walk.now.touched.items inv.reaches;
+      reaches = reaches_more g c.keeps.ensures c.loop-turn.walk mid c.hit_equipment.new.walk c.in-Some.id inv.open_still refl c.in-Some.ensures.item c.in_ok-hit_equipment.ensures c.args.walk.now.touched inv.reaches;
     }
 
 pub returns-in_default : goal.returns-in_default

@@ -13,10 +13,10 @@ hit_in-requires c =
     let touched = c.in_ok-here.ensures.touched in
     can_hit g c.args.site.level c.args.site.node t touched (node_there g c.args.site t c.requires.site touched)
 
-pub put_at-requires : goal.put_at-requires
-put_at-requires c =
+pub put-requires : goal.put-requires
+put-requires c =
     let inside = got_below (levels c.args.scene.now.net) c.args.site.level c.requires.site.level c.requires.site.at in
-    let stays = ap length c.in_ok-here.ensures.left ∙ length-set c.args.walk.now.touched.items c.args.site.level None in
+    let stays = ap length c.in_ok-here.ensures.left ∙ length-set c.args.walk.now.touched c.args.site.level None in
     omega (arith, inside, stays, c.requires.touched.long)
 
 pub returns : goal.returns
@@ -26,7 +26,7 @@ returns c =
     let t = c.in_ok-here.here.value in
     let touched = c.in_ok-here.ensures.touched in
     let can = can_hit g site.level site.node t touched (node_there g site t c.requires.site touched) in
-    grows_hit g c.args.walk.now (record { touched = c.put_at.new.touched; work = c.hit_in.new.work }) site t touched.present c.in_ok-here-2.here
+    grows_hit g c.args.walk.now (record { touched = c.put.new.self; work = c.hit_in.new.work }) site t touched.present c.in_ok-here-2.here
     c.keeps.ensures c.requires.touched c.requires.site touched c.in_ok-here.ensures.same touched.there
-    (omega (arith, can.below, can.hit)) c.in_ok-here-2.ensures.hit (c.put_at.ensures ∙ ap (λ z. slice_set z site.level (Some c.in_ok-here-2.here)) c.in_ok-here.ensures.left)
+    (omega (arith, can.below, can.hit)) c.in_ok-here-2.ensures.hit (c.in_ok-put.ensures.ok ∙ ap (λ z. slice_set z site.level (Some c.in_ok-here-2.here)) c.in_ok-here.ensures.left)
     (c.in_ok-here-2.ensures.work ∙ ap (λ z. c.args.walk.now.work ++ z) (waiting_is g site.level site.node t touched))

@@ -1,0 +1,10 @@
+pub mod Again
+pub mod Changing
+pub mod Linked
+pub mod Members
+pub mod Showing
+pub mod There
+pub mod Placed
+pub mod Effects
+pub mod Looks
+pub mod Keeping

@@ -1,8 +1,0 @@
-use Rattle.std.proofs.Common.{◌∙◌}
-use Rattle.grid_structure.specs.Sites.{levels}
-use Rattle.grid_screen.proofs.Changing.{none_shows}
-use Rattle.grid_screen.proofs.outage.changes_without.Goals as goal
-
-pub put_all_out-requires : goal.put_all_out-requires
-put_all_out-requires c =
-    none_shows (levels c.args.structure.now) c.args.states.now.opened c.in_ok-changes.changes.items (c.in_ok-changes.ensures.long ∙ c.level_count.ensures) c.requires.rows c.in_ok-changes.ensures.none c.requires.flags
