@@ -56,7 +56,7 @@ const ABOUT_FORMS: [(&str, &str); 9] = [
     ),
     (
         "screen",
-        "Reads a job with contingencies, runs its commands in order and writes what each outage would do to the initial variant",
+        "Reads a job with contingencies, runs its commands in order and writes what each outage or fault would do to a variant",
     ),
     (
         "configured",

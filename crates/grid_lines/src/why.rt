@@ -18,55 +18,50 @@ pub enum Why {
     Alone(Reason),
 }
 
+/// The words of a record that breaks its rule: before what was found, between it and the bound, and behind that.
+fn words_of_check(fault: &CheckFault) -> [&'static str; 3] {
+    match fault {
+        CheckFault::NominalNotPositive { .. } => {
+            ["the nominal voltage is ", " and must be above ", " (10)"]
+        }
+        CheckFault::VoltageLimits { .. } => {
+            [
+                "the low voltage limit ",
+                " is above the high one, ",
+                " (11)",
+            ]
+        }
+        CheckFault::PowerLimits { .. } => {
+            ["the least power ", " is above the greatest, ", " (12)"]
+        }
+        CheckFault::Sections { .. } => {
+            [
+                "",
+                " sections are in service, and from 0 to ",
+                " may be (13)",
+            ]
+        }
+        CheckFault::RatedNotPositive { .. } => {
+            ["a rated voltage is ", " and must be above ", " (14)"]
+        }
+    }
+}
+
+/// What was found in such a record, and the bound.
+fn numbers_of_check(fault: &CheckFault) -> (i64, i64) {
+    match *fault {
+        CheckFault::NominalNotPositive { found, bound }
+        | CheckFault::VoltageLimits { found, bound }
+        | CheckFault::PowerLimits { found, bound }
+        | CheckFault::Sections { found, bound }
+        | CheckFault::RatedNotPositive { found, bound } => (found, bound),
+    }
+}
+
 /// Why a record breaks its rule.
 fn of_check(fault: &CheckFault) -> Sentence<'static> {
-    let (begin, found, between, bound, end) = match *fault {
-        CheckFault::NominalNotPositive { found, bound } => {
-            (
-                "the nominal voltage is ",
-                found,
-                " and must be above ",
-                bound,
-                " (10)",
-            )
-        }
-        CheckFault::VoltageLimits { found, bound } => {
-            (
-                "the low voltage limit ",
-                found,
-                " is above the high one, ",
-                bound,
-                " (11)",
-            )
-        }
-        CheckFault::PowerLimits { found, bound } => {
-            (
-                "the least power ",
-                found,
-                " is above the greatest, ",
-                bound,
-                " (12)",
-            )
-        }
-        CheckFault::Sections { found, bound } => {
-            (
-                "",
-                found,
-                " sections are in service, and from 0 to ",
-                bound,
-                " may be (13)",
-            )
-        }
-        CheckFault::RatedNotPositive { found, bound } => {
-            (
-                "a rated voltage is ",
-                found,
-                " and must be above ",
-                bound,
-                " (14)",
-            )
-        }
-    };
+    let [begin, between, end] = words_of_check(fault);
+    let (found, bound) = numbers_of_check(fault);
     Sentence::two(
         begin,
         Named::Number(found),
