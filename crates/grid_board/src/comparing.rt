@@ -1,5 +1,5 @@
-// Whether a base is the present one of a task. None of these takes memory. Where the base is known to be one of the same
-// structure, its levels and branches are not compared.
+// Whether a base is the present one of a task. None of these takes memory. Where the base is known to be one of the
+// same structure, its levels and branches are not compared.
 ghost use Rattle.std.specs.Prelude.{◌≡◌, ◌↔◌, ◌<◌, [], ◌∷◌, length, map, filter_map, Some, IsTrue};
 ghost use Rattle.grid_structure.specs.Sites.{levels, branches, branch_ends};
 ghost use Rattle.grid_watts.specs.Watts as specs;
@@ -199,8 +199,8 @@ fn is_whole(
         && are_branches(structure, base.branches(), known)
 }
 
-/// Whether the base is the present one of a task, which names a level of the structure by its place. Where it is known that
-/// the base is one of this structure, only flags and watts are compared.
+/// Whether the base is the present one of a task, which names a level of the structure by its place. Where it is known
+/// that the base is one of this structure, only flags and watts are compared.
 #[tactic(auto, unfolding(crate::specs::Questions::base_of, grid_bench::specs::Tasks::level_of))]
 pub(crate) fn is_base_of(
     structure: &Structure,

@@ -58,8 +58,8 @@ impl Copies {
         }
     }
 
-    /// The level at a place of the structure that the levels are of: the one that is kept, or else a copy, which is kept
-    /// from then on.
+    /// The level at a place of the structure that the levels are of: the one that is kept, or else a copy, which is
+    /// kept from then on.
     pub(crate) fn level(
         &mut self,
         alloc: Global,
