@@ -31,6 +31,3 @@ pub struct Figures {
     /// The sum over the generators and batteries of all buses, in W.
     pub total_generation: i128,
 }
-
-#[cfg(test)]
-mod tests;

@@ -365,6 +365,3 @@ pub fn least_path(
 pub fn equal_measure_is_equal_path()
     ensures { EqualMeasureIsEqualPath }
 {}
-
-#[cfg(test)]
-mod tests;

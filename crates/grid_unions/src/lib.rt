@@ -12,6 +12,3 @@ mod unions;
 pub use summed::{Summed, Sums};
 pub use sweeps::{Change, Found, sweep};
 pub use unions::Unions;
-
-#[cfg(test)]
-mod tests;
