@@ -7,14 +7,14 @@ use Rattle.grid_requests.specs.declared.request.Request.{Request}
 use Rattle.grid_requests.specs.declared.request.Request.TheVariants as requests
 use Rattle.grid_core.specs.declared.machine.Machine.{Machine}
 use Rattle.grid_core.specs.declared.machine.Made.{Made}
-use Rattle.grid_core.specs.History.{Command, structure}
-use Rattle.grid_core.specs.Machines.{Held, Steps}
+use Rattle.grid_core.specs.History.{Command, command, structure}
+use Rattle.grid_core.specs.Machines.{Held, Makes}
 use Rattle.grid_core.specs.Verdicts.{asks}
 
-pub structure_next : (origin : Network) (before : List Command) (old new : Machine) (worker : ℕ) (request : Request) (made : Made) → Held origin before old → Steps old new worker request made → new.structure ≡ structure_after old.structure request
+pub structure_next : (origin : Network) (before : List Command) (old new : Machine) (worker : ℕ) (request : Request) (made : Made) → Held origin before old → Makes origin before (command worker request) made new → new.structure ≡ structure_after old.structure request
 unfolding structure
-structure_next origin before old new worker request made held steps =
-    (steps origin before held).held.parts.structure_is ∙ ap (λ (n : Network). structure_after n request) (sym held.parts.structure_is)
+structure_next origin before old new worker request made held makes =
+    makes.held.parts.structure_is ∙ ap (λ (n : Network). structure_after n request) (sym held.parts.structure_is)
 
 -- who asks changes no structure
 pub asks_leaves : (net : Network) (request : Request) → asks request ≡ true → structure_after net request ≡ net

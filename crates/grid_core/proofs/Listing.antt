@@ -1,75 +1,60 @@
--- The lists of watts by slot hold the history's, step by step.
-use Rattle.std.proofs.Common.{◌≡◌, refl, sym, ap, ◌∙◌, subst, ℕ, ◌<◌, Bool, true, false, List, [], ◌∷◌, length, replicate, Some}
-use Rattle.std.specs.Prelude.{slice_get, slice_set}
-use Rattle.grid_ids.specs.Name.{same_id}
+-- What each live variant lists is there, step by step.
+use Rattle.std.proofs.Common.{◌≡◌, refl, sym, ap, ◌∙◌, subst, ℕ, Bool, true, false, List, ◌∷◌}
+use Rattle.std.specs.Prelude.{Ok}
+use Rattle.grid_ids.specs.Name.{same_id, has_id}
 use Rattle.grid_ids.proofs.Alike.{same_is}
+use Rattle.grid_structure.specs.declared.Edit.{Edit}
 use Rattle.grid_structure.specs.Network.{Network}
-use Rattle.grid_slots.specs.declared.slots.Variant.{Variant}
-use Rattle.grid_slots.specs.declared.slots.Cloned.{Cloned}
-use Rattle.grid_slots.specs.Variants.{slot_of, slots, numbers_differ, without_variant}
-use Rattle.grid_slots.specs.Answers.{IsClone}
-use Rattle.grid_slots.specs.Names.{initial_state, max_variants}
-use Rattle.grid_slots.specs.Places.{variant}
-use Rattle.grid_powers.specs.Listed.{PowerList}
-use Rattle.grid_states.specs.Rows.{Rows}
-use Rattle.grid_core.specs.Solo.{flags_of, powers_of, opening, after, solo}
-use Rattle.grid_core.specs.History.{Command, lineage}
+use Rattle.grid_structure.specs.Editing.{apply}
+use Rattle.grid_structure.specs.Soundness.{IsSound}
+use Rattle.grid_watts.specs.Nodes.{IsListing}
+use Rattle.grid_watts.specs.Moved.{HasNarrowRecord}
+use Rattle.grid_core.specs.Solo.{State, changed_state, solo}
+use Rattle.grid_core.specs.History.{Command, live, is_live}
 use Rattle.grid_core.specs.Replies.{state_of}
-use Rattle.grid_core.specs.Slotted.{HoldsBySlot, target_slot}
-use Rattle.grid_core.proofs.Stepping.{Unmoved, Switched, Cloned as CloneStep, Removed, Used}
-use Rattle.grid_core.proofs.Holding.{slot_first, slot_next}
-use Rattle.grid_core.proofs.ByNumber.{none_slotted, by_slot_alike, by_slot_set, by_slot_removed, by_slot_cloned}
+use Rattle.grid_core.specs.Machines.{AllListing}
+use Rattle.grid_core.proofs.Lineages.{has-with_name, removed_source}
+use Rattle.grid_core.proofs.Stepping.{Unmoved, Switched, Edited, Cloned as CloneStep, Removed, Used}
+use Rattle.grid_watts.proofs.Listings.{edits_keep}
 
-abbrev pub told : Network → List Command → List ℕ → PowerList
-told origin steps v = powers_of (state_of origin steps v)
+module _ (origin : Network) (before : List Command) (step : Command) (net : Network) (all : AllListing origin before net) where
+  -- a name that was live, in a state that lists the same
+  as_before : (u v : List ℕ) → is_live before v ≡ true → state_of origin (step ∷ before) u ≡ state_of origin before v → IsListing net (state_of origin (step ∷ before) u).powers
+  as_before u v was same = subst (λ (s : State). IsListing net s.powers) (sym same) (all v was)
 
-pub powers_unmoved : (origin : Network) (before : List Command) (step : Command) (variants : List Variant) (kept : List PowerList) → Unmoved origin before step
-    → HoldsBySlot (told origin before) variants kept → HoldsBySlot (told origin (step ∷ before)) variants kept
-powers_unmoved origin before step variants kept u p = by_slot_alike (told origin before) (told origin (step ∷ before)) variants variants kept p (λ v. refl) (λ v alive. ap powers_of (u.state_is v))
+  still_live : live (step ∷ before) ≡ live before → (v : List ℕ) → is_live (step ∷ before) v ≡ true → is_live before v ≡ true
+  unfolding is_live
+  still_live same v alive = ap (λ ns. has_id ns v) (sym same) ∙ alive
 
-pub powers_used : (origin : Network) (before : List Command) (step : Command) (name : List ℕ) (variants : List Variant) (kept : List PowerList) → Used origin before step name
-    → HoldsBySlot (told origin before) variants kept → HoldsBySlot (told origin (step ∷ before)) variants kept
-powers_used origin before step name variants kept u p = by_slot_alike (told origin before) (told origin (step ∷ before)) variants variants kept p (λ v. refl) (λ v alive. ap powers_of (u.state_is v))
+  pub listing_unmoved : Unmoved origin before step → AllListing origin (step ∷ before) net
+  listing_unmoved u v alive = as_before v v (still_live u.live_is v alive) (u.state_is v)
 
--- one variant is switched, and keeps its watts
-pub powers_switched : (origin : Network) (before : List Command) (step : Command) (v : List ℕ) (variants now : List Variant) (kept : List PowerList) → Switched origin before step v
-    → powers_of (solo (state_of origin before v) step.request).0 ≡ told origin before v → ((u : List ℕ) → slot_of now u ≡ slot_of variants u)
-    → HoldsBySlot (told origin before) variants kept → HoldsBySlot (told origin (step ∷ before)) now kept
-powers_switched origin before step v variants now kept s same slots_same p = by_slot_alike (told origin before) (told origin (step ∷ before)) variants now kept p slots_same (λ u alive. each u (same_id u v) refl)
-  where
-    each : (u : List ℕ) (t : Bool) → same_id u v ≡ t → told origin (step ∷ before) u ≡ told origin before u
-    each u true e = subst (λ (z : List ℕ). told origin (step ∷ before) z ≡ told origin before z) (sym (same_is u v e)) (ap powers_of s.own ∙ same)
-    each u false e = ap powers_of (s.others u e)
+  pub listing_used : (name : List ℕ) → Used origin before step name → AllListing origin (step ∷ before) net
+  listing_used name u v alive = as_before v v (still_live u.live_is v alive) (u.state_is v)
 
--- one variant has other watts
-pub powers_set : (origin : Network) (before : List Command) (step : Command) (v : List ℕ) (variants : List Variant) (kept : List PowerList) (slot : ℕ) (powers : PowerList) → Switched origin before step v → numbers_differ (slots variants) ≡ true → slot_of variants v ≡ Some slot
-    → powers_of (solo (state_of origin before v) step.request).0 ≡ powers
-    → HoldsBySlot (told origin before) variants kept → HoldsBySlot (told origin (step ∷ before)) variants (slice_set kept slot powers)
-powers_set origin before step v variants kept slot powers s differ at is p =
-    by_slot_set (told origin before) (told origin (step ∷ before)) variants kept v slot powers differ at p (ap powers_of s.own ∙ is) (λ u other. ap powers_of (s.others u other))
+  -- one variant is as the machine of one variant leaves it
+  pub listing_switched : (v : List ℕ) → Switched origin before step v → IsListing net (solo (state_of origin before v) step.request).0.powers → AllListing origin (step ∷ before) net
+  listing_switched v s own u alive = by (same_id u v) refl
+    where
+      by : (t : Bool) → same_id u v ≡ t → IsListing net (state_of origin (step ∷ before) u).powers
+      by true e = subst (λ (s : State). IsListing net s.powers) (sym (ap (state_of origin (step ∷ before)) (same_is u v e) ∙ s.own)) own
+      by false e = as_before u u (still_live s.live_is u alive) (s.others u e)
 
-pub powers_removed : (origin : Network) (before : List Command) (step : Command) (name : List ℕ) (variants : List Variant) (kept : List PowerList) → Removed origin before step name → numbers_differ (slots variants) ≡ true
-    → HoldsBySlot (told origin before) variants kept → HoldsBySlot (told origin (step ∷ before)) (without_variant name variants) kept
-powers_removed origin before step name variants kept r differ p = by_slot_removed (told origin before) (told origin (step ∷ before)) variants kept name differ p (λ v. ap powers_of (r.state_is v))
+  pub listing_removed : (name : List ℕ) → Removed origin before step name → AllListing origin (step ∷ before) net
+  unfolding is_live
+  listing_removed name r v alive = as_before v v (removed_source v name (live before) true (ap (λ ns. has_id ns v) (sym r.live_is) ∙ alive)) (r.state_is v)
 
-pub powers_cloned : (origin : Network) (before : List Command) (step : Command) (from to : List ℕ) (old new : List Variant) (kept : List PowerList) (cloned : Cloned) (powers : PowerList)
-    → CloneStep origin before step from to → IsClone old new from to cloned → numbers_differ (slots old) ≡ true → target_slot cloned < length kept → told origin before from ≡ powers
-    → HoldsBySlot (told origin before) old kept → HoldsBySlot (told origin (step ∷ before)) new (slice_set kept (target_slot cloned) powers)
-powers_cloned origin before step from to old new kept cloned powers c is differ below of_source p =
-    by_slot_cloned (told origin before) (told origin (step ∷ before)) old new kept from to cloned powers is differ below p (ap powers_of c.target ∙ of_source) (λ u other. ap powers_of (c.others u other))
+  pub listing_cloned : (from to : List ℕ) → CloneStep origin before step from to → is_live before from ≡ true → AllListing origin (step ∷ before) net
+  unfolding is_live
+  listing_cloned from to c source u alive = by (same_id u to) refl
+    where
+      by : (t : Bool) → same_id u to ≡ t → IsListing net (state_of origin (step ∷ before) u).powers
+      by true e = as_before u from source (ap (state_of origin (step ∷ before)) (same_is u to e) ∙ c.target)
+      by false e = as_before u u (has-with_name u to (live before) e (ap (λ ns. has_id ns u) (sym c.live_is) ∙ alive)) (c.others u e)
 
--- ---- the start
-
--- no watts are listed for the initial variant
-pub powers_start : (origin : Network) → HoldsBySlot (told origin []) (variant initial_state 0 (flags_of (opening origin)) ∷ []) (replicate max_variants (powers_of (opening origin)))
-unfolding state_of lineage after
-powers_start origin v slot h = by (same_id v initial_state) refl
-  where
-    rows : Rows
-    rows = flags_of (opening origin)
-
-    by : (t : Bool) → same_id v initial_state ≡ t → slice_get (replicate max_variants (powers_of (opening origin))) slot ≡ Some (powers_of (opening origin))
-    by true e =
-        let zero_is : 0 ≡ slot = slot_first v (variant initial_state 0 rows) [] slot e h in
-        subst (λ (z : ℕ). slice_get (replicate max_variants (powers_of (opening origin))) z ≡ Some (powers_of (opening origin))) zero_is refl
-    by false e = absurd (none_slotted v slot (sym (slot_next v (variant initial_state 0 rows) [] e) ∙ h))
+  -- an accepted edit
+  pub listing_edited : (edit : Edit) (new : Network) → Edited origin before step edit new → IsSound net → apply net edit ≡ Ok new → HasNarrowRecord edit → AllListing origin (step ∷ before) new
+  unfolding changed_state
+  listing_edited edit new e sound accepted narrow v alive =
+      let was = still_live e.live_is v alive in
+      subst (λ (s : State). IsListing new s.powers) (sym (e.each v was)) (edits_keep net new edit (state_of origin before v).powers sound accepted narrow (all v was))

@@ -1,6 +1,7 @@
--- A switch that was added is taken out again, and a switch that is there is taken out.
+-- A switch that was added is taken out again, and what is there is taken out.
 use Rattle.std.proofs.Common.{◌≡◌, refl, sym, ap, ◌∙◌, subst, ℕ, ℤ, ◌+◌, ◌≤◌, Bool, true, false, not, cond, List, [], ◌∷◌, ◌++◌, length, map, Option, Some, None, arith}
-use Rattle.std.specs.Prelude.{filter, flat_map, Ok, is_some, nat_le}
+use Rattle.std.specs.Prelude.{filter, flat_map, find, Ok, is_some, nat_le, ◌||◌}
+use Rattle.std.proofs.lemmas.Bool.{and_parts}
 use Rattle.std.proofs.lemmas.List.{map-append, append-nil}
 use Rattle.std.proofs.lemmas.List.Elements.{filter-append}
 use Rattle.grid_ids.specs.Name.{same_id, has_id}
@@ -17,7 +18,7 @@ use Rattle.grid_structure.specs.declared.EditFault.TheVariants as faults
 use Rattle.grid_structure.specs.declared.ApplyFault.{ApplyFault}
 use Rattle.grid_structure.specs.declared.ApplyFault.TheVariants as apply_faults
 use Rattle.grid_structure.specs.Network.{Network, Substation}
-use Rattle.grid_structure.specs.Sites.{levels, switches, level_named, find_switch, switch_ids, all_ids, taken}
+use Rattle.grid_structure.specs.Sites.{levels, switches, level_named, find_switch, switch_ids, single_ids, branch_ids, equipment_ids, all_ids, taken}
 use Rattle.grid_structure.specs.Editing as editing
 use Rattle.grid_structure.specs.Editing.{apply, edit_fault, max_switches, substation_with_levels, with_levels, level_without_switch, IsTold, IsRefused}
 use Rattle.grid_structure.specs.Soundness.{IsSound}
@@ -28,7 +29,16 @@ use Rattle.grid_structure.proofs.Framing.{put, ids_of, locals, locals-append, is
 use Rattle.grid_structure.specs.Indexed.{level_of_switch}
 use Rattle.grid_structure.proofs.Found.{switch_there, switch_nowhere}
 use Rattle.grid_structure.proofs.Gaining.{gains, switch_made}
-use Rattle.grid_structure.proofs.OneLevel.{found, fits}
+use Rattle.grid_structure.proofs.OneLevel.{names_of, found, fits}
+use Rattle.grid_level.specs.declared.Placed.{Placed}
+use Rattle.grid_level.specs.declared.Stand.{Stand}
+use Rattle.grid_busview.specs.Views.{is_load, is_generation, stand_watts}
+use Rattle.grid_states.specs.declared.sums.Counted.{Counted}
+use Rattle.grid_states.specs.declared.sums.Sum.TheVariants as sums
+use Rattle.grid_watts.specs.Watts.{terminals, is_powered, powered, powered_by}
+use Rattle.grid_watts.specs.Nodes.{counted}
+use Rattle.grid_watts.proofs.Leaving.{found_passes}
+use Rattle.grid_watts.proofs.Locating.{none_powered, find_behind}
 
 times_here : (x : List ℕ) (xs : List (List ℕ)) → times x (x ∷ xs) ≡ 1 + times x xs
 times_here x xs = ap (λ t. cond t 1 0 + times x xs) (same_itself x)
@@ -196,3 +206,47 @@ module _ (net new : Network) (edit : Edit) (id : List ℕ) (opened retained : Bo
 
   pub switch_undone : (back : Network) → apply new (edits.RemoveSwitch id) ≡ Ok back → back ≡ net
   switch_undone back k = undone net new back id adds.level adds.kind adds.node1 adds.node2 opened retained adds.fictitious sound is_added k
+
+-- ---- a load, a generator or a battery is taken out
+
+-- it counts something
+counts_something : (stand : Stand) → is_powered stand ≡ true → counted stand ≡ None → ⊥
+unfolding is_powered counted
+counts_something stand h k = by (is_load stand) (is_generation stand) h k
+  where
+    by : (load generation : Bool) → load || generation ≡ true
+        → ◌≡◌ {A = Option Counted} (cond load (Some (record { sum = sums.Load; watts = stand_watts stand })) (cond generation (Some (record { sum = sums.Generation; watts = stand_watts stand })) None)) None → ⊥
+    by true generation h k = cc
+    by false true h k = cc
+    by false false h k = cc
+
+pub powered_counts : (net : Network) (id : List ℕ) (p : Placed) → powered net id ≡ Some p → counted p.stand ≡ None → ⊥
+unfolding powered
+powered_counts net id p h = counts_something p.stand (and_parts _ _ (found_passes (powered_by id) (terminals net) p h)).1
+
+-- it is equipment
+none_of : (id : List ℕ) (ls : List VoltageLevel) → times id (flat_map (λ (l : VoltageLevel). names_of l.placed) ls) ≡ 0 → find (powered_by id) (flat_map (λ (l : VoltageLevel). l.placed) ls) ≡ None
+none_of id [] h = refl
+none_of id (l ∷ ls) h =
+    let parts = times-append id (names_of l.placed) (flat_map (λ (l : VoltageLevel). names_of l.placed) ls) in
+    find_behind (powered_by id) l.placed (flat_map (λ (l : VoltageLevel). l.placed) ls) (none_powered id l.placed (omega (arith, h, parts))) ∙ none_of id ls (omega (arith, h, parts))
+
+pub powered_there : (net : Network) (id : List ℕ) (p : Placed) → powered net id ≡ Some p → has_id (equipment_ids net) id ≡ true
+unfolding powered terminals equipment_ids single_ids
+powered_there net id p h = by (has_id (equipment_ids net) id) refl
+  where
+    by : (b : Bool) → has_id (equipment_ids net) id ≡ b → has_id (equipment_ids net) id ≡ true
+    by true e = e
+    by false e =
+        let none = not_there id (equipment_ids net) e in
+        let parts = times-append id (single_ids net) (branch_ids net) in
+        let nowhere : powered net id ≡ None = none_of id (levels net) (omega (arith, none, parts)) in
+        absurd (cc (nowhere, h))
+
+pub equipment_not_told : (net : Network) (id : List ℕ) → has_id (equipment_ids net) id ≡ true → (fault : ApplyFault) → IsTold (apply net (edits.RemoveEquipment id)) fault → IsRefused fault → ⊥
+unfolding apply
+equipment_not_told net id has (apply_faults.Refused fault) told refused = let went = passed in absurd (cc (went.1, told))
+  where
+    passed : (new : Network) × (apply net (edits.RemoveEquipment id) ≡ Ok new)
+    passed = rw has (_, refl)
+equipment_not_told net id has apply_faults.Memory told refused = refused

@@ -7,9 +7,10 @@ use grid_ids::{Duplicate, Id, Memory};
 use grid_powers::Powers;
 use grid_states::States;
 use grid_structure::Structure;
+use grid_watts::collected;
 
-/// What a variant stands at: the structure, the flags of its switches, opened and retained, one row of each per level and
-/// one flag per switch, and the watts that it lists, with the sums over the structure.
+/// What a variant stands at: the structure, what the variant has of each level, both flags of each switch and by node
+/// the watts that it lists, with the sums over the structure, and these watts by id.
 #[derive(Drop)]
 pub struct Case {
     pub structure: Structure,
@@ -26,9 +27,11 @@ impl World {
         if !self.is_live(name) {
             return Ok(None);
         }
+        let alloc = self.allocator();
+        self.keeps();
         let states = self.states_in(name).copy()?;
-        let powers = self.powers_in(name).copy()?;
         let structure = self.structure().copy()?;
+        let powers = collected(alloc, &structure, &states)?;
         Ok(Some(Case {
             structure,
             states,

@@ -78,8 +78,8 @@ fn near_equal<P: Part>(journal: &[Entry], part: &P) -> Option<P>
     None
 }
 
-/// Puts the entry of a step that was made last, without memory, and hands its reply out. What is long in the entry is shared
-/// with one of the last entries where that has the same.
+/// Puts the entry of a step that was made last, without memory, and hands its reply out. What is long in the entry is
+/// shared with one of the last entries where that has the same.
 pub(crate) fn enter(journal: &mut Vec<Entry>, worker: u32, begun: Begun, made: Made) -> Reply
     requires { vec_len journal.old < vec_capacity journal.old }
     ensures reply { result ≡ made.reply }

@@ -26,7 +26,8 @@ pub struct EventList {
     held: Held,
 }
 
-// Written out, so that where one is dropped a proof sees one call, and not a case for each way in which events are held.
+// Written out, so that where one is dropped a proof sees one call, and not a case for each way in which events are
+// held.
 impl Drop for EventList {
     fn drop(self) {
         let EventList { held: _ } = self;

@@ -1,11 +1,12 @@
-// Watts in one variant, and the lists of all slots through the edits that change them.
+// Watts in one variant.
 ghost use Rattle.std.specs.Prelude.{◌≡◌, length, OnErr, IfOk};
 ghost use Rattle.grid_core.specs.Machines.{IsMachine, IsSame, IsDead, StandsAt, Steps, WorksOn};
 
 use crate::machine::{Machine, Made, answer};
 use crate::{Refusal, Reply, Request};
-use grid_ids::{Duplicate, Id, Memory};
-use grid_watts::{powered, set, watts_at};
+use grid_ids::{Id, Memory};
+use grid_states::NodeWatts;
+use grid_watts::{change_of, powered_at, watts_in};
 use std::alloc::Global;
 
 impl Machine {
@@ -24,9 +25,9 @@ impl Machine {
             Some(slot) => slot,
             None => return answer(alloc, Reply::Refused(Refusal::NoVariant)),
         };
-        let powers = &self.powers[slot as usize];
-        let load = powers.load();
-        let generation = powers.generation();
+        let states = self.slots.states(slot);
+        let load = states.load();
+        let generation = states.generation();
         answer(alloc, Reply::Totals { load, generation })
     }
 
@@ -54,16 +55,21 @@ impl Machine {
         if self.structure.sides(id).is_none() {
             return answer(alloc, Reply::Refused(Refusal::NoEquipment));
         }
-        let placed = match powered(&self.structure, id) {
-            Some(placed) => placed,
+        let (level, placed) = match powered_at(&self.structure, id) {
+            Some(found) => found,
             None => return answer(alloc, Reply::Refused(Refusal::NoPower)),
         };
-        if watts_at(&self.powers[slot as usize], placed) == watts {
+        let former = watts_in(self.slots.states(slot), level, placed);
+        if former == watts {
             return answer(alloc, Reply::Unchanged);
         }
         let made = answer(alloc, Reply::Done)?;
-        let id = id.copy()?;
-        set(&mut self.powers[slot as usize], id, placed, watts)?;
+        let pair = NodeWatts {
+            node: placed.node,
+            watts,
+        };
+        let by = change_of(&placed.stand, former, watts);
+        self.slots.set_watts(slot, level, pair, by)?;
         Ok(made)
     }
 }

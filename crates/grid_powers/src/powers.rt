@@ -8,9 +8,9 @@ use std::alloc::{AllocError, Global};
 use std::collections::BTreeMap;
 use std::marker::Model;
 
-/// Watts by id, and two sums, of the loads and of the generation, in W: what a variant sets apart from the records, which
-/// is this project's own. It is seen as the list of its pairs by byte order of the ids, which all differ, and the two
-/// numbers. The pairs say nothing of the numbers: who keeps one keeps them together.
+/// Watts by id, and two sums, of the loads and of the generation, in W: what a variant sets apart from the records,
+/// which is this project's own. It is seen as the list of its pairs by byte order of the ids, which all differ, and the
+/// two numbers. The pairs say nothing of the numbers: who keeps one keeps them together.
 #[derive(Drop)]
 pub struct Powers {
     values: BTreeMap<Id, i64>,

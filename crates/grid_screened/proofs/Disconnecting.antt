@@ -33,7 +33,7 @@ use Rattle.grid_structure.specs.Sites.{levels, branches, find_switch, switch_spo
 use Rattle.grid_structure.specs.Soundness.{IsSound}
 use Rattle.grid_core.specs.declared.case.Case.{Case}
 use Rattle.grid_core.specs.Fitting.{RowsFit}
-use Rattle.grid_core.specs.Solo.{State, flags_of, powers_of, positioned_at}
+use Rattle.grid_core.specs.Solo.{State, state_rows, powers_of, positioned_at}
 use Rattle.grid_core.proofs.Looking.{flags_fit}
 use Rattle.grid_contingencies.specs.declared.FaultCase.{FaultCase}
 use Rattle.grid_screen.specs.Faults.{same_site, before_fault, zone_from, zone_of, in_zone, can_trip, trips, spots_that, tripped_in, tripped_from, tripped_of}
@@ -137,7 +137,7 @@ module _ (state : State) (k i : ℕ) (level : VoltageLevel) (p : Placed) (sound 
   event = fault_of p.terminal.equipment
 
   abbrev case : Case
-  case = record { structure = state.structure; states = flags_of state; powers = powers_of state }
+  case = record { structure = state.structure; states = state_rows state; powers = powers_of state }
 
   abbrev now : VoltageLevel
   now = positioned level (row_at state.opened k)

@@ -1,12 +1,15 @@
 -- Pages by key, and what the levels by place are then.
-use Rattle.std.proofs.Common.{◌≡◌, ◌≢◌, refl, sym, ap, ◌∙◌, subst, ℕ, zero, suc, ◌+◌, ◌-◌, ◌<◌, ◌≤◌, Bool, List, [], ◌∷◌, ◌++◌, length, map, arith, take, set, get_or, length-set, get_or-set_same}
-use Rattle.std.specs.Prelude.{insert, remove, Result, Ok, Err, OnOk, OnErr}
+use Rattle.std.proofs.Common.{◌≡◌, ◌≢◌, refl, sym, ap, ◌∙◌, subst, ℕ, ℤ, pos, zero, suc, ◌+◌, ◌-◌, ◌<◌, ◌≤◌, Bool, List, [], ◌∷◌, ◌++◌, length, map, arith, take, set, get_or, length-set, get_or-set_same}
+use Rattle.std.specs.Prelude.{insert, remove, Result, Ok, Err, OnOk, OnErr, None}
 use Rattle.std.proofs.lemmas.List.{get_or-map, get_or-set_other, get_or_read, get_or_append_left, get_or-append_right, set-get_or, length-map, length_push, map_more}
 use Rattle.std.proofs.lemmas.List.Edits.{length-insert, insert_end}
-use Rattle.grid_states.specs.declared.page.Flags.{Flags}
-use Rattle.grid_states.specs.Rows.{Rows, no_rows, rows_in, row_at, with_row, with_flag, with_last, without_flag, with_places, with_page, with_opened, with_opened_all, with_retained, with_switch, without_switch}
+use Rattle.grid_states.specs.declared.page.Content.{Content}
+use Rattle.grid_states.specs.declared.row.NodeWatts.{NodeWatts}
+use Rattle.grid_states.specs.Pairs.{with_pair, without_pair, value_at}
+use Rattle.grid_states.specs.Rows.{Rows, no_rows, rows_in, row_at, with_row, pairs_at, with_pairs, with_node, without_node, content_at, with_flag, with_last, without_flag, with_places, with_page, with_page_at, with_opened, with_opened_all, with_retained, with_switch, without_switch, with_watts, without_watts, HasRoom}
+use Rattle.grid_states.proofs.Pairing.{no_value_kept}
 use Rattle.grid_states.proofs.Setting.{with_flags-row}
-use Rattle.grid_states.specs.Order.{Lacks, AreKeys, IsOrder, no_flags, page_at, rows_of}
+use Rattle.grid_states.specs.Order.{Lacks, AreKeys, IsOrder, no_content, page_at, rows_of}
 
 -- ---- keys
 
@@ -52,35 +55,35 @@ keys_insert count (key ∷ rest) (suc level) keys =
 
 -- ---- another page for a key
 
-module _ {Y : Type 0} (f : Flags → Y) where
-  unset : (pages : List Flags) (page : Flags) (key : ℕ) (rest : List ℕ) → Lacks key rest
+module _ {Y : Type 0} (f : Content → Y) where
+  unset : (pages : List Content) (page : Content) (key : ℕ) (rest : List ℕ) → Lacks key rest
       → map (λ k. f (page_at (set pages key page) k)) rest ≡ map (λ k. f (page_at pages k)) rest
   unfolding Lacks
   unset pages page key [] lacks = refl
   unset pages page key (other ∷ rest) lacks =
-      ap (λ y. f y ∷ map (λ k. f (page_at (set pages key page) k)) rest) (get_or-set_other pages key other page no_flags lacks.0)
+      ap (λ y. f y ∷ map (λ k. f (page_at (set pages key page) k)) rest) (get_or-set_other pages key other page no_content lacks.0)
       ∙ ap (λ ys. f (page_at pages other) ∷ ys) (unset pages page key rest lacks.1)
 
-  key_set : (pages : List Flags) (page : Flags) (order : List ℕ) (level : ℕ) → AreKeys (length pages) order → level < length order
+  key_set : (pages : List Content) (page : Content) (order : List ℕ) (level : ℕ) → AreKeys (length pages) order → level < length order
       → map (λ k. f (page_at (set pages (get_or order level 0) page) k)) order ≡ set (map (λ k. f (page_at pages k)) order) level (f page)
   unfolding AreKeys
   key_set pages page [] level keys lt = absurd (omega arith)
   key_set pages page (key ∷ rest) zero keys lt =
-      ap (λ y. f y ∷ map (λ k. f (page_at (set pages key page) k)) rest) (get_or-set_same pages key page no_flags keys.0)
+      ap (λ y. f y ∷ map (λ k. f (page_at (set pages key page) k)) rest) (get_or-set_same pages key page no_content keys.0)
       ∙ ap (λ ys. f page ∷ ys) (unset pages page key rest keys.1.0)
   key_set pages page (key ∷ rest) (suc level) keys lt =
       let other : get_or rest level 0 ≢ key = another key rest level keys.1.0 (omega arith) in
       ap (λ y. f y ∷ map (λ k. f (page_at (set pages (get_or rest level 0) page) k)) rest)
-      (get_or-set_other pages (get_or rest level 0) key page no_flags (λ e. other (sym e)))
+      (get_or-set_other pages (get_or rest level 0) key page no_content (λ e. other (sym e)))
       ∙ ap (λ ys. f (page_at pages key) ∷ ys) (key_set pages page rest level keys.1.1 (omega arith))
 
   -- a page more, last
-  more : (pages : List Flags) (page : Flags) (order : List ℕ) → AreKeys (length pages) order
+  more : (pages : List Content) (page : Content) (order : List ℕ) → AreKeys (length pages) order
       → map (λ k. f (page_at (pages ++ page ∷ []) k)) order ≡ map (λ k. f (page_at pages k)) order
   unfolding AreKeys
   more pages page [] keys = refl
   more pages page (key ∷ rest) keys =
-      ap (λ y. f y ∷ map (λ k. f (page_at (pages ++ page ∷ []) k)) rest) (get_or_append_left pages (page ∷ []) no_flags key keys.0)
+      ap (λ y. f y ∷ map (λ k. f (page_at (pages ++ page ∷ []) k)) rest) (get_or_append_left pages (page ∷ []) no_content key keys.0)
       ∙ ap (λ ys. f (page_at pages key) ∷ ys) (more pages page rest keys.1.1)
 
   map-insert : {X : Type 0} (g : X → Y) (xs : List X) (k : ℕ) (x : X) → map g (insert xs k x) ≡ insert (map g xs) k (g x)
@@ -89,85 +92,89 @@ module _ {Y : Type 0} (f : Flags → Y) where
   map-insert g (y ∷ xs) zero x = refl
   map-insert g (y ∷ xs) (suc k) x = ap (λ z. g y ∷ z) (map-insert g xs k x)
 
-  key_insert : (pages : List Flags) (page : Flags) (order : List ℕ) (level : ℕ) → AreKeys (length pages) order
+  key_insert : (pages : List Content) (page : Content) (order : List ℕ) (level : ℕ) → AreKeys (length pages) order
       → map (λ k. f (page_at (pages ++ page ∷ []) k)) (insert order level (length pages)) ≡ insert (map (λ k. f (page_at pages k)) order) level (f page)
   key_insert pages page order level keys =
       map-insert (λ k. f (page_at (pages ++ page ∷ []) k)) order level (length pages)
       ∙ ap (λ ys. insert ys level (f (page_at (pages ++ page ∷ []) (length pages)))) (more pages page order keys)
-      ∙ ap (λ y. insert (map (λ k. f (page_at pages k)) order) level (f y)) (get_or-append_right pages (page ∷ []) (length pages) (length pages) no_flags refl (omega arith) ∙ ap (λ n. get_or (page ∷ []) n no_flags) (let none : length pages - length pages ≡ 0 = omega arith in none))
+      ∙ ap (λ y. insert (map (λ k. f (page_at pages k)) order) level (f y)) (get_or-append_right pages (page ∷ []) (length pages) (length pages) no_content refl (omega arith) ∙ ap (λ n. get_or (page ∷ []) n no_content) (let none : length pages - length pages ≡ 0 = omega arith in none))
 
 -- ---- of states
 
 -- a level's key, among orders of so many pages that are seen as rows
-pub record IsKey (order : List ℕ) (pages : List Flags) (now : Rows) (level key : ℕ) : Type 0 where
+pub record IsKey (order : List ℕ) (pages : List Content) (load generation : ℤ) (now : Rows) (level key : ℕ) : Type 0 where
   pub order_is : IsOrder order (length pages)
-  pub seen : rows_of order pages ≡ now
+  pub seen : rows_of order pages load generation ≡ now
   pub inside : level < length order
   pub key_is : key ≡ get_or order level 0
 
-pub levels_are : (order : List ℕ) (pages : List Flags) (now : Rows) → rows_of order pages ≡ now → length order ≡ length now.opened
+pub levels_are : (order : List ℕ) (pages : List Content) (load generation : ℤ) (now : Rows) → rows_of order pages load generation ≡ now → length order ≡ length now.opened
 unfolding rows_of
-levels_are order pages now seen = sym (length-map order (λ k. (page_at pages k).opened)) ∙ ap (λ r. length r.opened) seen
+levels_are order pages load generation now seen = sym (length-map order (λ k. (page_at pages k).opened)) ∙ ap (λ r. length r.opened) seen
 
-pub levels_are_retained : (order : List ℕ) (pages : List Flags) (now : Rows) → rows_of order pages ≡ now → length order ≡ length now.retained
+pub levels_are_retained : (order : List ℕ) (pages : List Content) (load generation : ℤ) (now : Rows) → rows_of order pages load generation ≡ now → length order ≡ length now.retained
 unfolding rows_of
-levels_are_retained order pages now seen = sym (length-map order (λ k. (page_at pages k).retained)) ∙ ap (λ r. length r.retained) seen
+levels_are_retained order pages load generation now seen = sym (length-map order (λ k. (page_at pages k).retained)) ∙ ap (λ r. length r.retained) seen
 
-pub key_in : (order : List ℕ) (pages : List Flags) (now : Rows) (level key : ℕ) → IsOrder order (length pages) → rows_of order pages ≡ now
-    → level < length now.opened → key ≡ get_or order level key → IsKey order pages now level key
-key_in order pages now level key is seen within read =
-    let below : level < length order = omega (arith, within, levels_are order pages now seen) in
+pub levels_are_watts : (order : List ℕ) (pages : List Content) (load generation : ℤ) (now : Rows) → rows_of order pages load generation ≡ now → length order ≡ length now.watts
+unfolding rows_of
+levels_are_watts order pages load generation now seen = sym (length-map order (λ k. (page_at pages k).watts)) ∙ ap (λ r. length r.watts) seen
+
+pub key_in : (order : List ℕ) (pages : List Content) (load generation : ℤ) (now : Rows) (level key : ℕ) → IsOrder order (length pages) → rows_of order pages load generation ≡ now
+    → level < length now.opened → key ≡ get_or order level key → IsKey order pages load generation now level key
+key_in order pages load generation now level key is seen within read =
+    let below : level < length order = omega (arith, within, levels_are order pages load generation now seen) in
     record { order_is = is; seen = seen; inside = below; key_is = get_or_read order level key below read 0 }
 
-module _ {order : List ℕ} {pages : List Flags} {now : Rows} {level key : ℕ} (is : IsKey order pages now level key) where
+-- a content by its parts
+abbrev pub content_of : List Bool → List Bool → List NodeWatts → Content
+content_of opened retained watts = record { opened = opened; retained = retained; watts = watts }
+
+module _ {order : List ℕ} {pages : List Content} {load generation : ℤ} {now : Rows} {level key : ℕ} (is : IsKey order pages load generation now level key) where
   pub within : key < length pages
   within = subst (λ k. k < length pages) (sym is.key_is) (key_below (length pages) order level is.order_is.keys is.inside)
 
-  here : page_at pages (get_or order level 0) ≡ page_at pages key
-  here = ap (page_at pages) (sym is.key_is)
+  -- of the page of the level
+  there : {Y : Type 0} (f : Content → Y) (d : Y) → f (page_at pages key) ≡ get_or (map (λ k. f (page_at pages k)) order) level d
+  there f d = ap (λ k. f (page_at pages k)) is.key_is ∙ sym (get_or-map (λ k. f (page_at pages k)) order level 0 d is.inside)
 
-  pub opened_at : (page : Flags) → page ≡ get_or pages key page → page.opened ≡ row_at now.opened level
-  unfolding rows_of row_at
-  opened_at page read =
-      ap (λ p. p.opened) (get_or_read pages key page within read no_flags ∙ sym here)
-      ∙ sym (get_or-map (λ k. (page_at pages k).opened) order level 0 [] is.inside)
-      ∙ ap (λ r. get_or r.opened level []) is.seen
+  -- the page of the level is its content
+  pub page_is : (page : Content) → page ≡ get_or pages key page → page ≡ content_at now level
+  unfolding rows_of row_at pairs_at
+  page_is page read =
+      get_or_read pages key page within read no_content
+      ∙ ap (λ o. content_of o (page_at pages key).retained (page_at pages key).watts) (there (λ p. p.opened) [] ∙ ap (λ r. get_or r.opened level []) is.seen)
+      ∙ ap (λ r. content_of (get_or now.opened level []) r (page_at pages key).watts) (there (λ p. p.retained) [] ∙ ap (λ r. get_or r.retained level []) is.seen)
+      ∙ ap (content_of (get_or now.opened level []) (get_or now.retained level [])) (there (λ p. p.watts) [] ∙ ap (λ r. get_or r.watts level []) is.seen)
 
-  pub retained_at : (page : Flags) → page ≡ get_or pages key page → page.retained ≡ row_at now.retained level
-  unfolding rows_of row_at
-  retained_at page read =
-      ap (λ p. p.retained) (get_or_read pages key page within read no_flags ∙ sym here)
-      ∙ sym (get_or-map (λ k. (page_at pages k).retained) order level 0 [] is.inside)
-      ∙ ap (λ r. get_or r.retained level []) is.seen
+  put : {Y : Type 0} (f : Content → Y) (page : Content) → map (λ k. f (page_at (set pages key page) k)) order ≡ set (map (λ k. f (page_at pages k)) order) level (f page)
+  put f page = ap (λ k. map (λ j. f (page_at (set pages k page) j)) order) is.key_is ∙ key_set f pages page order level is.order_is.keys is.inside
 
   -- another page for the level
-  pub page_set : (page : Flags) → rows_of order (set pages key page) ≡ with_page now level page
-  unfolding rows_of with_page with_row
+  pub page_set : (page : Content) → rows_of order (set pages key page) load generation ≡ with_page now level page
+  unfolding rows_of with_page with_row with_pairs
   page_set page =
-      ap (λ k. rows_of order (set pages k page)) is.key_is
-      ∙ ap (λ o. record { opened = o; retained = map (λ k. (page_at (set pages (get_or order level 0) page) k).retained) order })
-      (key_set (λ p. p.opened) pages page order level is.order_is.keys is.inside)
-      ∙ ap (λ r. record { opened = set (map (λ k. (page_at pages k).opened) order) level page.opened; retained = r })
-      (key_set (λ p. p.retained) pages page order level is.order_is.keys is.inside)
-      ∙ ap (λ (r : Rows). record { opened = set r.opened level page.opened; retained = set r.retained level page.retained }) is.seen
+      let flags : (List (List Bool)) → (List (List Bool)) → (List (List NodeWatts)) → Rows = λ o r w. record { opened = o; retained = r; watts = w; load = load; generation = generation } in
+      let new = set pages key page in
+      ap (λ o. flags o (map (λ k. (page_at new k).retained) order) (map (λ k. (page_at new k).watts) order)) (put (λ p. p.opened) page)
+      ∙ ap (λ r. flags (set (map (λ k. (page_at pages k).opened) order) level page.opened) r (map (λ k. (page_at new k).watts) order)) (put (λ p. p.retained) page)
+      ∙ ap (λ w. flags (set (map (λ k. (page_at pages k).opened) order) level page.opened) (set (map (λ k. (page_at pages k).retained) order) level page.retained) w) (put (λ p. p.watts) page)
+      ∙ ap (λ (r : Rows). with_page r level page) is.seen
 
-  pub order_set : (page : Flags) → IsOrder order (length (set pages key page))
+  pub order_set : (page : Content) → IsOrder order (length (set pages key page))
   order_set page = subst (IsOrder order) (sym (length-set pages key page)) is.order_is
 
--- a level's own row put for it
-own_row : (rows : List (List Bool)) (level : ℕ) (row : List Bool) → row ≡ row_at rows level → with_row rows level row ≡ rows
-unfolding with_row row_at
-own_row rows level row is = ap (set rows level) is ∙ set-get_or rows level []
-
--- a level's own page put for it
-pub same_page : (now : Rows) (level : ℕ) (page : Flags) → page.opened ≡ row_at now.opened level → page.retained ≡ row_at now.retained level → with_page now level page ≡ now
-unfolding with_page
-same_page now level page opened retained =
-    ap (λ o. record { opened = o; retained = with_row now.retained level page.retained }) (own_row now.opened level page.opened opened)
-    ∙ ap (λ r. record { opened = now.opened; retained = r }) (own_row now.retained level page.retained retained)
+-- a level's own content put for it
+pub same_page : (now : Rows) (level : ℕ) → with_page now level (content_at now level) ≡ now
+unfolding with_page with_row with_pairs row_at pairs_at
+same_page now level =
+    let rows : (List (List Bool)) → (List (List Bool)) → (List (List NodeWatts)) → Rows = λ o r w. record now { opened = o; retained = r; watts = w } in
+    ap (λ o. rows o (set now.retained level (get_or now.retained level [])) (set now.watts level (get_or now.watts level []))) (set-get_or now.opened level [])
+    ∙ ap (λ r. rows now.opened r (set now.watts level (get_or now.watts level []))) (set-get_or now.retained level [])
+    ∙ ap (rows now.opened now.retained) (set-get_or now.watts level [])
 
 -- a level more
-pub order_more : (order : List ℕ) (pages : List Flags) (level : ℕ) (page : Flags) → IsOrder order (length pages) → level ≤ length order
+pub order_more : (order : List ℕ) (pages : List Content) (level : ℕ) (page : Content) → IsOrder order (length pages) → level ≤ length order
     → IsOrder (insert order level (length pages)) (length (pages ++ page ∷ []))
 order_more order pages level page is within =
     let long = is.long in
@@ -176,92 +183,148 @@ order_more order pages level page is within =
       keys = keys_insert (length pages) order level is.keys;
     })
 
-pub page_more : (order : List ℕ) (pages : List Flags) (level : ℕ) (page : Flags) → IsOrder order (length pages)
-    → rows_of (insert order level (length pages)) (pages ++ page ∷ [])
-    ≡ (record { opened = insert (rows_of order pages).opened level page.opened; retained = insert (rows_of order pages).retained level page.retained })
-unfolding rows_of
-page_more order pages level page is =
-    ap (λ o. record { opened = o; retained = map (λ k. (page_at (pages ++ page ∷ []) k).retained) (insert order level (length pages)) })
-    (key_insert (λ p. p.opened) pages page order level is.keys)
-    ∙ ap (λ r. record { opened = insert (map (λ k. (page_at pages k).opened) order) level page.opened; retained = r })
-    (key_insert (λ p. p.retained) pages page order level is.keys)
+pub page_more : (order : List ℕ) (pages : List Content) (load generation : ℤ) (level : ℕ) (page : Content) → IsOrder order (length pages)
+    → rows_of (insert order level (length pages)) (pages ++ page ∷ []) load generation ≡ with_page_at (rows_of order pages load generation) level page
+unfolding rows_of with_page_at
+page_more order pages load generation level page is =
+    let rows : (List (List Bool)) → (List (List Bool)) → (List (List NodeWatts)) → Rows = λ o r w. record { opened = o; retained = r; watts = w; load = load; generation = generation } in
+    let new = pages ++ page ∷ [] in
+    let longer = insert order level (length pages) in
+    ap (λ o. rows o (map (λ k. (page_at new k).retained) longer) (map (λ k. (page_at new k).watts) longer)) (key_insert (λ p. p.opened) pages page order level is.keys)
+    ∙ ap (λ r. rows (insert (map (λ k. (page_at pages k).opened) order) level page.opened) r (map (λ k. (page_at new k).watts) longer)) (key_insert (λ p. p.retained) pages page order level is.keys)
+    ∙ ap (rows (insert (map (λ k. (page_at pages k).opened) order) level page.opened) (insert (map (λ k. (page_at pages k).retained) order) level page.retained))
+    (key_insert (λ p. p.watts) pages page order level is.keys)
 
 -- ---- a level's page changed
 
-module _ (now : Rows) (level : ℕ) (page : Flags) (opened_is : page.opened ≡ row_at now.opened level) (retained_is : page.retained ≡ row_at now.retained level) where
-  pub set_if_ok : {T E : Type 0} (r : Result T E) (new : Flags) (place : ℕ) (flag : Bool) → OnOk r (new ≡ record page { opened = set page.opened place flag })
+module _ (now : Rows) (level : ℕ) (page : Content) (page_at_level : page ≡ content_at now level) where
+  -- the rows with a page that is made of the level's
+  with_made : {T E : Type 0} (r : Result T E) (new : Content) (f : Content → Content) (goal : Rows) → with_page now level (f (content_at now level)) ≡ goal → OnOk r (new ≡ f page) → OnOk r (with_page now level new ≡ goal)
+  with_made (Ok done) new f goal same ok = ap (with_page now level) (ok ∙ ap f page_at_level) ∙ same
+  with_made (Err fault) new f goal same ok = ok
+
+  kept_opened : set now.opened level (row_at now.opened level) ≡ now.opened
+  unfolding row_at
+  kept_opened = set-get_or now.opened level []
+
+  kept_retained : set now.retained level (row_at now.retained level) ≡ now.retained
+  unfolding row_at
+  kept_retained = set-get_or now.retained level []
+
+  kept_watts : set now.watts level (pairs_at now.watts level) ≡ now.watts
+  unfolding pairs_at
+  kept_watts = set-get_or now.watts level []
+
+  pub set_if_ok : {T E : Type 0} (r : Result T E) (new : Content) (place : ℕ) (flag : Bool) → OnOk r (new ≡ record page { opened = set page.opened place flag })
       → OnOk r (with_page now level new ≡ with_opened now level place flag)
-  unfolding with_opened with_flag with_page
-  set_if_ok (Ok done) new place flag ok =
-      ap (with_page now level) ok
-      ∙ ap (λ row. record { opened = with_row now.opened level (set row place flag); retained = with_row now.retained level page.retained }) opened_is
-      ∙ ap (λ rows. record { opened = with_row now.opened level (set (row_at now.opened level) place flag); retained = rows }) (own_row now.retained level page.retained retained_is)
-  set_if_ok (Err fault) new place flag ok = ok
+  unfolding with_opened with_flag with_page with_row with_pairs
+  set_if_ok r new place flag ok =
+      let o = set now.opened level (set (row_at now.opened level) place flag) in
+      with_made r new (λ p. record p { opened = set p.opened place flag }) (with_opened now level place flag)
+      (ap (λ z. let y : Rows = record now { opened = o; retained = z; watts = set now.watts level (pairs_at now.watts level) } in y) kept_retained
+      ∙ ap (λ z. let y : Rows = record now { opened = o; watts = z } in y) kept_watts) ok
 
-  pub set_all_if_ok : {T E : Type 0} (r : Result T E) (new : Flags) (places : List ℕ) (flag : Bool) → level < length now.opened
+  pub set_all_if_ok : {T E : Type 0} (r : Result T E) (new : Content) (places : List ℕ) (flag : Bool) → level < length now.opened
       → OnOk r (new ≡ record page { opened = with_places page.opened places flag }) → OnOk r (with_page now level new ≡ with_opened_all now level places flag)
-  unfolding with_opened_all with_page
-  set_all_if_ok (Ok done) new places flag below ok =
-      ap (with_page now level) ok
-      ∙ ap (λ row. record { opened = with_row now.opened level (with_places row places flag); retained = with_row now.retained level page.retained }) opened_is
-      ∙ ap (λ rows. record { opened = with_row now.opened level (with_places (row_at now.opened level) places flag); retained = rows }) (own_row now.retained level page.retained retained_is)
-      ∙ ap (λ rows. record { opened = rows; retained = now.retained }) (with_flags-row now.opened level places flag below)
-  set_all_if_ok (Err fault) new places flag below ok = ok
+  unfolding with_opened_all with_page with_row with_pairs
+  set_all_if_ok r new places flag below ok =
+      let o = set now.opened level (with_places (row_at now.opened level) places flag) in
+      with_made r new (λ p. record p { opened = with_places p.opened places flag }) (with_opened_all now level places flag)
+      (ap (λ z. let y : Rows = record now { opened = o; retained = z; watts = set now.watts level (pairs_at now.watts level) } in y) kept_retained
+      ∙ ap (λ z. let y : Rows = record now { opened = o; watts = z } in y) kept_watts
+      ∙ ap (λ z. let y : Rows = record now { opened = z } in y) (with_flags-row now.opened level places flag below)) ok
 
-  pub set_retained_if_ok : {T E : Type 0} (r : Result T E) (new : Flags) (place : ℕ) (flag : Bool) → OnOk r (new ≡ record page { retained = set page.retained place flag })
+  pub set_retained_if_ok : {T E : Type 0} (r : Result T E) (new : Content) (place : ℕ) (flag : Bool) → OnOk r (new ≡ record page { retained = set page.retained place flag })
       → OnOk r (with_page now level new ≡ with_retained now level place flag)
-  unfolding with_retained with_flag with_page
-  set_retained_if_ok (Ok done) new place flag ok =
-      ap (with_page now level) ok
-      ∙ ap (λ row. record { opened = with_row now.opened level page.opened; retained = with_row now.retained level (set row place flag) }) retained_is
-      ∙ ap (λ rows. record { opened = rows; retained = with_row now.retained level (set (row_at now.retained level) place flag) }) (own_row now.opened level page.opened opened_is)
-  set_retained_if_ok (Err fault) new place flag ok = ok
+  unfolding with_retained with_flag with_page with_row with_pairs
+  set_retained_if_ok r new place flag ok =
+      let t = set now.retained level (set (row_at now.retained level) place flag) in
+      with_made r new (λ p. record p { retained = set p.retained place flag }) (with_retained now level place flag)
+      (ap (λ z. let y : Rows = record now { opened = z; retained = t; watts = set now.watts level (pairs_at now.watts level) } in y) kept_opened
+      ∙ ap (λ z. let y : Rows = record now { retained = t; watts = z } in y) kept_watts) ok
 
-  pub gain_if_ok : {T E : Type 0} (r : Result T E) (new : Flags) (opened retained : Bool)
-      → OnOk r (new ≡ (record { opened = page.opened ++ opened ∷ []; retained = page.retained ++ retained ∷ [] }))
+  pub gain_if_ok : {T E : Type 0} (r : Result T E) (new : Content) (opened retained : Bool)
+      → OnOk r (new ≡ (record page { opened = page.opened ++ opened ∷ []; retained = page.retained ++ retained ∷ [] }))
       → OnOk r (with_page now level new ≡ with_switch now level opened retained)
-  unfolding with_switch with_last with_page
-  gain_if_ok (Ok done) new opened retained ok =
-      ap (with_page now level) ok
-      ∙ ap (λ row. record { opened = with_row now.opened level (row ++ opened ∷ []); retained = with_row now.retained level (page.retained ++ retained ∷ []) }) opened_is
-      ∙ ap (λ row. record { opened = with_row now.opened level (row_at now.opened level ++ opened ∷ []); retained = with_row now.retained level (row ++ retained ∷ []) }) retained_is
-  gain_if_ok (Err fault) new opened retained ok = ok
+  unfolding with_switch with_last with_page with_row with_pairs
+  gain_if_ok r new opened retained ok =
+      let o = set now.opened level (row_at now.opened level ++ opened ∷ []) in
+      let t = set now.retained level (row_at now.retained level ++ retained ∷ []) in
+      with_made r new (λ p. record p { opened = p.opened ++ opened ∷ []; retained = p.retained ++ retained ∷ [] }) (with_switch now level opened retained)
+      (ap (λ z. let y : Rows = record now { opened = o; retained = t; watts = z } in y) kept_watts) ok
 
-  pub lose_if_ok : {T E : Type 0} (r : Result T E) (new : Flags) (place : ℕ)
-      → OnOk r (new ≡ (record { opened = remove page.opened place; retained = remove page.retained place }))
+  pub lose_if_ok : {T E : Type 0} (r : Result T E) (new : Content) (place : ℕ)
+      → OnOk r (new ≡ (record page { opened = remove page.opened place; retained = remove page.retained place }))
       → OnOk r (with_page now level new ≡ without_switch now level place)
-  unfolding without_switch without_flag with_page
-  lose_if_ok (Ok done) new place ok =
-      ap (with_page now level) ok
-      ∙ ap (λ row. record { opened = with_row now.opened level (remove row place); retained = with_row now.retained level (remove page.retained place) }) opened_is
-      ∙ ap (λ row. record { opened = with_row now.opened level (remove (row_at now.opened level) place); retained = with_row now.retained level (remove row place) }) retained_is
-  lose_if_ok (Err fault) new place ok = ok
+  unfolding without_switch without_flag with_page with_row with_pairs
+  lose_if_ok r new place ok =
+      let o = set now.opened level (remove (row_at now.opened level) place) in
+      let t = set now.retained level (remove (row_at now.retained level) place) in
+      with_made r new (λ p. record p { opened = remove p.opened place; retained = remove p.retained place }) (without_switch now level place)
+      (ap (λ z. let y : Rows = record now { opened = o; retained = t; watts = z } in y) kept_watts) ok
 
-  pub left_if_err : {T E : Type 0} (r : Result T E) (new : Flags) → OnErr r (new ≡ page) → OnErr r (with_page now level new ≡ now)
+  -- the pairs alone changed
+  paired : (w : List NodeWatts) → with_page now level (record (content_at now level) { watts = w }) ≡ record now { watts = with_pairs now.watts level w }
+  unfolding with_page with_row
+  paired w =
+      ap (λ z. let y : Rows = record now { opened = z; retained = set now.retained level (row_at now.retained level); watts = with_pairs now.watts level w } in y) kept_opened
+      ∙ ap (λ z. let y : Rows = record now { retained = z; watts = with_pairs now.watts level w } in y) kept_retained
+
+  pub watts_if_ok : {T E : Type 0} (r : Result T E) (new : Content) (node : ℕ) (watts : ℤ) → OnOk r (new ≡ record page { watts = with_pair node watts page.watts })
+      → OnOk r (with_page now level new ≡ with_watts now level node watts)
+  unfolding with_watts with_node
+  watts_if_ok r new node watts ok =
+      with_made r new (λ p. record p { watts = with_pair node watts p.watts }) (with_watts now level node watts) (paired (with_pair node watts (pairs_at now.watts level))) ok
+
+  pub forget_if_ok : {T E : Type 0} (r : Result T E) (new : Content) (node : ℕ) → OnOk r (new ≡ record page { watts = without_pair node page.watts })
+      → OnOk r (with_page now level new ≡ without_watts now level node)
+  unfolding without_watts without_node
+  forget_if_ok r new node ok =
+      with_made r new (λ p. record p { watts = without_pair node p.watts }) (without_watts now level node) (paired (without_pair node (pairs_at now.watts level))) ok
+
+  pub left_if_err : {T E : Type 0} (r : Result T E) (new : Content) → OnErr r (new ≡ page) → OnErr r (with_page now level new ≡ now)
   left_if_err (Ok done) new err = err
-  left_if_err (Err fault) new err = ap (with_page now level) err ∙ same_page now level page opened_is retained_is
+  left_if_err (Err fault) new err = ap (with_page now level) (err ∙ page_at_level) ∙ same_page now level
+
+-- where no watts are listed for a node, none go
+pub unlisted_kept : (now : Rows) (level node : ℕ) → value_at node (pairs_at now.watts level) ≡ None → now ≡ without_watts now level node
+unfolding without_watts without_node with_pairs pairs_at
+unlisted_kept now level node none =
+    sym (ap (λ w. let r : Rows = record now { watts = set now.watts level w } in r) (no_value_kept node (get_or now.watts level []) none)
+    ∙ ap (λ w. let r : Rows = record now { watts = w } in r) (set-get_or now.watts level []))
+
+pub room_kept : (now : Rows) (level node : ℕ) → HasRoom now → HasRoom (without_watts now level node)
+unfolding without_watts
+room_kept now level node room = record { load_low = room.load_low; load_high = room.load_high; generation_low = room.generation_low; generation_high = room.generation_high }
 
 -- ---- levels from the start
 
-pub none_ordered : (order : List ℕ) (pages : List Flags) → order ≡ [] → pages ≡ [] → IsOrder order (length pages)
+pub none_ordered : (order : List ℕ) (pages : List Content) → order ≡ [] → pages ≡ [] → IsOrder order (length pages)
 unfolding AreKeys
 none_ordered order pages none no_page = rw (none, no_page) (record { long = refl; keys = tt })
 
-pub none_seen : (order : List ℕ) (pages : List Flags) → order ≡ [] → rows_of order pages ≡ no_rows
+pub none_seen : (order : List ℕ) (pages : List Content) → order ≡ [] → rows_of order pages (pos 0) (pos 0) ≡ no_rows
 unfolding rows_of
 none_seen order pages none = rw none refl
 
 -- a page more, last
-pub rows_more : (pages : List Flags) (i last : ℕ) (item page : Flags) (before after : Rows) → i < length pages → item ≡ get_or pages i item → page ≡ item → before ≡ rows_in (take i pages) → last ≡ length before.opened → last ≡ length before.retained
-    → after ≡ (record { opened = insert before.opened last page.opened; retained = insert before.retained last page.retained }) → after ≡ rows_in (take (i + 1) pages)
-unfolding rows_in
-rows_more pages i last item page before after lt read same are long too more =
+pub rows_more : (pages : List Content) (i last : ℕ) (item page : Content) (before after : Rows) → i < length pages → item ≡ get_or pages i item → page ≡ item → before ≡ rows_in (take i pages)
+    → last ≡ length before.opened → last ≡ length before.retained → last ≡ length before.watts → after ≡ with_page_at before last page → after ≡ rows_in (take (i + 1) pages)
+unfolding rows_in with_page_at
+rows_more pages i last item page before after lt read same are long too also more =
+    let rows : (List (List Bool)) → (List (List Bool)) → (List (List NodeWatts)) → Rows = λ o r w. record before { opened = o; retained = r; watts = w } in
+    let zero_sums : (List (List Bool)) → (List (List Bool)) → (List (List NodeWatts)) → Rows = λ o r w. record { opened = o; retained = r; watts = w; load = pos 0; generation = pos 0 } in
+    let p : Content = get_or pages i item in
+    let front = take i pages in
     more
-    ∙ ap (λ n. let r : Rows = record { opened = insert before.opened n page.opened; retained = insert before.retained last page.retained } in r) long
-    ∙ ap (λ n. let r : Rows = record { opened = insert before.opened (length before.opened) page.opened; retained = insert before.retained n page.retained } in r) too
-    ∙ ap (λ rows. let r : Rows = record { opened = rows; retained = insert before.retained (length before.retained) page.retained } in r) (insert_end before.opened page.opened)
-    ∙ ap (λ rows. let r : Rows = record { opened = before.opened ++ page.opened ∷ []; retained = rows } in r) (insert_end before.retained page.retained)
-    ∙ ap (λ (z : Rows). let r : Rows = record { opened = z.opened ++ page.opened ∷ []; retained = z.retained ++ page.retained ∷ [] } in r) are
-    ∙ ap (λ (p : Flags). let r : Rows = record { opened = map (λ (q : Flags). q.opened) (take i pages) ++ p.opened ∷ []; retained = map (λ (q : Flags). q.retained) (take i pages) ++ p.retained ∷ [] } in r) (same ∙ read)
-    ∙ ap (λ rows. let r : Rows = record { opened = rows; retained = map (λ (q : Flags). q.retained) (take i pages) ++ (get_or pages i item).retained ∷ [] } in r) (sym (map_more (λ (q : Flags). q.opened) pages i item lt))
-    ∙ ap (λ rows. let r : Rows = record { opened = map (λ (q : Flags). q.opened) (take (i + 1) pages); retained = rows } in r) (sym (map_more (λ (q : Flags). q.retained) pages i item lt))
+    ∙ ap (λ n. rows (insert before.opened n page.opened) (insert before.retained last page.retained) (insert before.watts last page.watts)) long
+    ∙ ap (λ n. rows (insert before.opened (length before.opened) page.opened) (insert before.retained n page.retained) (insert before.watts last page.watts)) too
+    ∙ ap (λ n. rows (insert before.opened (length before.opened) page.opened) (insert before.retained (length before.retained) page.retained) (insert before.watts n page.watts)) also
+    ∙ ap (λ z. rows z (insert before.retained (length before.retained) page.retained) (insert before.watts (length before.watts) page.watts)) (insert_end before.opened page.opened)
+    ∙ ap (λ z. rows (before.opened ++ page.opened ∷ []) z (insert before.watts (length before.watts) page.watts)) (insert_end before.retained page.retained)
+    ∙ ap (λ z. rows (before.opened ++ page.opened ∷ []) (before.retained ++ page.retained ∷ []) z) (insert_end before.watts page.watts)
+    ∙ ap (λ (z : Rows). let r : Rows = record z { opened = z.opened ++ page.opened ∷ []; retained = z.retained ++ page.retained ∷ []; watts = z.watts ++ page.watts ∷ [] } in r) are
+    ∙ ap (λ (q : Content). zero_sums (map (λ (x : Content). x.opened) front ++ q.opened ∷ []) (map (λ (x : Content). x.retained) front ++ q.retained ∷ []) (map (λ (x : Content). x.watts) front ++ q.watts ∷ [])) (same ∙ read)
+    ∙ ap (λ z. zero_sums z (map (λ (x : Content). x.retained) front ++ p.retained ∷ []) (map (λ (x : Content). x.watts) front ++ p.watts ∷ [])) (sym (map_more (λ (x : Content). x.opened) pages i item lt))
+    ∙ ap (λ z. zero_sums (map (λ (x : Content). x.opened) (take (i + 1) pages)) z (map (λ (x : Content). x.watts) front ++ p.watts ∷ [])) (sym (map_more (λ (x : Content). x.retained) pages i item lt))
+    ∙ ap (λ z. zero_sums (map (λ (x : Content). x.opened) (take (i + 1) pages)) (map (λ (x : Content). x.retained) (take (i + 1) pages)) z) (sym (map_more (λ (x : Content). x.watts) pages i item lt))

@@ -6,7 +6,7 @@ use Rattle.grid_states.specs.contracts.chunk.Chunk as chunk
 use Rattle.grid_states.specs.contracts.chunks.Chunks as chunks
 use Rattle.grid_states.specs.contracts.page.Page as page
 use Rattle.grid_states.specs.contracts.states.States as states
-use Rattle.grid_states.specs.declared.page.Flags.{Flags}
+use Rattle.grid_states.specs.declared.page.Content.{Content}
 use Rattle.grid_states.specs.Rows.{Rows, with_page}
 
 module _ (T : RattleType) (s : MutBor (List T.Denot)) (place : ℕ) {E : Type 0} (r : Result (MutBor T.Denot) E) where
@@ -16,6 +16,6 @@ module _ (T : RattleType) (s : MutBor (List T.Denot)) (place : ℕ) {E : Type 0}
   abbrev pub chunks_lend : Fml
   chunks_lend = LendsIfOk (chunks.the_row T) T s r (slice_set s.now place) s.now
 
-module _ (s : MutBor Rows) (level : ℕ) {E : Type 0} (r : Result (MutBor Flags) E) where
+module _ (s : MutBor Rows) (level : ℕ) {E : Type 0} (r : Result (MutBor Content) E) where
   abbrev pub states_lend : Fml
   states_lend = LendsIfOk states.the_row page.the_row s r (with_page s.now level) s.now

@@ -7,8 +7,8 @@ use std::alloc::{AllocError, Global};
 use std::marker::Model;
 use std::sync::Arc;
 
-// Some items that follow one another. A copy shares them, until one of the two is changed and gets items of its own. It is
-// seen as the list of the items.
+// Some items that follow one another. A copy shares them, until one of the two is changed and gets items of its own.
+// It is seen as the list of the items.
 #[derive(Debug, Drop)]
 pub(crate) struct Chunk<T> {
     items: Arc<Vec<T>>,

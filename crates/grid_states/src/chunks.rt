@@ -11,7 +11,8 @@ use std::marker::Model;
 // How many items a chunk has; the last may have fewer.
 const CHUNK: usize = 64;
 
-// A list in chunks. A copy has a list of the chunks of its own, and shares the chunks. It is seen as the list of the items.
+// A list in chunks. A copy has a list of the chunks of its own, and shares the chunks. It is seen as the list of the
+// items.
 #[derive(Debug, Drop)]
 pub(crate) struct Chunks<T> {
     chunks: Vec<Chunk<T>>,

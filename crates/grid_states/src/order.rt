@@ -8,7 +8,8 @@ use std::alloc::{AllocError, Global};
 use std::marker::Model;
 use std::sync::Arc;
 
-// The key of each level, by place. A copy shares them, until one of the two gets a level more. It is seen as their list.
+// The key of each level, by place. A copy shares them, until one of the two gets a level more. It is seen as their
+// list.
 #[derive(Debug, Drop)]
 pub(crate) struct Order {
     keys: Arc<Seq<u32>>,

@@ -122,7 +122,7 @@ pub injection_moved : (net : Network) (id level : List ℕ) (node : ℤ) (item :
 unfolding edit_moved edit_part listed_after gained
 injection_moved net id level node item powers = refl
 
-plus_nothing : (z : ℤ) → z +ℤ pos 0 ≡ z
+pub plus_nothing : (z : ℤ) → z +ℤ pos 0 ≡ z
 plus_nothing z = omega (arith, ints)
 
 pub removal_moved : (net : Network) (id : List ℕ) (powers : PowerList) (found : Option Placed) → powered net id ≡ found → edit_moved net (edits.RemoveEquipment id) powers ≡ lost id found powers

@@ -1,5 +1,5 @@
 -- By how much a sum changes where an equipment is removed, or gets other watts.
-use Rattle.std.proofs.Common.{◌≡◌, refl, sym, ap, ◌∙◌, subst, ℕ, ℤ, pos, ◌+◌, ◌≤◌, Bool, true, false, cond, not, List, [], ◌∷◌, ◌++◌, arith, Option, Some}
+use Rattle.std.proofs.Common.{◌≡◌, refl, sym, ap, ◌∙◌, subst, ℕ, ℤ, pos, ◌≤◌, Bool, true, false, cond, not, List, [], ◌∷◌, ◌++◌, arith, Option, Some}
 use Rattle.std.specs.Prelude.{◌+ℤ◌, neg_ℤ, map, find, unwrap_or, Ok}
 use Rattle.std.proofs.lemmas.Bool.{and_parts}
 use Rattle.std.proofs.lemmas.Int.{ints}
@@ -40,7 +40,7 @@ pub names_within : (id : List ℕ) (ls : List VoltageLevel) → times id (names_
 names_within id [] = omega arith
 names_within id (l ∷ ls) = omega (arith, names_both id l.placed (all_placed ls), names_within id ls)
 
-names_once : (net : Network) (id : List ℕ) → IsSound net → times id (names_of (all_placed (levels net))) ≤ 1
+pub names_once : (net : Network) (id : List ℕ) → IsSound net → times id (names_of (all_placed (levels net))) ≤ 1
 names_once net id s = omega (arith, names_within id (levels net), local_once net id s)
 
 -- a sum in two parts: what the equipment of an id adds, and what the others add
@@ -88,7 +88,7 @@ removed_takes part net new id listed only s h =
 
 -- ---- other watts
 
-found_passes : (test : Placed → Bool) (ps : List Placed) (p : Placed) → find test ps ≡ Some p → test p ≡ true
+pub found_passes : (test : Placed → Bool) (ps : List Placed) (p : Placed) → find test ps ≡ Some p → test p ≡ true
 found_passes test [] p h = cc
 found_passes test (x ∷ ps) p h = by (test x) refl h (found_passes test ps p)
   where

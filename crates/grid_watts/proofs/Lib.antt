@@ -8,3 +8,13 @@ pub mod Locating
 pub mod Fronts
 pub mod Rooming
 pub mod Keeping
+pub mod LevelReadings
+pub mod Spots
+pub mod Pairings
+pub mod Variants
+pub mod Orders
+pub mod Listings
+pub mod Merges
+pub mod Sites
+pub mod Reading
+pub mod Gatherings

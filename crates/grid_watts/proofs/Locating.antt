@@ -49,7 +49,7 @@ single_side side Busbar h k = h
 single_side side (Feeder item) h k = (and_parts _ _ h).0
 single_side side BranchEnd h k = absurd (true≢false k)
 
-none_powered : (id : List ℕ) (ps : List Placed) → times id (names_of ps) ≡ 0 → find (powered_by id) ps ≡ None
+pub none_powered : (id : List ℕ) (ps : List Placed) → times id (names_of ps) ≡ 0 → find (powered_by id) ps ≡ None
 none_powered id [] none = refl
 none_powered id (p ∷ ps) none = by (same_id id p.terminal.equipment) (is_powered p.stand) (is_branch_end p.stand) refl refl (sym (count_more id p ps) ∙ none) (none_powered id ps)
   where
@@ -139,7 +139,7 @@ end_branch net id s h =
     let there : has (sides_by (branches net)) k.0 ≡ true = among_has (sides_in (levels net)) (sides_by (branches net)) k.0 s.placed_are_sides k.2 in
     subst (λ (z : List ℕ). 1 ≤ times z (names_of_branches (branches net))) k.1 (some_branch (branches net) k.0 there)
 
-by_first_side : (net : Network) (id : List ℕ) → IsSound net → powered net id ≡ where_powered (find (first_side id) (all_placed (levels net)))
+pub by_first_side : (net : Network) (id : List ℕ) → IsSound net → powered net id ≡ where_powered (find (first_side id) (all_placed (levels net)))
 unfolding powered terminals
 by_first_side net id s =
     let few = names_within id (levels net) in
@@ -172,7 +172,7 @@ pub record Sited (id : List ℕ) (ls : List VoltageLevel) (l : VoltageLevel) (n 
   pub local : find (first_side id) l.placed ≡ Some placed
   pub node : placed.node ≡ n
 
-find_front : (test : Placed → Bool) (xs ys : List Placed) (x : Placed) → find test xs ≡ Some x → find test (xs ++ ys) ≡ Some x
+pub find_front : (test : Placed → Bool) (xs ys : List Placed) (x : Placed) → find test xs ≡ Some x → find test (xs ++ ys) ≡ Some x
 find_front test [] ys x h = cc
 find_front test (y ∷ xs) ys x h = by (test y) h (find_front test xs ys x)
   where
@@ -181,7 +181,7 @@ find_front test (y ∷ xs) ys x h = by (test y) h (find_front test xs ys x)
     by true h again = h
     by false h again = again h
 
-find_behind : (test : Placed → Bool) (xs ys : List Placed) → find test xs ≡ None → find test (xs ++ ys) ≡ find test ys
+pub find_behind : (test : Placed → Bool) (xs ys : List Placed) → find test xs ≡ None → find test (xs ++ ys) ≡ find test ys
 find_behind test [] ys h = refl
 find_behind test (y ∷ xs) ys h = by (test y) h (find_behind test xs ys)
   where
@@ -190,7 +190,7 @@ find_behind test (y ∷ xs) ys h = by (test y) h (find_behind test xs ys)
     by true h again = cc
     by false h again = again h
 
-sited_from : (id : List ℕ) (ls : List VoltageLevel) (c k n : ℕ) (l : VoltageLevel) → first_found c (node_in id) ls ≡ Some (c + k, n) → slice_get ls k ≡ Some l → Sited id ls l n
+pub sited_from : (id : List ℕ) (ls : List VoltageLevel) (c k n : ℕ) (l : VoltageLevel) → first_found c (node_in id) ls ≡ Some (c + k, n) → slice_get ls k ≡ Some l → Sited id ls l n
 sited_from id [] c k n l h at = cc
 sited_from id (x ∷ ls) c k n l h at = by k (find (first_side id) x.placed) refl h at (λ j e. sited_from id ls (c + 1) j n l e)
   where
@@ -240,7 +240,7 @@ at_node test (q ∷ ps) p rises at = by (test q) at (at_node test ps p parts.1)
         let other : (q.node == p.node) ≡ false = false_from_ne_true (q.node == p.node) (λ e. let z : q.node ≡ p.node = eqb-true q.node p.node e in omega (arith, z, later)) in
         ap (λ t. cond t (Some q) (find (stands_at p.node) ps)) other ∙ again at
 
-level_at : (ls : List VoltageLevel) (k : ℕ) (l : VoltageLevel) → list_all level_passes ls ≡ true → slice_get ls k ≡ Some l → level_passes l ≡ true
+pub level_at : (ls : List VoltageLevel) (k : ℕ) (l : VoltageLevel) → list_all level_passes ls ≡ true → slice_get ls k ≡ Some l → level_passes l ≡ true
 level_at [] k l h at = cc
 level_at (x ∷ ls) zero l h at = let same : x ≡ l = cc in ap level_passes (sym same) ∙ (and_parts (level_passes x) (list_all level_passes ls) h).0
 level_at (x ∷ ls) (suc k) l h at = level_at ls k l (and_parts (level_passes x) (list_all level_passes ls) h).1 at
@@ -260,11 +260,11 @@ no_site net id s h = by_first_side net id s ∙ ap where_powered (nowhere_from i
 
 -- ---- as it is looked up
 
-spot_none : (o : Option (ℕ × ℕ)) → option_map terminal_spot o ≡ None → o ≡ None
+pub spot_none : (o : Option (ℕ × ℕ)) → option_map terminal_spot o ≡ None → o ≡ None
 spot_none (Some pair) h = cc
 spot_none None h = refl
 
-spot_some : (o : Option (ℕ × ℕ)) (at : Site) → option_map terminal_spot o ≡ Some at → o ≡ Some (at.level, at.node)
+pub spot_some : (o : Option (ℕ × ℕ)) (at : Site) → option_map terminal_spot o ≡ Some at → o ≡ Some (at.level, at.node)
 spot_some (Some pair) at h = let same : terminal_spot pair ≡ at = cc in ap (λ (z : Site). Some (z.level, z.node)) same
 spot_some None at h = cc
 

@@ -14,7 +14,7 @@ pub powered_watts : (listed : Listed) (id : List ℕ) (s : Stand) → is_powered
 unfolding watts_for
 powered_watts listed id s is = rw is refl
 
-of_record : (id : List ℕ) (s : Stand) → watts_for [] id s ≡ stand_watts s
+pub of_record : (id : List ℕ) (s : Stand) → watts_for [] id s ≡ stand_watts s
 unfolding watts_for is_powered is_load is_generation is_load_item is_generation_item stand_watts item_watts
 of_record id Busbar = refl
 of_record id (Feeder (Load p0 q0)) = refl

@@ -10,7 +10,7 @@ use grid_level::{Placed, Stand};
 use grid_powers::Powers;
 
 // The first number without the second.
-fn less(a: i128, b: i128) -> i128
+pub(crate) fn less(a: i128, b: i128) -> i128
     requires a_low { neg_ℤ (pos (2 ^ 63)) ≤ℤ a }
     requires a_high { a ≤ℤ pos (2 ^ 63) }
     requires b_low { neg_ℤ (pos (2 ^ 63)) ≤ℤ b }
@@ -57,8 +57,8 @@ fn take(powers: &mut Powers, placed: &Placed)
     );
 }
 
-/// Takes the watts of removed equipment out of the sums, where it was found as a load, a generator or a battery, and the
-/// equipment out of the list. It takes no memory.
+/// Takes the watts of removed equipment out of the sums, where it was found as a load, a generator or a battery, and
+/// the equipment out of the list. It takes no memory.
 #[tactic(auto, unfolding(crate::specs::Moves::lost, crate::specs::Moves::taken))]
 pub fn lose(powers: &mut Powers, id: &Id, found: Option<&Placed>)
     requires { HasRoom powers.old }

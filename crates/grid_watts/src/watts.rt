@@ -26,8 +26,9 @@ pub(crate) fn is_powered(stand: &Stand) -> bool
     )
 }
 
-/// The watts of what stands somewhere under an id, in W: the value that is listed, or else `p0` of a load and `target_p` of
-/// a generator or a battery; 0 for other equipment. The list beside the records is this project's own. It takes no memory.
+/// The watts of what stands somewhere under an id, in W: the value that is listed, or else `p0` of a load and
+/// `target_p` of a generator or a battery; 0 for other equipment. The list beside the records is this project's own.
+/// It takes no memory.
 pub fn watts_for(powers: &Powers, id: &Id, stand: &Stand) -> i64
     ensures watts { result ≡ specs.watts_for powers.now.listed id.now stand.now }
     ensures narrow { IsTrue (is_narrow result) }
@@ -58,8 +59,8 @@ fn listed_watts(alloc: Global, level: &Level, powers: &Powers) -> Result<Values,
     Ok(values)
 }
 
-/// The watts of a level's terminals, in W, one number per placed terminal by rising node. Where nothing is listed, no id is
-/// looked up.
+/// The watts of a level's terminals, in W, one number per placed terminal by rising node. Where nothing is listed, no
+/// id is looked up.
 pub fn level_watts(alloc: Global, level: &Level, powers: &Powers) -> Result<Values, Memory>
     ensures { IfOk result (λ values. values ≡ specs.level_watts powers.now.listed level.now) }
 {

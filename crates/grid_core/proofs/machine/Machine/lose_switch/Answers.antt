@@ -1,11 +1,11 @@
 use Rattle.std.proofs.Common.{refl, ap, ◌∙◌, ◌∷◌, []}
 use Rattle.grid_structure.specs.declared.Edit.TheVariants.{RemoveSwitch}
 use Rattle.grid_events.specs.declared.event.Event.TheVariants.{Removed}
-use Rattle.grid_watts.specs.Moves.{leaves_powers}
 use Rattle.grid_core.specs.declared.reply.Reply.TheVariants.{Done}
 use Rattle.grid_core.specs.Replies.{edit_events}
 use Rattle.grid_core.specs.Made.{made_of}
-use Rattle.grid_core.proofs.Reshaping.{switch_levels, switch_opened, switch_retained, lost, loses_switch}
+use Rattle.grid_core.proofs.Reshaping.{switch_levels, switch_opened, switch_retained, edit_made, loses_switch}
+use Rattle.grid_core.proofs.Making.{present_sound}
 use Rattle.grid_core.proofs.Undoing.{has_switch}
 use Rattle.grid_core.proofs.machine.Machine.lose_switch.Goals as goal
 
@@ -22,7 +22,7 @@ pub take_out-requires : goal.take_out-requires
 take_out-requires c = has_switch c.args.self.now.structure c.args.id.now (c.args.at.level, c.args.at.place) c.requires.at
 
 pub returns-clause-made : goal.returns-clause-made
-unfolding edit_events leaves_powers
+unfolding edit_events
 returns-clause-made c =
-    lost c.args.self.now _ c.args.worker c.args.at.level c.args.at.place (RemoveSwitch c.args.id.now) c.in_ok-made.made (loses_switch c.args.self.now.structure c.args.id.now c.args.at.level c.args.at.place c.requires.at) c.take_out.ensures
-    (c.in_ok-made.ensures ∙ ap (made_of Done) (c.in_ok-one_event.ensures ∙ ap (λ n. Removed n ∷ []) c.in_ok-copy.ensures)) refl c.in_ok-lose_switch.ensures.ok refl refl
+    edit_made c.args.self.now _ c.args.worker (RemoveSwitch c.args.id.now) c.in_ok-made.made _ (loses_switch c.args.self.now.structure c.args.id.now c.args.at.level c.args.at.place (present_sound c.requires.held.0 c.requires.held.1.0 c.args.self.now c.requires.held.1.1) c.requires.at) c.take_out.ensures
+    (c.in_ok-made.ensures ∙ ap (made_of Done) (c.in_ok-one_event.ensures ∙ ap (λ n. Removed n ∷ []) c.in_ok-copy.ensures)) refl c.in_ok-lose_switch.ensures.ok

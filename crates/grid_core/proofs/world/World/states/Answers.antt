@@ -1,7 +1,7 @@
 use Rattle.std.proofs.Common.{sym, ap, ◌∙◌, subst, ℕ, List}
 use Rattle.std.specs.Prelude.{IsTrue}
 use Rattle.grid_core.specs.History.{is_live}
-use Rattle.grid_core.specs.Solo.{flags_of}
+use Rattle.grid_core.specs.Solo.{state_rows}
 use Rattle.grid_core.specs.Replies.{state_of}
 use Rattle.grid_core.specs.Fitting.{StateFits}
 use Rattle.grid_core.specs.Worlds.{worker_live, worker_state}
@@ -13,7 +13,7 @@ states_in-requires c = subst (λ (n : List ℕ). IsTrue (is_live c.args.self.now
 
 pub returns-clause-value : goal.returns-clause-value
 unfolding worker_state
-returns-clause-value c = c.states_in.ensures.value ∙ ap (λ (n : List ℕ). flags_of (state_of c.args.self.now.origin c.args.self.now.steps n)) c.working_name.ensures
+returns-clause-value c = c.states_in.ensures.value ∙ ap (λ (n : List ℕ). state_rows (state_of c.args.self.now.origin c.args.self.now.steps n)) c.working_name.ensures
 
 pub returns-clause-structure : goal.returns-clause-structure
 unfolding worker_state

@@ -1,15 +1,12 @@
 use Rattle.std.proofs.Common.{arith}
-use Rattle.grid_states.proofs.Ordered.{levels_are, key_in, within, opened_at, retained_at}
+use Rattle.grid_states.proofs.Ordered.{levels_are, key_in, within, page_is}
 use Rattle.grid_states.proofs.states.States.page.Goals as goal
 
 pub key-requires : goal.key-requires
-key-requires c = omega (arith, c.requires, levels_are _ _ _ c.self.view_is)
+key-requires c = omega (arith, c.requires, levels_are _ _ _ _ _ c.self.view_is)
 
 pub get-requires : goal.get-requires
-get-requires c = within (key_in _ _ _ _ _ c.self.invariant c.self.view_is c.requires c.key.ensures)
+get-requires c = within (key_in _ _ _ _ _ _ _ c.self.invariant c.self.view_is c.requires c.key.ensures)
 
-pub returns-clause-opened : goal.returns-clause-opened
-returns-clause-opened c = opened_at (key_in _ _ _ _ _ c.self.invariant c.self.view_is c.requires c.key.ensures) c.get.result.now c.get.ensures
-
-pub returns-clause-retained : goal.returns-clause-retained
-returns-clause-retained c = retained_at (key_in _ _ _ _ _ c.self.invariant c.self.view_is c.requires c.key.ensures) c.get.result.now c.get.ensures
+pub returns : goal.returns
+returns c = page_is (key_in _ _ _ _ _ _ _ c.self.invariant c.self.view_is c.requires c.key.ensures) c.get.result.now c.get.ensures
