@@ -2,12 +2,15 @@
 use Rattle.std.proofs.Common.{◌≡◌, refl, sym, ap, ◌∙◌, ℕ, ◌*◌, ◌≤◌, ◌&&◌, not, cond, Bool, List, [], ◌∷◌, length, arith}
 use Rattle.std.specs.Bool.{beq}
 use Rattle.std.specs.List.{sum_by}
-use Rattle.std.proofs.lemmas.List.Sums.{sum_by-cons}
+use Rattle.std.proofs.lemmas.List.{length-map}
+use Rattle.std.proofs.lemmas.List.Sums.{sum_by-cons, count_by-le-length}
+use Rattle.std.specs.Prelude.{map}
 use Rattle.grid_graph.specs.Components.{places}
+use Rattle.grid_graph.proofs.Counts.{long_places}
 use Rattle.grid_level.specs.VoltageLevel.{VoltageLevel}
 use Rattle.grid_level.specs.Passing.{nodes}
 use Rattle.grid_bench.specs.Contents.{Content, content}
-use Rattle.grid_bench.specs.Costs.{change_cost, content_midway, flag_at, differs_at, place_cost, changes_cost}
+use Rattle.grid_bench.specs.Costs.{change_cost, content_midway, flag_at, differs_at, place_cost, changes_cost, count_changes, most_followed}
 use Rattle.grid_bench.proofs.Costing.{place_le}
 use Rattle.grid_bench.proofs.Following.{beq_refl}
 
@@ -44,3 +47,11 @@ fourth_costs level retained a b c d e n five =
       unchanged old new 4 refl refl,
       place_le old new 3,
     )
+
+-- flags of few switches differ at few places
+pub few_changes : (old new : Content) → length old.level.switches ≤ most_followed → count_changes old new ≤ most_followed
+unfolding count_changes
+few_changes old new few =
+    let own : ℕ → ℕ = λ x. x in
+    let all = places (length old.level.switches) in
+    omega (arith, few, count_by-le-length (differs_at old new) all, long_places (length old.level.switches) own (map own all) refl, length-map all own)

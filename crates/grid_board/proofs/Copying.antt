@@ -12,11 +12,11 @@ use Rattle.grid_level.specs.VoltageLevel.{VoltageLevel}
 use Rattle.grid_structure.specs.declared.Edit.{Edit}
 use Rattle.grid_structure.specs.Network.{Network}
 use Rattle.grid_structure.specs.Sites.{levels}
-use Rattle.grid_bench.specs.declared.Task.{Task}
 use Rattle.grid_requests.specs.declared.request.Request.{Request}
 use Rattle.grid_requests.specs.declared.request.Request.TheVariants as requests
 use Rattle.grid_requests.specs.Changes.{structure_after}
-use Rattle.grid_board.specs.Questions.{task_of}
+use Rattle.grid_board.specs.declared.tasks.Question.{Question}
+use Rattle.grid_board.specs.Questions.{asked_of}
 use Rattle.grid_board.specs.Copied.{Copied, copy_at, with_copy, AreCopies}
 
 module _ (net : Network) where
@@ -64,10 +64,10 @@ no_edit_stays net (requests.RemoveVariant name) apart = refl
 no_edit_stays net (requests.Change edit) apart = absurd (apart edit refl)
 
 -- an edit has no task
-pub asking_is_no_edit : (net : Network) (request : Request) (own : Task) → task_of net request ≡ Some own → (edit : Edit) → request ≢ requests.Change edit
-unfolding task_of
-asking_is_no_edit net request own asked edit is =
-    let nothing : ◌≡◌ {A = Option Task} None (Some own) = sym (ap (task_of net) is) ∙ asked in
+pub asking_is_no_edit : (net : Network) (request : Request) (asked : Question) → asked_of net request ≡ Some asked → (edit : Edit) → request ≢ requests.Change edit
+unfolding asked_of
+asking_is_no_edit net request asked own edit is =
+    let nothing : ◌≡◌ {A = Option Question} None (Some asked) = sym (ap (asked_of net) is) ∙ own in
     cc
 
 equal_test : (a b : ℕ) → is_eq (nat_cmp a b) ≡ (a == b)

@@ -79,7 +79,8 @@ impl Copies {
         Ok(level)
     }
 
-    /// Forgets every level where the request is an edit, since those that are kept may not be the structure's any more.
+    /// Forgets every level where the request is an edit, since those that are kept may not be the structure's any
+    /// more.
     pub(crate) fn follow(&mut self, request: &Request)
         ensures { (net : Network) → AreCopies net self.old
             → AreCopies (structure_after net request.now) self.new }

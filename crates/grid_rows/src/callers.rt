@@ -126,8 +126,8 @@ fn at_once<R: Threads + Wait + Sync, N: Named + Send + Sync, M: Caller<N> + Sync
     )
 }
 
-/// The scripts of a case: those before, one after the other; what is asked and what comes between, at once; and a look by
-/// the worker that was held, then by the other.
+/// The scripts of a case: those before, one after the other; what is asked and what comes between, at once; and a look
+/// by the worker that was held, then by the other.
 fn both_scripts<R: Threads + Wait + Sync, N: Named + Send + Sync, M: Caller<N> + Sync>(
     rt: &R,
     manager: &M,

@@ -10,8 +10,8 @@ use std::test::Fail;
 pub(crate) struct Case {
     /// Whether the network is that of four levels, and not the level of two busbar sections.
     of_four: bool,
-    /// What workers 0 and 1 do before; what worker 0 does between; what worker 1 asks, behind the request that was answered
-    /// in its place where that is another; and what both look at then.
+    /// What workers 0 and 1 do before; what worker 0 does between; what worker 1 asks, behind the request that was
+    /// answered in its place where that is another; and what both look at then.
     scripts: &'static str,
     /// Whether worker 1's answer is out of date by then.
     pub(crate) stale: bool,

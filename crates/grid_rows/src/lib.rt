@@ -1,5 +1,5 @@
-//! Worked examples of what no whole job by the top call shows: commits that come between, callers, gates, listeners, copies of
-//! lists, values read as jobs, and at what cost labels follow.
+//! Worked examples of what no whole job by the top call shows: commits that come between, callers, gates, listeners,
+//! copies of lists, values read as jobs, and at what cost labels follow.
 #![tactic(auto)]
 
 #[cfg(test)]

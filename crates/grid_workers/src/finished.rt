@@ -20,9 +20,9 @@ pub struct Finished {
     pub short: bool,
 }
 
-/// Runs each script by a worker of its own, on a thread of its own, over one structure. The board that is left is a history
-/// over this structure in which worker n asked the first commands of script n, and no other worker asked anything; where the
-/// run is not short, each worker asked its whole script.
+/// Runs each script by a worker of its own, on a thread of its own, over one structure. The board that is left is a
+/// history over this structure in which worker n asked the first commands of script n, and no other worker asked
+/// anything; where the run is not short, each worker asked its whole script.
 pub fn run_scripts<R: Threads + Wait + Sync, G: Gate>(
     rt: &R,
     alloc: Global,

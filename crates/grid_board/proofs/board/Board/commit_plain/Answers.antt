@@ -5,15 +5,15 @@ use Rattle.grid_board.proofs.Edits.{edits_within}
 use Rattle.grid_board.proofs.board.Board.commit_plain.Goals as goal
 
 pub invariant_of-self : goal.invariant_of-self
-invariant_of-self c = board_same c.self.inside.world c.step.new.self c.self.inside.origin c.self.inside.copies c.self.inside.edits c.in_err-reply.ensures.err c.self.invariant
+invariant_of-self c = board_same c.self.inside.world c.step.new.self c.self.inside.copies c.self.inside.edits c.in_err-reply.ensures.err c.self.invariant
 
 pub invariant_of-self-in-Change : goal.invariant_of-self-in-Change
 invariant_of-self-in-Change c =
-    board_edited c.self.inside.world c.step.new.self c.self.inside.origin c.self.inside.copies c.follow.new.self c.self.inside.edits (command c.args.worker c.args.request.now) _ c.in-Change.is c.in_ok-reply.ensures.ok c.follow.ensures c.self.invariant
+    board_edited c.self.inside.world c.step.new.self c.self.inside.copies c.follow.new.self c.self.inside.edits (command c.args.worker c.args.request.now) _ c.in-Change.is c.in_ok-reply.ensures.ok c.follow.ensures c.self.invariant
 
 pub invariant_of-self-in_default : goal.invariant_of-self-in_default
 invariant_of-self-in_default c =
-    board_stepped c.self.inside.world c.step.new.self c.self.inside.origin c.self.inside.copies c.follow.new.self c.self.inside.edits (command c.args.worker c.args.request.now) c.in_default.not-Change c.in_ok-reply.ensures.ok c.follow.ensures c.self.invariant
+    board_stepped c.self.inside.world c.step.new.self c.self.inside.copies c.follow.new.self c.self.inside.edits (command c.args.worker c.args.request.now) c.in_default.not-Change c.in_ok-reply.ensures.ok c.follow.ensures c.self.invariant
 
 pub overflow_add-self : goal.overflow_add-self
 overflow_add-self c =
