@@ -30,11 +30,12 @@ use Rattle.grid_configured.specs.declared.network.ConfiguredNetwork.{ConfiguredN
 use Rattle.grid_configured.specs.Names.{is_plain, switch_plain, item_plain, line_plain, level_plain, network_plain}
 use Rattle.grid_configured.specs.Checks as checks
 use Rattle.grid_configured.specs.Checks.{each_check, ids_of, level_check, bus_check, switch_check, item_check, IsTranslatable}
-use Rattle.grid_configured.specs.Places.{Joint, PlacesFit}
+use Rattle.grid_placed.specs.Places.{Joint, PlacesFit}
 use Rattle.grid_configured.specs.Levels.{bus_place, joint_of, item_outlet}
-use Rattle.grid_configured.specs.Translation.{breaker_id, substation_id, translated}
+use Rattle.grid_placed.specs.Translation.{breaker_id}
+use Rattle.grid_configured.specs.Translation.{substation_id, translated}
 use Rattle.grid_configured.specs.Partial.{first_levels, first_buses, first_switches, first_items, with_part, with_buses, with_switches, with_items}
-use Rattle.grid_configured.proofs.Nodes.{StandsWell}
+use Rattle.grid_placed.proofs.Nodes.{StandsWell}
 use Rattle.grid_configured.proofs.Checked.{NetworkRight, network_right, LevelRight, level_right, PartsRight, bus_there}
 use Rattle.grid_configured.proofs.Stacked.{Each}
 use Rattle.grid_configured.proofs.Tagged.{Unmarked, PlainLevel, PlainNetwork}

@@ -32,9 +32,10 @@ use Rattle.grid_configured.specs.declared.network.ConfiguredLevel.{ConfiguredLev
 use Rattle.grid_configured.specs.declared.network.ConfiguredNetwork.{ConfiguredNetwork}
 use Rattle.grid_configured.specs.Checks as checks
 use Rattle.grid_configured.specs.Checks.{level_ids, ids_of, level_edges, level_check, level_reasons, id_reasons, bus_check, bus_reasons, switch_check, switch_reasons, buses_reasons, item_check, item_reasons, terminal_reasons, record_fault}
-use Rattle.grid_configured.specs.Places.{PlacedLevel, PlacesFit}
+use Rattle.grid_placed.specs.Places.{PlacedLevel, PlacesFit}
 use Rattle.grid_configured.specs.Levels.{bus_place, joint_of, item_outlet, line_outlets, outlets, placed_level, placed_levels}
-use Rattle.grid_configured.specs.Translation.{joint_breaker, breaker_id, outlet_breaker, bus_section, outlet_placed, outlets_at, translated_level, substation_id, translated}
+use Rattle.grid_placed.specs.Translation.{joint_breaker, breaker_id, outlet_breaker, bus_section, outlet_placed, outlets_at, translated_level}
+use Rattle.grid_configured.specs.Translation.{substation_id, translated}
 use Rattle.grid_configured.proofs.Stacked.{Each, each_join, Free, At, on, on_own, on_none, stack, free_switched, join_free, empty_level, home_added, level_added, busbar_added, injection_added, switch_added}
 use Rattle.grid_configured.proofs.Enlarged.{Under, switch_more, placed_more, switch_fits, switch_under, terminal_fit, next_node, outlet_grown, joint_grown, bus_grown, placed_below, level_under}
 use Rattle.grid_configured.proofs.Tagged.{Unmarked, tagged, tagged_marked, plain_apart, breaker_tagged, home_tagged, PlainLevel, PlainNetwork, Fresh, join_parts, shaped, translated_stack, free_plain, free_tagged}
@@ -44,7 +45,7 @@ use Rattle.grid_configured.proofs.Located.{is_marked}
 -- ---- levels without lines
 
 abbrev pub alone : ConfiguredLevel → PlacedLevel
-alone l = record { id = l.id; nominal_v = l.nominal_v; buses = l.buses; joints = map (joint_of l) l.switches; outlets = map (item_outlet l) l.items }
+alone l = record { id = l.id; nominal_v = l.nominal_v; low_v = None; high_v = None; buses = l.buses; joints = map (joint_of l) l.switches; outlets = map (item_outlet l) l.items }
 
 abbrev pub alone_levels : List ConfiguredLevel → List VoltageLevel
 alone_levels ls = map translated_level (map alone ls)
@@ -53,7 +54,7 @@ alone_is : (n : ConfiguredNetwork) (ls : List ConfiguredLevel) → n.lines ≡ [
 unfolding placed_level outlets
 alone_is n [] none = refl
 alone_is n (l ∷ ls) none =
-    ap (λ z. record { id = l.id; nominal_v = l.nominal_v; buses = l.buses; joints = map (joint_of l) l.switches; outlets = z } ∷ map (placed_level n) ls)
+    ap (λ z. record { id = l.id; nominal_v = l.nominal_v; low_v = None; high_v = None; buses = l.buses; joints = map (joint_of l) l.switches; outlets = z } ∷ map (placed_level n) ls)
     (ap (λ z. map (item_outlet l) l.items ++ flat_map (line_outlets l) z) none ∙ append-nil (map (item_outlet l) l.items))
     ∙ ap (λ z. alone l ∷ z) (alone_is n ls none)
 

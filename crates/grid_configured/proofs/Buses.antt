@@ -23,13 +23,14 @@ use Rattle.grid_configured.specs.declared.network.BusEnd.{BusEnd}
 use Rattle.grid_configured.specs.declared.network.ConfiguredLine.{ConfiguredLine}
 use Rattle.grid_configured.specs.declared.network.ConfiguredLevel.{ConfiguredLevel}
 use Rattle.grid_configured.specs.declared.network.ConfiguredNetwork.{ConfiguredNetwork}
-use Rattle.grid_configured.specs.Places.{Outlet, PlacedLevel, stood}
+use Rattle.grid_placed.specs.Places.{Outlet, PlacedLevel, stood}
 use Rattle.grid_configured.specs.Levels.{bus_place, item_outlet, end_outlets, line_outlets, outlets, placed_level, placed_levels}
-use Rattle.grid_configured.specs.Translation.{bus_section, outlet_placed, outlets_at, translated_level, translated}
+use Rattle.grid_placed.specs.Translation.{bus_section, outlet_placed, outlets_at, translated_level}
+use Rattle.grid_configured.specs.Translation.{translated}
 use Rattle.grid_configured.specs.Sites.{bus_ids, item_ids, line_ids, sides}
-use Rattle.grid_configured.proofs.Flagged.{places_stood}
-use Rattle.grid_configured.proofs.Connecting.{connect_bus}
-use Rattle.grid_configured.proofs.Parting.{disconnect_bus}
+use Rattle.grid_placed.proofs.Flagged.{places_stood}
+use Rattle.grid_placed.proofs.Connecting.{connect_bus}
+use Rattle.grid_placed.proofs.Parting.{disconnect_bus}
 use Rattle.grid_configured.proofs.Located.{placed_test, level_test, site_is, buses_from}
 use Rattle.grid_configured.specs.Machine.{Flags}
 use Rattle.grid_configured.proofs.Mirrored.{NetworkFits, Mirrors}
@@ -190,7 +191,7 @@ module _ (network : ConfiguredNetwork) (fits : NetworkFits network) (state : Sta
       let level = level_now network fits state m.0 m.1 a.place a.level a.there in
       let close = connect_bus now now_fits a.node a.inside in
       let open' = disconnect_bus now now_fits a.node a.inside in
-      (rw (site, there, level, close) refl, rw (site, there, level, open'.1) refl)
+      (rw (site, there, level, close) refl, rw (site, there, level, open') refl)
 
   stays_by : (id : List ℕ) (n : ℕ) → sides network id ≡ None
       → ((connected_from state (found_or (sites.site (translated network) id n) refusals.NoSide)).0 ≡ state) × ((disconnected_from state (found_or (sites.site (translated network) id n) refusals.NoSide)).0 ≡ state)

@@ -32,7 +32,8 @@ use Rattle.grid_configured.specs.declared.network.ConfiguredNetwork.{ConfiguredN
 use Rattle.grid_configured.specs.Names.{is_plain, item_plain, line_plain, level_plain, network_plain}
 use Rattle.grid_configured.specs.Checks.{IsTranslatable}
 use Rattle.grid_configured.specs.Levels.{bus_place}
-use Rattle.grid_configured.specs.Translation.{breaker_id, substation_id, substation_of, translated_line, translated}
+use Rattle.grid_placed.specs.Translation.{breaker_id}
+use Rattle.grid_configured.specs.Translation.{substation_id, substation_of, translated_line, translated}
 use Rattle.grid_configured.specs.Partial.{first_levels, with_buses, with_switches, with_items, with_lines}
 use Rattle.grid_configured.proofs.Applied.{made, LevelAt, home_law, level_law, bus_law, joint_law, breaker_law, between, item_law, all_buses, all_switches, all_items}
 use Rattle.grid_configured.proofs.Extended.{joint_sites, item_site, LineAt, LineSteps, line_steps}

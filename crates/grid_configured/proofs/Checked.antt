@@ -26,10 +26,10 @@ use Rattle.grid_configured.specs.declared.network.ConfiguredLevel.{ConfiguredLev
 use Rattle.grid_configured.specs.declared.network.ConfiguredNetwork.{ConfiguredNetwork}
 use Rattle.grid_configured.specs.Checks as checks
 use Rattle.grid_configured.specs.Checks.{each_check, list_check, level_ids, ids_of, level_check, parts_check, bus_check, switch_check, item_check, line_check, end_check, level_reasons, bus_reasons, buses_reasons, switch_reasons, item_reasons, end_reasons, id_reasons, network_check}
-use Rattle.grid_configured.specs.Places.{Joint, PlacesFit}
+use Rattle.grid_placed.specs.Places.{Joint, PlacesFit}
 use Rattle.grid_configured.specs.Levels.{bus_place, joint_of, item_outlet, end_outlets, line_outlets, outlets, placed_level, placed_levels}
 use Rattle.grid_configured.specs.Sites.{bus_ids, item_ids, line_ids, sides}
-use Rattle.grid_configured.proofs.Nodes.{StandsWell}
+use Rattle.grid_placed.proofs.Nodes.{StandsWell}
 use Rattle.grid_configured.proofs.Mirrored.{NetworkFits}
 
 -- ---- steps that are right

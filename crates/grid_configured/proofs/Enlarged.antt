@@ -13,9 +13,9 @@ use Rattle.grid_level.specs.LevelEdits.{max_node, max_nodes, max_edges, node_of,
 use Rattle.grid_level.proofs.Places.{rising_is_rising}
 use Rattle.grid_level.proofs.Editing.{list_all-rising, all_join}
 use Rattle.grid_level.proofs.Keeping.{length-edges}
-use Rattle.grid_configured.specs.Places.{Joint, Outlet, PlacedLevel, PlacesFit}
-use Rattle.grid_configured.specs.Translation.{joint_breaker, outlet_breaker, bus_section, outlet_placed, outlets_at, translated_level}
-use Rattle.grid_configured.proofs.Nodes.{EndsUnder, under_join, ends_under, node_numbers}
+use Rattle.grid_placed.specs.Places.{Joint, Outlet, PlacedLevel, PlacesFit}
+use Rattle.grid_placed.specs.Translation.{joint_breaker, outlet_breaker, bus_section, outlet_placed, outlets_at, translated_level}
+use Rattle.grid_placed.proofs.Nodes.{EndsUnder, under_join, ends_under, node_numbers}
 
 -- ---- rising lists below a bound
 

@@ -28,9 +28,10 @@ use Rattle.grid_configured.specs.declared.network.ConfiguredLine.{ConfiguredLine
 use Rattle.grid_configured.specs.declared.network.ConfiguredLevel.{ConfiguredLevel}
 use Rattle.grid_configured.specs.declared.network.ConfiguredNetwork.{ConfiguredNetwork}
 use Rattle.grid_configured.specs.Checks.{each_check, level_ids, ids_of, line_check, network_check, IsTranslatable}
-use Rattle.grid_configured.specs.Places.{PlacesFit}
+use Rattle.grid_placed.specs.Places.{PlacesFit}
 use Rattle.grid_configured.specs.Levels.{bus_place, placed_level, placed_levels}
-use Rattle.grid_configured.specs.Translation.{breaker_id, outlet_breaker, translated_line, translated}
+use Rattle.grid_placed.specs.Translation.{breaker_id, outlet_breaker}
+use Rattle.grid_configured.specs.Translation.{translated_line, translated}
 use Rattle.grid_configured.specs.Partial.{first_switches, first_items, with_switches, with_items, with_lines}
 use Rattle.grid_configured.proofs.Checked.{NetworkRight, network_right, network_once, times_levels, translatable_fits}
 use Rattle.grid_configured.proofs.Stacked.{Each, each_join, on, stack, levels_stack}

@@ -33,10 +33,11 @@ use Rattle.grid_configured.specs.declared.network.ConfiguredLevel.{ConfiguredLev
 use Rattle.grid_configured.specs.declared.network.ConfiguredNetwork.{ConfiguredNetwork}
 use Rattle.grid_configured.specs.Checks as checks
 use Rattle.grid_configured.specs.Checks.{ids_of, level_nodes, level_edges, ends_in, line_ends, level_of, id_reasons, end_reasons, end_check, line_check}
-use Rattle.grid_configured.specs.Places.{Outlet, PlacedLevel, PlacesFit}
+use Rattle.grid_placed.specs.Places.{Outlet, PlacedLevel, PlacesFit}
 use Rattle.grid_configured.specs.Levels.{bus_place, joint_of, item_outlet, end_outlets, line_outlets, outlets, placed_level, placed_levels}
 use Rattle.grid_configured.specs.Sites.{is_outlet}
-use Rattle.grid_configured.specs.Translation.{joint_breaker, breaker_id, outlet_breaker, outlet_placed, outlets_at, translated_level, terminal_node, node_in, translated_end, translated_line}
+use Rattle.grid_placed.specs.Translation.{joint_breaker, breaker_id, outlet_breaker, outlet_placed, outlets_at, translated_level}
+use Rattle.grid_configured.specs.Translation.{terminal_node, node_in, translated_end, translated_line}
 use Rattle.grid_configured.proofs.Checked.{not_refused, bus_there, fresh_line, found_right}
 use Rattle.grid_configured.proofs.Stacked.{Each, each_same, Free, Keeps, At, at_changed, on, on_own, on_other, on_id, stack, free_switched, same_back, switch_added, end_added, line_added}
 use Rattle.grid_configured.proofs.Enlarged.{Under, switch_more, placed_more, below, switch_fits, switch_under, terminal_fit, terminal_under, below_more, next_node, outlet_more, outlet_grown, placed_below, level_under}

@@ -27,9 +27,10 @@ use Rattle.grid_configured.specs.declared.network.BusEnd.{BusEnd}
 use Rattle.grid_configured.specs.declared.network.ConfiguredLine.{ConfiguredLine}
 use Rattle.grid_configured.specs.declared.network.ConfiguredLevel.{ConfiguredLevel}
 use Rattle.grid_configured.specs.declared.network.ConfiguredNetwork.{ConfiguredNetwork}
-use Rattle.grid_configured.specs.Places.{Outlet, PlacedLevel}
+use Rattle.grid_placed.specs.Places.{Outlet, PlacedLevel}
 use Rattle.grid_configured.specs.Levels.{bus_place, item_outlet, end_outlets, line_outlets, outlets, placed_level, placed_levels}
-use Rattle.grid_configured.specs.Translation.{joint_breaker, breaker_id, outlet_breaker, bus_section, outlet_placed, outlets_at, translated_level, substation_of, translated_line, translated}
+use Rattle.grid_placed.specs.Translation.{joint_breaker, breaker_id, outlet_breaker, bus_section, outlet_placed, outlets_at, translated_level}
+use Rattle.grid_configured.specs.Translation.{substation_of, translated_line, translated}
 use Rattle.grid_configured.specs.Sites.{bus_ids, item_ids, line_ids, find_level, is_joint, is_outlet, find_joint, find_outlet, sides}
 
 -- ---- lists

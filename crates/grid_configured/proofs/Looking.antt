@@ -12,15 +12,16 @@ use Rattle.grid_core.specs.Replies.{state_of}
 use Rattle.grid_configured.specs.declared.network.ConfiguredNetwork.{ConfiguredNetwork}
 use Rattle.grid_configured.specs.declared.view.ConfiguredView.{ConfiguredView}
 use Rattle.grid_configured.specs.declared.reply.ConfiguredReply.TheVariants as told
-use Rattle.grid_configured.specs.Places.{PlacedLevel, stood}
+use Rattle.grid_placed.specs.Places.{PlacedLevel, stood}
 use Rattle.grid_configured.specs.Levels.{placed_levels}
-use Rattle.grid_configured.specs.Translation.{outlets_at, translated_level, translated}
+use Rattle.grid_placed.specs.Translation.{outlets_at, translated_level}
+use Rattle.grid_configured.specs.Translation.{translated}
 use Rattle.grid_configured.specs.Views.{configured_view}
 use Rattle.grid_configured.specs.Viewed.{told_view}
 use Rattle.grid_configured.specs.Sites.{find_level}
 use Rattle.grid_configured.specs.Machine.{Flags, level_under, view_under, viewed, viewed_at, machine}
 use Rattle.grid_configured.specs.Histories.{flags_of, reply_on, reply_to, view, ArePlain}
-use Rattle.grid_configured.proofs.Flagged.{places_stood, placed_flagged}
+use Rattle.grid_placed.proofs.Flagged.{places_stood, placed_flagged}
 use Rattle.grid_configured.proofs.Viewing.{view_told}
 use Rattle.grid_configured.proofs.Mirrored.{NetworkFits, Mirrors}
 use Rattle.grid_configured.proofs.Plugged.{fits_at, level_now}

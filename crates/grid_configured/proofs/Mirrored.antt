@@ -17,9 +17,10 @@ use Rattle.grid_structure.proofs.Places.{position_found}
 use Rattle.grid_core.proofs.Counting.{lengths-with_flag}
 use Rattle.grid_configured.specs.declared.network.ConfiguredNetwork.{ConfiguredNetwork}
 use Rattle.grid_configured.specs.declared.reply.ConfiguredReply.TheVariants as told
-use Rattle.grid_configured.specs.Places.{PlacedLevel, PlacesFit}
+use Rattle.grid_placed.specs.Places.{PlacedLevel, PlacesFit}
 use Rattle.grid_configured.specs.Levels.{placed_levels}
-use Rattle.grid_configured.specs.Translation.{translated_level, translated}
+use Rattle.grid_placed.specs.Translation.{translated_level}
+use Rattle.grid_configured.specs.Translation.{translated}
 use Rattle.grid_configured.specs.Sites.{bus_ids, is_joint, find_joint, sides}
 use Rattle.grid_configured.specs.Machine.{Flags, Step, opening, refused, switched}
 use Rattle.grid_configured.specs.Told.{told_reply}

@@ -22,16 +22,17 @@ use Rattle.grid_paths.proofs.Least.{some_same, some_none}
 use Rattle.grid_core.proofs.Counting.{lengths-with_flag}
 use Rattle.grid_configured.specs.declared.network.ConfiguredNetwork.{ConfiguredNetwork}
 use Rattle.grid_configured.specs.declared.reply.ConfiguredReply.TheVariants as told
-use Rattle.grid_configured.specs.Places.{PlacedLevel, PlacesFit, stood}
+use Rattle.grid_placed.specs.Places.{PlacedLevel, PlacesFit, stood}
 use Rattle.grid_configured.specs.Levels.{placed_levels}
-use Rattle.grid_configured.specs.Translation.{translated_level, translated}
+use Rattle.grid_placed.specs.Translation.{translated_level}
+use Rattle.grid_configured.specs.Translation.{translated}
 use Rattle.grid_configured.specs.Sites.{bus_ids, find_outlet, sides}
 use Rattle.grid_configured.specs.Machine.{Flags, refused, already, outlet_of_side, plugged}
 use Rattle.grid_configured.specs.Told.{told_reply}
-use Rattle.grid_configured.proofs.Hanging.{absent}
-use Rattle.grid_configured.proofs.Flagged.{length_opened, length_connected, level_positioned, places_stood, flag_of}
-use Rattle.grid_configured.proofs.Connecting.{connect_closes, connect_stays}
-use Rattle.grid_configured.proofs.Parting.{disconnect_opens, disconnect_stays}
+use Rattle.grid_placed.proofs.Hanging.{absent}
+use Rattle.grid_placed.proofs.Flagged.{length_opened, length_connected, level_positioned, places_stood, flag_of}
+use Rattle.grid_placed.proofs.Connecting.{connect_closes, connect_stays}
+use Rattle.grid_placed.proofs.Parting.{disconnect_opens, disconnect_stays}
 use Rattle.grid_configured.proofs.Located.{levels_are, sides_found, IsAt, sited}
 use Rattle.grid_configured.proofs.Rows.{row_joined, put_second}
 use Rattle.grid_configured.proofs.Mirrored.{NetworkFits, Mirrors, StepMirrors, rows_here}

@@ -7,8 +7,8 @@ use Rattle.grid_states.specs.Rows.{row_at, with_row, with_flag}
 use Rattle.grid_level.specs.declared.Switch.{Switch}
 use Rattle.grid_core.specs.Solo.{flag_at}
 use Rattle.grid_paths.proofs.Least.{some_same, some_none}
-use Rattle.grid_configured.specs.Places.{Joint, Outlet, PlacedLevel}
-use Rattle.grid_configured.specs.Translation.{joint_breaker, outlet_breaker, outlets_at, translated_level}
+use Rattle.grid_placed.specs.Places.{Joint, Outlet, PlacedLevel}
+use Rattle.grid_placed.specs.Translation.{joint_breaker, outlet_breaker, outlets_at, translated_level}
 
 -- the flags of a level's breakers
 abbrev pub joined_row : List Bool → List Bool → List Bool

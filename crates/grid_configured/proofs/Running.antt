@@ -23,7 +23,6 @@ use Rattle.grid_core.specs.Solo.{State}
 use Rattle.grid_core.specs.Fitting.{StateFits, RowsFit}
 use Rattle.grid_core.specs.Worlds.{worker_live, worker_state}
 use Rattle.grid_core.specs.Replies as answers
-use Rattle.grid_core.specs.History as histories
 use Rattle.grid_core.specs.History.{History, Command, command, is_live, working, structure}
 use Rattle.grid_requests.specs.Changes.{structure_after}
 use Rattle.grid_core.specs.Replies.{state_of}
@@ -31,9 +30,10 @@ use Rattle.grid_paths.proofs.Least.{some_same, some_none}
 use Rattle.grid_configured.specs.declared.network.ConfiguredLevel.{ConfiguredLevel}
 use Rattle.grid_configured.specs.declared.network.ConfiguredNetwork.{ConfiguredNetwork}
 use Rattle.grid_configured.specs.Names.{request_plain}
-use Rattle.grid_configured.specs.Places.{PlacedLevel}
+use Rattle.grid_placed.specs.Places.{PlacedLevel}
 use Rattle.grid_configured.specs.Levels.{placed_level, placed_levels}
-use Rattle.grid_configured.specs.Translation.{translated_level, translated}
+use Rattle.grid_placed.specs.Translation.{translated_level}
+use Rattle.grid_configured.specs.Translation.{translated}
 use Rattle.grid_configured.specs.Sites.{bus_ids}
 use Rattle.grid_configured.specs.Histories.{ConfiguredHistory, ArePlain, view, reply, reply_to}
 use Rattle.grid_configured.specs.Viewed.{told_view, seen_at}

@@ -26,10 +26,10 @@ use Rattle.grid_configured.specs.declared.network.ConfiguredLine.{ConfiguredLine
 use Rattle.grid_configured.specs.declared.network.ConfiguredLevel.{ConfiguredLevel}
 use Rattle.grid_configured.specs.declared.network.ConfiguredNetwork.{ConfiguredNetwork}
 use Rattle.grid_configured.specs.Checks.{level_ids, ids_of}
-use Rattle.grid_configured.specs.Places.{Outlet, PlacedLevel, PlacesFit}
+use Rattle.grid_placed.specs.Places.{Outlet, PlacedLevel, PlacesFit}
 use Rattle.grid_configured.specs.Levels.{bus_place, item_outlet, line_outlets, outlets, placed_level, placed_levels}
-use Rattle.grid_configured.specs.Translation.{bus_section, outlet_placed, outlets_at, translated_level}
-use Rattle.grid_configured.proofs.Nodes.{level_nodes}
+use Rattle.grid_placed.specs.Translation.{bus_section, outlet_placed, outlets_at, translated_level}
+use Rattle.grid_placed.proofs.Nodes.{level_nodes}
 use Rattle.grid_configured.proofs.Located.{placed_test, level_test, found_mapped}
 use Rattle.grid_configured.proofs.Stacked.{Each, each_join}
 use Rattle.grid_configured.proofs.Enlarged.{next_node}

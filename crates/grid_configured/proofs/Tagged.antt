@@ -22,9 +22,10 @@ use Rattle.grid_configured.specs.declared.network.ConfiguredLine.{ConfiguredLine
 use Rattle.grid_configured.specs.declared.network.ConfiguredLevel.{ConfiguredLevel}
 use Rattle.grid_configured.specs.declared.network.ConfiguredNetwork.{ConfiguredNetwork}
 use Rattle.grid_configured.specs.Checks.{level_ids, ids_of}
-use Rattle.grid_configured.specs.Places.{Outlet}
+use Rattle.grid_placed.specs.Places.{Outlet}
 use Rattle.grid_configured.specs.Levels.{bus_place, joint_of, item_outlet, end_outlets, line_outlets, outlets, placed_level, placed_levels}
-use Rattle.grid_configured.specs.Translation.{joint_breaker, breaker_id, outlet_breaker, outlets_at, translated_level, substation_id, substation_of, translated_line, translated}
+use Rattle.grid_placed.specs.Translation.{joint_breaker, breaker_id, outlet_breaker, outlets_at, translated_level}
+use Rattle.grid_configured.specs.Translation.{substation_id, substation_of, translated_line, translated}
 use Rattle.grid_configured.proofs.Located.{is_marked, own_ids, singles, level_singles}
 use Rattle.grid_configured.proofs.Stacked.{Each, each_join, Lacks, Free, lone, stack, join_free, same_back}
 

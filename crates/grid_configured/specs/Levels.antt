@@ -1,5 +1,5 @@
 -- The levels of a network with configured buses, by places of buses.
-use Rattle.std.specs.Prelude.{ℕ, if◌then◌else◌, unwrap_or, List, [], ◌∷◌, ◌++◌, map, flat_map, position}
+use Rattle.std.specs.Prelude.{ℕ, if◌then◌else◌, None, unwrap_or, List, [], ◌∷◌, ◌++◌, map, flat_map, position}
 use Rattle.grid_ids.specs.Name.{same_id}
 use Rattle.grid_level.specs.declared.Terminal.{Terminal}
 use Rattle.grid_level.specs.declared.Stand.TheVariants.{Feeder, BranchEnd}
@@ -9,7 +9,7 @@ use Rattle.grid_configured.specs.declared.network.BusEnd.{BusEnd}
 use Rattle.grid_configured.specs.declared.network.ConfiguredLine.{ConfiguredLine}
 use Rattle.grid_configured.specs.declared.network.ConfiguredLevel.{ConfiguredLevel}
 use Rattle.grid_configured.specs.declared.network.ConfiguredNetwork.{ConfiguredNetwork}
-use Rattle.grid_configured.specs.Places.{Joint, Outlet, PlacedLevel}
+use Rattle.grid_placed.specs.Places.{Joint, Outlet, PlacedLevel}
 
 -- the place of the bus of an id, which is there
 unfoldable pub bus_place : List (List ℕ) → List ℕ → ℕ
@@ -44,6 +44,8 @@ unfoldable pub placed_level : ConfiguredNetwork → ConfiguredLevel → PlacedLe
 placed_level network level = record {
   id = level.id;
   nominal_v = level.nominal_v;
+  low_v = None;
+  high_v = None;
   buses = level.buses;
   joints = map (joint_of level) level.switches;
   outlets = outlets network level;

@@ -1,6 +1,5 @@
 pub mod Names
 pub mod Checks
-pub mod Places
 pub mod Levels
 pub mod Sites
 pub mod Translation

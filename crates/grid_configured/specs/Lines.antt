@@ -2,7 +2,7 @@
 use Rattle.std.specs.Prelude.{ℕ, suc, ◌==◌, Bool, true, false, List, [], ◌∷◌, ◌++◌, length, filter, map, take, codes}
 use Rattle.std.specs.List.{count_by, flat_map, range_with_len}
 use Rattle.serde_json.specs.Data.{Data, string}
-use Rattle.grid_print.specs.Objects.{array_of, natural}
+use Rattle.grid_print.specs.Objects.{array_of}
 use Rattle.grid_report.specs.Lines.{bus_name}
 use Rattle.grid_jsonl.specs.declared.line.Counts.{Counts}
 use Rattle.grid_jsonl.specs.Trees.{ordered, sum_value}

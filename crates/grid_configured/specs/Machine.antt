@@ -13,7 +13,7 @@ use Rattle.grid_configured.specs.declared.network.ConfiguredNetwork.{ConfiguredN
 use Rattle.grid_configured.specs.declared.view.ConfiguredView.{ConfiguredView}
 use Rattle.grid_configured.specs.declared.reply.ConfiguredReply.{ConfiguredReply}
 use Rattle.grid_configured.specs.declared.reply.ConfiguredReply.TheVariants.{Done, Unchanged, AlreadyConnected, AlreadyDisconnected, View, Refused}
-use Rattle.grid_configured.specs.Places.{PlacedLevel, stood}
+use Rattle.grid_placed.specs.Places.{PlacedLevel, stood}
 use Rattle.grid_configured.specs.Levels.{placed_levels}
 use Rattle.grid_configured.specs.Sites.{find_level, find_joint, find_outlet, sides}
 use Rattle.grid_configured.specs.Views.{configured_view}

@@ -3,7 +3,7 @@ use Rattle.std.specs.Prelude.{ℕ, Bool, ◌&&◌, ◌==◌, if◌then◌else◌
 use Rattle.grid_ids.specs.Name.{same_id, has_id}
 use Rattle.grid_structure.specs.Sites.{first_found}
 use Rattle.grid_configured.specs.declared.network.ConfiguredNetwork.{ConfiguredNetwork}
-use Rattle.grid_configured.specs.Places.{Joint, Outlet}
+use Rattle.grid_placed.specs.Places.{Joint, Outlet}
 use Rattle.grid_configured.specs.Levels.{placed_levels}
 
 unfoldable pub bus_ids : ConfiguredNetwork → List (List ℕ)

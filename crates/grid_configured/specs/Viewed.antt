@@ -9,7 +9,7 @@ use Rattle.grid_configured.specs.declared.network.ConfiguredNetwork.{ConfiguredN
 use Rattle.grid_configured.specs.declared.view.ConfiguredBus.{ConfiguredBus}
 use Rattle.grid_configured.specs.declared.view.ConfiguredView.{ConfiguredView}
 use Rattle.grid_configured.specs.Levels.{placed_levels}
-use Rattle.grid_configured.specs.Translation.{translated_level}
+use Rattle.grid_placed.specs.Translation.{translated_level}
 
 -- how many of its nodes are those of buses, of which there are so many
 unfoldable pub section_total : ℕ → List ℕ → ℕ

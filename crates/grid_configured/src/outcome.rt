@@ -21,8 +21,8 @@ pub type ConfiguredVariants = Seq<ConfiguredVariant>;
 /// What requests were answered, in the order of their steps.
 pub type ConfiguredReplies = Seq<ConfiguredReply>;
 
-/// What came of a job with configured buses, seen as what a report tells of it: each step with its reply, the count of workers,
-/// and the live variants with the views of their levels.
+/// What came of a job with configured buses, seen as what a report tells of it: each step with its reply, the count of
+/// workers, and the live variants with the views of their levels.
 #[derive(Debug, Drop)]
 pub struct ConfiguredOutcome {
     // The steps of the node/breaker form, in the order in which they were made.

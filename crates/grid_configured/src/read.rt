@@ -119,13 +119,13 @@ fn read_root(alloc: Global, value: &Value) -> Result<ConfiguredJob, ReadError>
 /// exactly where there is a fault, with the first one. The root's members are `format`, which must be 1, `configured`,
 /// and where wanted `workers` and `order`; commands are `use`, `open`, `close`, `connect`, `disconnect`, `bus_view`,
 /// `clone` and `remove`. An id with the byte `!` or with more than 100 bytes is Reserved (74). After all are read, the
-/// levels in order are held against what stands before them, each followed by its buses, its switches and its injections,
-/// and then the lines, whose faults are at the line. The first reason of each thing is told: Load with IdTaken (30), where
-/// a level, bus, switch, injection or line before has its id; for an end Load with NoLevel (32); NoBus (75), where the level
-/// has no bus of that id; SameBus (76), where both buses of a switch are one; Load with a check's fault (10, 12, 13), and
-/// Load with TooManyLevels (35), TooManyNodes (24), TooManyEdges (25) or TooManySwitches (36), where a bus counts as one
-/// node, and a terminal as one node, one edge and one switch. The records' rules are the IIDM documentation's, the others
-/// and the order are this project's own.
+/// levels in order are held against what stands before them, each followed by its buses, its switches and its
+/// injections, and then the lines, whose faults are at the line. The first reason of each thing is told: Load with
+/// IdTaken (30), where a level, bus, switch, injection or line before has its id; for an end Load with NoLevel (32);
+/// NoBus (75), where the level has no bus of that id; SameBus (76), where both buses of a switch are one; Load with a
+/// check's fault (10, 12, 13), and Load with TooManyLevels (35), TooManyNodes (24), TooManyEdges (25) or
+/// TooManySwitches (36), where a bus counts as one node, and a terminal as one node, one edge and one switch. The
+/// records' rules are the IIDM documentation's, the others and the order are this project's own.
 #[tactic(auto, unfolding(crate::specs::Jobs::configured_job_of))]
 pub fn read_configured(alloc: Global, bytes: &[u8]) -> Result<ConfiguredJob, JobFault>
     ensures job { JobGives result (configured_job_of bytes.now) }

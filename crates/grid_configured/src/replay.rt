@@ -109,9 +109,10 @@ fn outcome(
     })
 }
 
-/// Runs scripts on a network with configured buses, each of at most 32 workers' own, in an order in which each worker's number
-/// stands as often as its script has commands, and gives what a report tells of it. All ids of the network and of the commands are
-/// plain, the commands are those of networks with configured buses, and no fault is found in the network.
+/// Runs scripts on a network with configured buses, each of at most 32 workers' own, in an order in which each worker's
+/// number stands as often as its script has commands, and gives what a report tells of it. All ids of the network and
+/// of the commands are plain, the commands are those of networks with configured buses, and no fault is found in the
+/// network.
 pub fn run_configured(
     alloc: Global,
     network: ConfiguredNetwork,

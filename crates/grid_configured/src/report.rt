@@ -16,10 +16,10 @@ use grid_report::{ReportFault, write_blocks};
 use grid_source::Sink;
 use std::alloc::Global;
 
-/// Writes the report of what came of a job with configured buses, in pieces of `PIECE` bytes of `grid_source`, the last one
-/// shorter: the order of the steps, each worker's steps with their replies, and each live variant with the views of its levels. It
-/// stops only where the sink's count of faults rose, which is as before after every other answer; after that, or want of memory, a
-/// front of the text was written.
+/// Writes the report of what came of a job with configured buses, in pieces of `PIECE` bytes of `grid_source`, the last
+/// one shorter: the order of the steps, each worker's steps with their replies, and each live variant with the views of
+/// its levels. It stops only where the sink's count of faults rose, which is as before after every other answer; after
+/// that, or want of memory, a front of the text was written.
 pub fn write_configured<K: Sink>(
     alloc: Global,
     outcome: &ConfiguredOutcome,
@@ -41,8 +41,9 @@ pub fn write_configured<K: Sink>(
     write_blocks(alloc, blocks.as_slice(), sink)
 }
 
-/// Writes the same as JSON Lines, an object on each line, as `write_configured` writes the report: a line that tells the order of
-/// the steps, each worker's steps with their replies, each live variant with the views of its levels, and a line of counts.
+/// Writes the same as JSON Lines, an object on each line, as `write_configured` writes the report: a line that tells
+/// the order of the steps, each worker's steps with their replies, each live variant with the views of its levels, and
+/// a line of counts.
 pub fn write_configured_lines<K: Sink>(
     alloc: Global,
     outcome: &ConfiguredOutcome,

@@ -310,11 +310,12 @@ fn add_lines(
     Ok(())
 }
 
-/// A network in node/breaker form: each level in a substation of its own, whose id is the level's with `!S` behind it; each
-/// bus a busbar section of its id at the node of its place; the switches retained breakers between those nodes; and each
-/// terminal, injections before ends of lines, at a node behind those of the buses, joined to its bus by a breaker of its own,
-/// whose id is the equipment's with `!` and the side behind it, closed where the terminal is connected. All ids of the
-/// network are plain, and no fault is found in it, so that no id clashes and no limit is passed.
+/// A network in node/breaker form: each level in a substation of its own, whose id is the level's with `!S` behind it;
+/// each bus a busbar section of its id at the node of its place; the switches retained breakers between those nodes;
+/// and each terminal, injections before ends of lines, at a node behind those of the buses, joined to its bus by a
+/// breaker of its own, whose id is the equipment's with `!` and the side behind it, closed where the terminal is
+/// connected. All ids of the network are plain, and no fault is found in it, so that no id clashes and no limit is
+/// passed.
 pub fn translate(alloc: Global, network: &ConfiguredNetwork) -> Result<Structure, Memory>
     requires { IsTranslatable network.now }
     ensures { IfOk result (λ structure. structure ≡ translated network.now) }

@@ -27,8 +27,8 @@ use grid_states::States;
 use std::alloc::Global;
 use std::marker::Model;
 
-/// Workers on the variants of a network with configured buses. It is seen as its history: the network, the count of workers,
-/// and the steps, the newest first. It runs the network's node/breaker form.
+/// Workers on the variants of a network with configured buses. It is seen as its history: the network, the count of
+/// workers, and the steps, the newest first. It runs the network's node/breaker form.
 #[derive(Drop)]
 pub struct ConfiguredWorld {
     network: ConfiguredNetwork,
@@ -86,8 +86,8 @@ fn tell_reply(reply: Reply) -> ConfiguredReply
 }
 
 impl ConfiguredWorld {
-    /// Workers on the variants of a network, at first each on the initial variant, with the positions of switches and the
-    /// flags of terminals as in their records. All ids of the network are plain, and no fault is found in it.
+    /// Workers on the variants of a network, at first each on the initial variant, with the positions of switches and
+    /// the flags of terminals as in their records. All ids of the network are plain, and no fault is found in it.
     pub fn start(
         alloc: Global,
         network: ConfiguredNetwork,
@@ -210,9 +210,9 @@ impl ConfiguredWorld {
         Ok(tell_reply(self.world.step(worker, request)?))
     }
 
-    /// Makes one step of a worker, whose number is below the count, and answers its reply. The request is one of the eight
-    /// commands `use`, `open`, `close`, `connect`, `disconnect`, `bus_view`, `clone` and `remove`, and its ids are plain.
-    /// After want of memory the world is as before.
+    /// Makes one step of a worker, whose number is below the count, and answers its reply. The request is one of the
+    /// eight commands `use`, `open`, `close`, `connect`, `disconnect`, `bus_view`, `clone` and `remove`, and its ids
+    /// are plain. After want of memory the world is as before.
     #[tactic(auto, unfolding(crate::specs::Told::is_passed))]
     pub fn step(&mut self, worker: u32, request: &Request) -> Result<ConfiguredReply, Memory>
         requires worker { worker < self.old.workers }

@@ -22,7 +22,7 @@ use Rattle.grid_configured.specs.declared.network.ConfiguredNetwork.{ConfiguredN
 use Rattle.grid_configured.specs.declared.network.ConfiguredLevel.{ConfiguredLevel}
 use Rattle.grid_configured.specs.declared.reply.ConfiguredReply.{ConfiguredReply}
 use Rattle.grid_configured.specs.declared.reply.ConfiguredReply.TheVariants as replies
-use Rattle.grid_configured.specs.Places.{stood}
+use Rattle.grid_placed.specs.Places.{stood}
 use Rattle.grid_configured.specs.Levels.{placed_level, placed_levels}
 use Rattle.grid_configured.specs.Sites.{find_level}
 use Rattle.grid_configured.specs.Views.{configured_view}

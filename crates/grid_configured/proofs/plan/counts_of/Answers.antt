@@ -1,4 +1,4 @@
-use Rattle.std.proofs.Common.{◌≡◌, ℕ, ap, ◌∙◌, length}
+use Rattle.std.proofs.Common.{ℕ, ap, ◌∙◌, length}
 use Rattle.std.specs.List.{count_by}
 use Rattle.grid_jsonl.specs.declared.line.Counts.{Counts}
 use Rattle.grid_configured.specs.Lines.{counts_of, is_refused}

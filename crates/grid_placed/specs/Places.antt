@@ -1,6 +1,6 @@
--- A level with configured buses as it stands: its switches by the places of the buses that they join, and its terminals by the
--- places of the buses at which they stand.
-use Rattle.std.specs.Prelude.{ℕ, ℤ, ◌<◌, Bool, false, not, ◌≡◌, List, ◌∷◌, length, map, filter, All}
+-- A level with configured buses as it stands: its switches by the places of the buses that they join, and its terminals
+-- by the places of the buses at which they stand.
+use Rattle.std.specs.Prelude.{ℕ, ℤ, ◌<◌, Bool, false, not, ◌≡◌, Option, List, ◌∷◌, length, map, filter, take, drop, All}
 use Rattle.grid_graph.specs.Joined.{group_of, least_nodes}
 use Rattle.grid_graph.specs.Components.{places}
 use Rattle.grid_level.specs.declared.Terminal.{Terminal}
@@ -25,6 +25,8 @@ pub record Outlet : Type 0 where
 pub record PlacedLevel : Type 0 where
   pub id : List ℕ
   pub nominal_v : ℤ
+  pub low_v : Option ℤ
+  pub high_v : Option ℤ
   pub buses : List (List ℕ)
   pub joints : List Joint
   pub outlets : List Outlet
@@ -61,3 +63,8 @@ with_connected outlets flags = outlets
 -- the level with the present flags of its switches and terminals
 unfoldable pub stood : PlacedLevel → List Bool → List Bool → PlacedLevel
 stood level opened connected = record level { joints = with_opened level.joints opened; outlets = with_connected level.outlets connected }
+
+-- the level where its switches, and behind them the breakers of its terminals, are in these positions, true for open: a
+-- terminal is connected where its breaker is closed
+unfoldable pub positioned : PlacedLevel → List Bool → PlacedLevel
+positioned level opened = stood level (take (length level.joints) opened) (map not (drop (length level.joints) opened))

@@ -8,10 +8,10 @@ use Rattle.grid_graph.specs.Joined.{end_across, neighbours}
 use Rattle.grid_graph.specs.Graph.{EndsBelow}
 use Rattle.grid_graph.proofs.Reach.{In, In_parts, In_left, In_right, across_from, across_first}
 use Rattle.grid_level.specs.declared.Stand.TheVariants.{BranchEnd}
-use Rattle.grid_configured.specs.Places.{Joint, Outlet, PlacedLevel, PlacesFit, closed_pairs}
-use Rattle.grid_configured.specs.Translation.{outlets_at}
-use Rattle.grid_configured.proofs.Spokes.{HangsAt, AreSpokes}
-use Rattle.grid_configured.proofs.Nodes.{StandsWell, spokes}
+use Rattle.grid_placed.specs.Places.{Joint, Outlet, PlacedLevel, PlacesFit, closed_pairs}
+use Rattle.grid_placed.specs.Translation.{outlets_at}
+use Rattle.grid_placed.proofs.Spokes.{HangsAt, AreSpokes}
+use Rattle.grid_placed.proofs.Nodes.{StandsWell, spokes}
 
 -- what stands where no terminal does
 abbrev pub absent : Outlet

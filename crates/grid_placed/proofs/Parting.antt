@@ -1,9 +1,9 @@
 -- The plan that disconnects a terminal of a level in node/breaker form: it opens the terminal's own breaker.
-use Rattle.std.proofs.Common.{◌≡◌, refl, sym, ap, ◌∙◌, subst, ℕ, zero, suc, ◌+◌, ◌<◌, ◌≤◌, Bool, true, false, cond, not, ◌&&◌, ◌||◌, List, [], ◌∷◌, ◌++◌, length, get_or, inl, inr, arith}
+use Rattle.std.proofs.Common.{◌≡◌, refl, sym, ap, ◌∙◌, subst, ℕ, zero, suc, ◌+◌, ◌<◌, ◌≤◌, Bool, true, false, cond, not, ◌&&◌, ◌||◌, List, [], ◌∷◌, ◌++◌, length, get_or, arith}
 use Rattle.std.specs.Prelude.{Option, Some, None, eqb, map, filter, find, All}
 use Rattle.std.specs.List.{list_any, enumerate_from}
 use Rattle.std.specs.Option.{option_or}
-use Rattle.std.proofs.lemmas.Bool.{cases_eq, eq-eqb, ne_eqb, and_right}
+use Rattle.std.proofs.lemmas.Bool.{eq-eqb, ne_eqb, and_right}
 use Rattle.std.proofs.lemmas.List.{append-nil, length-map}
 use Rattle.std.proofs.lemmas.List.Elements.{filter-append, All-head, All-tail, All-filter}
 use Rattle.std.proofs.lemmas.List.Folds.{find-append}
@@ -12,26 +12,25 @@ use Rattle.grid_graph.proofs.Reach.{In}
 use Rattle.grid_graph.proofs.Places.{In_places}
 use Rattle.grid_level.specs.declared.Switch.{Switch}
 use Rattle.grid_level.specs.declared.Placed.{Placed}
-use Rattle.grid_level.specs.declared.Terminal.{Terminal}
 use Rattle.grid_level.specs.Passing.{core, switch_edge, ends, nodes, passing, switch_passes, passes_closed, is_operable, is_breaker, is_busbar, joined_under, placed_among}
 use Rattle.grid_groups.proofs.Lists.{In_filtered}
 use Rattle.grid_paths.specs.Paths.{has_node}
 use Rattle.grid_connect.specs.Plans.{core_of, core_busbar, leaves_core, leaving, disconnect_plan_of}
 use Rattle.grid_connect.specs.declared.DisconnectPlan.TheVariants.{Opens, AlreadyDisconnected, NoBreaker}
 use Rattle.grid_connect.proofs.Leaving.{disconnect_yes, disconnect_no, breaks, opens}
-use Rattle.grid_configured.specs.Places.{Joint, Outlet, PlacedLevel, PlacesFit}
-use Rattle.grid_configured.specs.Translation.{joint_breaker, outlet_breaker, bus_section, outlet_placed, outlets_at, translated_level}
-use Rattle.grid_configured.proofs.Nodes.{StandsWell, level_nodes, filter_map_of}
-use Rattle.grid_configured.proofs.Hanging.{absent}
-use Rattle.grid_configured.proofs.Joined.{node_total}
-use Rattle.grid_configured.proofs.Grouped.{standing_only}
-use Rattle.grid_configured.proofs.Counted.{IsFed, outlets_fed}
-use Rattle.grid_configured.proofs.Placed.{bus_connected}
-use Rattle.grid_configured.proofs.Connecting.{node_connected}
+use Rattle.grid_placed.specs.Places.{Joint, Outlet, PlacedLevel, PlacesFit}
+use Rattle.grid_placed.specs.Translation.{joint_breaker, outlet_breaker, bus_terminal, bus_section, outlet_placed, outlets_at, translated_level}
+use Rattle.grid_placed.proofs.Nodes.{StandsWell, level_nodes, filter_map_of}
+use Rattle.grid_placed.proofs.Hanging.{absent}
+use Rattle.grid_placed.proofs.Joined.{node_total}
+use Rattle.grid_placed.proofs.Grouped.{standing_only}
+use Rattle.grid_placed.proofs.Counted.{IsFed, outlets_fed}
+use Rattle.grid_placed.proofs.Placed.{bus_connected}
+use Rattle.grid_placed.proofs.Connecting.{node_connected}
 
 -- ---- a node's core is the node alone
 
-none_kept : {X : Type 0} (p : X → Bool) → ((x : X) → p x ≡ false) → (xs : List X) → filter p xs ≡ []
+pub none_kept : {X : Type 0} (p : X → Bool) → ((x : X) → p x ≡ false) → (xs : List X) → filter p xs ≡ []
 none_kept p none [] = refl
 none_kept p none (x ∷ xs) = ap (λ t. cond t (x ∷ filter p xs) (filter p xs)) (none x) ∙ none_kept p none xs
 
@@ -46,7 +45,7 @@ no_core level =
     ∙ filter_map_of (switch_passes core) outlet_breaker (outlets_at level)
     ∙ ap (map outlet_breaker) (none_kept (λ e. switch_passes core (outlet_breaker e)) (λ e. and_right (not (not e.1.connected)) false refl) (outlets_at level)))
 
-within_none : (k a b : ℕ) → within [] k a b ≡ eqb a b
+pub within_none : (k a b : ℕ) → within [] k a b ≡ eqb a b
 unfolding within neighbours
 within_none zero a b = refl
 within_none (suc k) a b = by (eqb a b)
@@ -188,44 +187,38 @@ module _ (level : PlacedLevel) (fit : PlacesFit level) (k : ℕ) (lt : k < lengt
 
 -- ---- a bus
 
-section_found : (group : List ℕ) (a count at : ℕ) (xs : List (List ℕ)) → at ≤ a → a < at + length xs → at + length xs ≤ count → Only group count a
-    → (p : Placed) × (find (λ p. is_busbar p.stand) (filter (λ p. list_any (λ n. eqb p.node n) group) (map bus_section (enumerate_from at xs))) ≡ Some p)
+section_found : (group : List ℕ) (a count at k : ℕ) (xs : List (List ℕ)) → at + k ≡ a → k < length xs → at + length xs ≤ count → Only group count a
+    → find (λ p. is_busbar p.stand) (filter (λ p. list_any (λ n. eqb p.node n) group) (map bus_section (enumerate_from at xs))) ≡ Some (bus_section (a, get_or xs k []))
 unfolding bus_section is_busbar has_node
-section_found group a count at [] le lt few only = absurd (omega (arith, le, lt))
-section_found group a count at (x ∷ xs) le lt few only = elim (cases_eq a at) [
-  | inl e ↦ (
-    bus_section (at, x),
+section_found group a count at k [] e lt few only = absurd (omega (arith, lt))
+section_found group a count at zero (x ∷ xs) e lt few only =
+    let same : a ≡ at = omega (arith, e) in
     ap (λ t. find (λ p. is_busbar p.stand) (cond t (bus_section (at, x) ∷ filter (λ p. list_any (λ n. eqb p.node n) group) (map bus_section (enumerate_from (at + 1) xs))) (filter (λ p. list_any (λ n. eqb p.node n) group) (map bus_section (enumerate_from (at + 1) xs)))))
-        (only.has at (omega (arith, few)) ∙ eq-eqb a at e),
-  )
-  | inr ne ↦ (let r = section_found group a count (at + 1) xs (omega (arith, le, ne)) (omega (arith, lt)) (omega (arith, few)) only in (
-    r.0,
+    (only.has at (omega (arith, few)) ∙ eq-eqb a at same)
+    ∙ ap (λ n. Some (bus_section (n, x))) (sym same)
+section_found group a count at (suc k) (x ∷ xs) e lt few only =
     ap (λ t. find (λ p. is_busbar p.stand) (cond t (bus_section (at, x) ∷ filter (λ p. list_any (λ n. eqb p.node n) group) (map bus_section (enumerate_from (at + 1) xs))) (filter (λ p. list_any (λ n. eqb p.node n) group) (map bus_section (enumerate_from (at + 1) xs)))))
-        (only.has at (omega (arith, few)) ∙ ne_eqb a at ne) ∙ r.1,
-  ))
-]
+    (only.has at (omega (arith, few)) ∙ ne_eqb a at (λ same. omega (arith, same, e)))
+    ∙ section_found group a count (at + 1) k xs (omega (arith, e)) (omega (arith, lt)) (omega (arith, few)) only
 
 found_first : (o q : Option Placed) (p : Placed) → o ≡ Some p → option_or o q ≡ Some p
 found_first None q p e = absurd (let k : None ≡ Some p = e in cc)
 found_first (Some x) q p e = e
 
 module _ (level : PlacedLevel) (fit : PlacesFit level) (a : ℕ) (lt : a < length level.buses) where
-  bus_bar : (p : Placed) × (core_busbar (translated_level level) (core_of (translated_level level) a) ≡ Some p)
+  bus_bar : core_busbar (translated_level level) (core_of (translated_level level) a) ≡ Some (bus_section (a, get_or level.buses a []))
   unfolding core_busbar placed_among translated_level has_node
   bus_bar =
       let group = core_of (translated_level level) a in
       let test : Placed → Bool = λ p. list_any (λ n. eqb p.node n) group in
-      let r = section_found group a (node_total level) 0 level.buses (omega arith) (omega (arith, lt)) (omega arith) (record { has = λ n less. in_core level fit a n less }) in (
-        r.0,
-        ap (find (λ p. is_busbar p.stand)) (filter-append test (map bus_section (enumerate_from 0 level.buses)) (map outlet_placed (outlets_at level)))
-            ∙ find-append (λ p. is_busbar p.stand) (filter test (map bus_section (enumerate_from 0 level.buses))) (filter test (map outlet_placed (outlets_at level)))
-            ∙ found_first (find (λ p. is_busbar p.stand) (filter test (map bus_section (enumerate_from 0 level.buses)))) (find (λ p. is_busbar p.stand) (filter test (map outlet_placed (outlets_at level)))) r.0 r.1,
-      )
+      ap (find (λ p. is_busbar p.stand)) (filter-append test (map bus_section (enumerate_from 0 level.buses)) (map outlet_placed (outlets_at level)))
+      ∙ find-append (λ p. is_busbar p.stand) (filter test (map bus_section (enumerate_from 0 level.buses))) (filter test (map outlet_placed (outlets_at level)))
+      ∙ found_first (find (λ p. is_busbar p.stand) (filter test (map bus_section (enumerate_from 0 level.buses)))) (find (λ p. is_busbar p.stand) (filter test (map outlet_placed (outlets_at level)))) (bus_section (a, get_or level.buses a []))
+      (section_found group a (node_total level) 0 a level.buses (omega arith) lt (omega arith) (record { has = λ n less. in_core level fit a n less }))
 
   -- no breaker stands before a bus
-  pub disconnect_bus : (t : Terminal) × (disconnect_plan_of (translated_level level) a ≡ NoBreaker t)
-  disconnect_bus = (
-    bus_bar.0.terminal,
-    disconnect_yes (translated_level level) a (bus_connected level fit a lt)
-        ∙ breaks (leaving (translated_level level) (core_of (translated_level level) a)) (core_busbar (translated_level level) (core_of (translated_level level) a)) bus_bar.0 bus_bar.1,
-  )
+  pub disconnect_bus : disconnect_plan_of (translated_level level) a ≡ NoBreaker (bus_terminal (get_or level.buses a []))
+  unfolding bus_section
+  disconnect_bus =
+      disconnect_yes (translated_level level) a (bus_connected level fit a lt)
+      ∙ breaks (leaving (translated_level level) (core_of (translated_level level) a)) (core_busbar (translated_level level) (core_of (translated_level level) a)) (bus_section (a, get_or level.buses a [])) bus_bar

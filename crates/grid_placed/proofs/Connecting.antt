@@ -16,13 +16,13 @@ use Rattle.grid_connect.specs.Plans.{all_ends, opened_at, is_open, closable_at, 
 use Rattle.grid_connect.specs.declared.ConnectPlan.TheVariants.{Close, AlreadyConnected}
 use Rattle.grid_connect.proofs.Joining.{Parts, parts_of, closable_of}
 use Rattle.grid_connect.proofs.Planning.{LeastClosable, plan_least, plan_with}
-use Rattle.grid_configured.specs.Places.{Outlet, PlacedLevel, PlacesFit}
-use Rattle.grid_configured.specs.Translation.{outlet_breaker, translated_level}
-use Rattle.grid_configured.proofs.Nodes.{level_nodes}
-use Rattle.grid_configured.proofs.Hanging.{absent, outlet_of, outlet_at}
-use Rattle.grid_configured.proofs.Joined.{node_total}
-use Rattle.grid_configured.proofs.Placed.{carries_bus, carries_none, outlet_connected, bus_connected}
-use Rattle.grid_configured.proofs.Breakers.{breaker_at, ends_at, inside, own_across, leads_on}
+use Rattle.grid_placed.specs.Places.{Outlet, PlacedLevel, PlacesFit}
+use Rattle.grid_placed.specs.Translation.{outlet_breaker, translated_level}
+use Rattle.grid_placed.proofs.Nodes.{level_nodes}
+use Rattle.grid_placed.proofs.Hanging.{absent, outlet_of, outlet_at}
+use Rattle.grid_placed.proofs.Joined.{node_total}
+use Rattle.grid_placed.proofs.Placed.{carries_bus, carries_none, outlet_connected, bus_connected}
+use Rattle.grid_placed.proofs.Breakers.{breaker_at, ends_at, inside, own_across, leads_on}
 
 -- ---- a longer path is no better
 

@@ -14,8 +14,8 @@ use Rattle.grid_level.specs.declared.Switch.{Switch}
 use Rattle.grid_level.specs.declared.Placed.{Placed}
 use Rattle.grid_level.specs.Passing.{bus, switch_edge, internal_edge, edges, ends, both, with_node, rising, named, nodes, is_rising, is_busbar, passing, switch_passes, passes_closed}
 use Rattle.grid_level.proofs.Coding.{rising_self}
-use Rattle.grid_configured.specs.Places.{Joint, Outlet, PlacedLevel, PlacesFit, closed_pairs}
-use Rattle.grid_configured.specs.Translation.{joint_breaker, outlet_breaker, bus_section, outlet_placed, outlets_at, translated_level}
+use Rattle.grid_placed.specs.Places.{Joint, Outlet, PlacedLevel, PlacesFit, closed_pairs}
+use Rattle.grid_placed.specs.Translation.{joint_breaker, outlet_breaker, bus_section, outlet_placed, outlets_at, translated_level}
 
 -- ---- ranges
 
@@ -181,11 +181,11 @@ level_nodes level fit =
 unfoldable pub spokes : PlacedLevel → List (ℕ × ℕ)
 spokes level = map (λ e. (e.1.place, e.0)) (filter (λ e. e.1.connected) (outlets_at level))
 
-not_not : (t : Bool) → not (not t) && true ≡ t
+pub not_not : (t : Bool) → not (not t) && true ≡ t
 not_not true = refl
 not_not false = refl
 
-filter_alike : {X : Type 0} (p q : X → Bool) → ((x : X) → p x ≡ q x) → (xs : List X) → filter p xs ≡ filter q xs
+pub filter_alike : {X : Type 0} (p q : X → Bool) → ((x : X) → p x ≡ q x) → (xs : List X) → filter p xs ≡ filter q xs
 filter_alike p q same [] = refl
 filter_alike p q same (x ∷ xs) = ap (λ t. cond t (x ∷ filter p xs) (filter p xs)) (same x) ∙ ap (λ z. cond (q x) (x ∷ z) z) (filter_alike p q same xs)
 

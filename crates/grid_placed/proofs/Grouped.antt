@@ -12,12 +12,12 @@ use Rattle.grid_level.specs.declared.Placed.{Placed}
 use Rattle.grid_level.specs.Passing.{bus, passing, placed_among}
 use Rattle.grid_groups.specs.Groups.{group_under}
 use Rattle.grid_groups.proofs.Lists.{In_filtered, get_or_any}
-use Rattle.grid_configured.specs.Places.{Outlet, PlacedLevel, PlacesFit, closed_pairs, joined_places}
-use Rattle.grid_configured.specs.Translation.{bus_section, outlet_placed, outlets_at, translated_level}
-use Rattle.grid_configured.specs.Views.{connects_among}
-use Rattle.grid_configured.proofs.Nodes.{StandsWell, level_nodes, level_passing, filter_map_of}
-use Rattle.grid_configured.proofs.Hanging.{absent, outlet_of, outlet_at}
-use Rattle.grid_configured.proofs.Joined.{node_total, nodes_joined, buses_joined, joined_places_alike, joined_behind, joined_alone}
+use Rattle.grid_placed.specs.Places.{Outlet, PlacedLevel, PlacesFit, closed_pairs, joined_places}
+use Rattle.grid_placed.specs.Translation.{bus_section, outlet_placed, outlets_at, translated_level}
+use Rattle.grid_placed.specs.Views.{connects_among}
+use Rattle.grid_placed.proofs.Nodes.{StandsWell, level_nodes, level_passing, filter_map_of}
+use Rattle.grid_placed.proofs.Hanging.{absent, outlet_of, outlet_at}
+use Rattle.grid_placed.proofs.Joined.{node_total, nodes_joined, buses_joined, joined_places_alike, joined_behind, joined_alone}
 
 -- ---- filters
 
@@ -77,7 +77,7 @@ module _ (level : PlacedLevel) (fit : PlacesFit level) where
   unfolding joined_places group_of buses_joined
   in_places a n lt = In_filtered (joined (places (length level.buses)) (closed_pairs level) a) n (places (length level.buses)) (In_places n (length level.buses) lt)
 
-  outlet_is : (k : ℕ) (d : Outlet) → k < length level.outlets → outlet_of level (length level.buses + k) ≡ get_or level.outlets k d
+  pub outlet_is : (k : ℕ) (d : Outlet) → k < length level.outlets → outlet_of level (length level.buses + k) ≡ get_or level.outlets k d
   outlet_is k d lt = outlet_at level k (length level.buses + k) refl ∙ get_or_any level.outlets k absent d lt
 
   section_test : (a : ℕ) → a < length level.buses → (k : ℕ) (d : List ℕ) → k < length level.buses
@@ -87,15 +87,20 @@ module _ (level : PlacedLevel) (fit : PlacesFit level) where
       ap (λ n. list_any (eqb n) (group_under bus (translated_level level) a)) same ∙ in_group a k (omega (arith, less)) ∙ joined_places_alike level fit a k lt less ∙ sym (in_places a k less)
       ∙ ap (λ n. list_any (eqb n) (joined_places level a)) (sym same)
 
-  feeder_test : (a : ℕ) → a < length level.buses → (k : ℕ) (d : Outlet) → k < length level.outlets
-      → list_any (eqb (length level.buses + k)) (group_under bus (translated_level level) a) ≡ connects_among (joined_places level a) (get_or level.outlets k d)
+  -- a terminal's node is joined to a bus where the terminal is connected at one that is joined to it
+  pub feeder_joined : (a : ℕ) → a < length level.buses → (k : ℕ) (d : Outlet) → k < length level.outlets
+      → nodes_joined level a (length level.buses + k) ≡ connects_among (joined_places level a) (get_or level.outlets k d)
   unfolding connects_among
-  feeder_test a lt k d less =
+  feeder_joined a lt k d less =
       let same = outlet_is k d less in
       let inside : (get_or level.outlets k d).place < length level.buses = (All-get_or (StandsWell (length level.buses)) level.outlets k d less fit.outlets).0 in
-      in_group a (length level.buses + k) (omega (arith, less)) ∙ joined_behind level fit a (length level.buses + k) lt (omega arith) (omega (arith, less))
+      joined_behind level fit a (length level.buses + k) lt (omega arith) (omega (arith, less))
       ∙ ap (λ (t : Outlet). t.connected && buses_joined level a t.place) same
       ∙ and_any (get_or level.outlets k d).connected (get_or level.outlets k d).place (joined_places level a) (buses_joined level a (get_or level.outlets k d).place) (in_places a (get_or level.outlets k d).place inside)
+
+  pub feeder_test : (a : ℕ) → a < length level.buses → (k : ℕ) (d : Outlet) → k < length level.outlets
+      → list_any (eqb (length level.buses + k)) (group_under bus (translated_level level) a) ≡ connects_among (joined_places level a) (get_or level.outlets k d)
+  feeder_test a lt k d less = in_group a (length level.buses + k) (omega (arith, less)) ∙ feeder_joined a lt k d less
 
   -- what stands in the group of a bus: the buses joined to it, and the terminals that are connected there
   pub standing : (a : ℕ) → a < length level.buses

@@ -9,12 +9,12 @@ use Rattle.grid_graph.proofs.Reach.{In, any_of}
 use Rattle.grid_graph.proofs.Places.{In_places}
 use Rattle.grid_level.specs.declared.Placed.{Placed}
 use Rattle.grid_level.specs.Passing.{bus, nodes, stands_at, is_busbar, carries_busbar, joined_under, is_connected}
-use Rattle.grid_configured.specs.Places.{Outlet, PlacedLevel, PlacesFit}
-use Rattle.grid_configured.specs.Translation.{bus_section, outlet_placed, outlets_at, translated_level}
-use Rattle.grid_configured.proofs.Nodes.{level_nodes}
-use Rattle.grid_configured.proofs.Hanging.{outlet_of, outlet_place}
-use Rattle.grid_configured.proofs.Joined.{node_total, nodes_joined, level_joined, joined_hanging, joined_alone, joined_self, any_none}
-use Rattle.grid_configured.proofs.Counted.{IsFed, outlets_fed}
+use Rattle.grid_placed.specs.Places.{Outlet, PlacedLevel, PlacesFit}
+use Rattle.grid_placed.specs.Translation.{bus_section, outlet_placed, outlets_at, translated_level}
+use Rattle.grid_placed.proofs.Nodes.{level_nodes}
+use Rattle.grid_placed.proofs.Hanging.{outlet_of, outlet_place}
+use Rattle.grid_placed.proofs.Joined.{node_total, nodes_joined, level_joined, joined_hanging, joined_alone, joined_self, any_none}
+use Rattle.grid_placed.proofs.Counted.{IsFed, outlets_fed}
 
 -- a busbar section stands at a node
 abbrev carries_at : ℕ → Placed → Bool

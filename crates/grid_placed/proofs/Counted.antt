@@ -16,13 +16,13 @@ use Rattle.grid_level.specs.Passing.{bus, passing, is_busbar, is_branch_end}
 use Rattle.grid_groups.specs.Groups.{leaders}
 use Rattle.grid_groups.proofs.Lists.{filter_In}
 use Rattle.grid_busview.specs.Views.{is_feeder, is_valid, is_bus}
-use Rattle.grid_configured.specs.Places.{Outlet, PlacedLevel, PlacesFit, closed_pairs, joined_places, first_places}
-use Rattle.grid_configured.specs.Translation.{bus_section, outlet_placed, outlets_at, translated_level}
-use Rattle.grid_configured.specs.Views.{connects_among, is_view_bus}
-use Rattle.grid_configured.proofs.Nodes.{StandsWell, level_nodes, level_passing, numbers_from, filter_map_of}
-use Rattle.grid_configured.proofs.Hanging.{outlet_of}
-use Rattle.grid_configured.proofs.Joined.{pairs_of, node_total, buses_joined, places_split, least_bus, least_hanging}
-use Rattle.grid_configured.proofs.Grouped.{filter_neither, at_places, at_nodes, sections, feeders, in_places, standing, standing_alone}
+use Rattle.grid_placed.specs.Places.{Outlet, PlacedLevel, PlacesFit, closed_pairs, joined_places, first_places}
+use Rattle.grid_placed.specs.Translation.{bus_section, outlet_placed, outlets_at, translated_level}
+use Rattle.grid_placed.specs.Views.{connects_among, is_view_bus, view_places}
+use Rattle.grid_placed.proofs.Nodes.{StandsWell, level_nodes, level_passing, numbers_from, filter_map_of}
+use Rattle.grid_placed.proofs.Hanging.{outlet_of}
+use Rattle.grid_placed.proofs.Joined.{pairs_of, node_total, buses_joined, places_split, least_bus, least_hanging}
+use Rattle.grid_placed.proofs.Grouped.{filter_neither, at_places, at_nodes, sections, feeders, in_places, standing, standing_alone}
 
 -- ---- counts
 
@@ -168,9 +168,9 @@ module _ (level : PlacedLevel) (fit : PlacesFit level) where
       no_bus n r.0 (false_from_ne_true (outlet_of level n).connected (λ h. both_ways (is_least (places (node_total level)) (pairs_of level) n) (least_hanging level fit n r.0 r.1 h) least))
 
   -- the buses of the two views have the same places
-  pub view_places : filter (is_bus (translated_level level)) (leaders bus (translated_level level)) ≡ filter (is_view_bus level) (first_places level)
-  unfolding first_places least_nodes
-  view_places =
+  pub buses_led : filter (is_bus (translated_level level)) (leaders bus (translated_level level)) ≡ view_places level
+  unfolding view_places first_places least_nodes
+  buses_led =
       let low = places (length level.buses) in
       let high = range_with_len (length level.buses) (length level.outlets) in
       let least = is_least (places (node_total level)) (pairs_of level) in

@@ -1,4 +1,5 @@
--- The switches of a level in node/breaker form by their places: first those between buses, then each terminal's breaker.
+-- The switches of a level in node/breaker form by their places: first those between buses, then each terminal's
+-- breaker.
 use Rattle.std.proofs.Common.{◌≡◌, refl, sym, ap, ◌∙◌, ℕ, zero, suc, ◌+◌, ◌-◌, ◌<◌, false, List, [], ◌∷◌, ◌++◌, length, get_or, inl, inr, ◌⊎◌, arith}
 use Rattle.std.specs.Prelude.{Some, None, map, slice_get}
 use Rattle.std.specs.List.{enumerate_from}
@@ -13,10 +14,10 @@ use Rattle.grid_level.specs.Passing.{switch_edge, edges, ends}
 use Rattle.grid_paths.specs.Paths.{across}
 use Rattle.grid_paths.proofs.Least.{some_same, some_none}
 use Rattle.grid_connect.specs.Plans.{all_ends}
-use Rattle.grid_configured.specs.Places.{Joint, Outlet, PlacedLevel, PlacesFit}
-use Rattle.grid_configured.specs.Translation.{joint_breaker, outlet_breaker, outlets_at, translated_level}
-use Rattle.grid_configured.proofs.Nodes.{StandsWell}
-use Rattle.grid_configured.proofs.Hanging.{absent}
+use Rattle.grid_placed.specs.Places.{Joint, Outlet, PlacedLevel, PlacesFit}
+use Rattle.grid_placed.specs.Translation.{joint_breaker, outlet_breaker, outlets_at, translated_level}
+use Rattle.grid_placed.proofs.Nodes.{StandsWell}
+use Rattle.grid_placed.proofs.Hanging.{absent}
 
 -- what stands where no switch does
 abbrev no_joint : Joint

@@ -9,11 +9,11 @@ use Rattle.grid_graph.specs.Components.{places}
 use Rattle.grid_graph.proofs.Reach.{In, In_here, In_there, any_of, joined_refl}
 use Rattle.grid_graph.proofs.Places.{In_places, places_In, range_In}
 use Rattle.grid_level.specs.Passing.{bus, passing, joined_under}
-use Rattle.grid_configured.specs.Places.{PlacedLevel, PlacesFit, closed_pairs}
-use Rattle.grid_configured.specs.Translation.{translated_level}
-use Rattle.grid_configured.proofs.Nodes.{range_join, level_nodes, level_passing, spokes}
-use Rattle.grid_configured.proofs.Spokes.{places_joined, behind_joined, hangs_joined, alone_joined}
-use Rattle.grid_configured.proofs.Hanging.{outlet_of, outlet_place, are_spokes, closed_below}
+use Rattle.grid_placed.specs.Places.{PlacedLevel, PlacesFit, closed_pairs}
+use Rattle.grid_placed.specs.Translation.{translated_level}
+use Rattle.grid_placed.proofs.Nodes.{range_join, level_nodes, level_passing, spokes}
+use Rattle.grid_placed.proofs.Spokes.{places_joined, behind_joined, hangs_joined, alone_joined}
+use Rattle.grid_placed.proofs.Hanging.{outlet_of, outlet_place, are_spokes, closed_below}
 
 -- ---- lists of numbers
 

@@ -1,0 +1,14 @@
+pub mod Nodes
+pub mod Spokes
+pub mod Hanging
+pub mod Joined
+pub mod Grouped
+pub mod Counted
+pub mod Placed
+pub mod Breakers
+pub mod Connecting
+pub mod Parting
+pub mod Flagged
+pub mod Viewing
+pub mod OwnPlans
+pub mod Apart

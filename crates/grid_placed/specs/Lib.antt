@@ -1,0 +1,5 @@
+pub mod Places
+pub mod Translation
+pub mod Views
+pub mod Apart
+pub mod Laws
