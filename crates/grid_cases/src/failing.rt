@@ -13,7 +13,8 @@ use std::thread::Threads;
 /// No call of a case is tried past this many.
 const MOST_CALLS: u64 = 100_000;
 
-/// How a call with these words on a job ends whose source gives 7 bytes at a time and fails at this call, and what it wrote.
+/// How a call with these words on a job ends whose source gives 7 bytes at a time and fails at this call, and what it
+/// wrote.
 fn with_a_read_failing<R: Threads + Wait + Sync>(
     threads: &R,
     alloc: Global,
@@ -68,8 +69,8 @@ fn with_a_write_failing<R: Threads + Wait + Sync>(
     Ok((status, sink.bytes().to_vec(alloc)?))
 }
 
-/// How many calls of the source there are: with each of them failing the call ends by it with nothing written. None where one
-/// ends otherwise.
+/// How many calls of the source there are: with each of them failing the call ends by it with nothing written. None
+/// where one ends otherwise.
 pub(crate) fn reads_of<R: Threads + Wait + Sync>(
     threads: &R,
     alloc: Global,
@@ -87,8 +88,8 @@ pub(crate) fn reads_of<R: Threads + Wait + Sync>(
     Ok(None)
 }
 
-/// How many calls of the sink there are: with each of them failing the call ends by it, and what the calls before it took is
-/// the beginning of the whole output. None where one ends otherwise.
+/// How many calls of the sink there are: with each of them failing the call ends by it, and what the calls before it
+/// took is the beginning of the whole output. None where one ends otherwise.
 pub(crate) fn writes_of<R: Threads + Wait + Sync>(
     threads: &R,
     alloc: Global,

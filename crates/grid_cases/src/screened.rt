@@ -24,7 +24,8 @@ fn repeated(alloc: Global, job: &str, contingency: &str, count: u64) -> io::Resu
 const LINE: &str =
     "contingency E1: 4 buses, 2 components, main 2, lost load 30000000, lost generation 120000000";
 
-/// How many lines tell the outage of `L1`, where it stands so many times in a job of four levels, and how many there are.
+/// How many lines tell the outage of `L1`, where it stands so many times in a job of four levels, and how many there
+/// are.
 pub(crate) fn lines_of<R: Threads + Wait + Sync>(
     threads: &R,
     alloc: Global,

@@ -1,5 +1,5 @@
 -- The views of a variant, some of which are taken over from another one.
-use Rattle.std.proofs.Common.{◌≡◌, refl, sym, ap, ◌∙◌, subst, ℕ, zero, suc, ◌+◌, ◌<◌, Bool, true, List, [], ◌∷◌, length, map, take, arith, Option, Some, None, Bor}
+use Rattle.std.proofs.Common.{◌≡◌, refl, sym, ap, ◌∙◌, subst, ℕ, zero, suc, ◌+◌, ◌<◌, true, List, [], ◌∷◌, length, map, take, arith, Option, Some, None, Bor}
 use Rattle.std.specs.Option.{option_copied}
 use Rattle.std.specs.Prelude.{◌-◌, IfSome, slice_get, filter_map, is_some, option_map}
 use Rattle.std.specs.List.{cons_option, range_with_len}
@@ -11,8 +11,8 @@ use Rattle.grid_level.specs.VoltageLevel.{VoltageLevel}
 use Rattle.grid_level.specs.Passing.{positioned}
 use Rattle.grid_structure.specs.Network.{Network}
 use Rattle.grid_structure.specs.Sites.{levels}
-use Rattle.grid_states.specs.Rows.{row_at}
-use Rattle.grid_powers.specs.Listed.{Listed}
+use Rattle.grid_states.specs.Rows.{Rows, row_at, pairs_at}
+use Rattle.grid_watts.specs.Nodes.{listed_row}
 use Rattle.grid_watts.specs.Watts.{level_watts}
 use Rattle.grid_busview.specs.declared.BusView.{BusView}
 use Rattle.grid_busview.specs.Views.{bus_view_of}
@@ -22,7 +22,7 @@ use Rattle.grid_core.specs.History.{History, Command, is_live, live, structure}
 use Rattle.grid_core.specs.Replies.{state_of, view}
 use Rattle.grid_core.proofs.Asking.{view_read}
 use Rattle.grid_core.proofs.Lineages.{structure_of_lineage}
-use Rattle.grid_core.proofs.Looking.{fits_at}
+use Rattle.grid_core.proofs.Looking.{fits_at, row_listed}
 use Rattle.grid_report.specs.declared.outcome.VariantView.{VariantView}
 use Rattle.grid_report.specs.Histories.{variant_view}
 use Rattle.grid_cli.specs.Views.{IsShown, IsStanding, IsAlike}
@@ -69,26 +69,34 @@ shown_within h shown place is lt =
     slice_get_within shown.views place _ (shown_at h shown place is lt ∙ view_read h.origin h.steps shown.name place found.0 (there h.origin h.steps shown.name place found.0 is.live found.1))
 
 -- the row of a level
-pub row_within : (h : History) (name : List ℕ) (opened : List (List Bool)) (listed : Listed) (place : ℕ) → IsStanding h name opened listed → place < length (levels (structure h.origin h.steps)) → place < length opened
+pub row_within : (h : History) (name : List ℕ) (rows : Rows) (place : ℕ) → IsStanding h name rows → place < length (levels (structure h.origin h.steps)) → place < length rows.opened
 unfolding level_at
-row_within h name opened listed place is lt =
+row_within h name rows place is lt =
     let state = state_of h.origin h.steps name in
     let found = level_exists (structure h.origin h.steps) place lt in
-    subst (λ (rows : List (List Bool)). place < length rows) (sym is.positions)
+    subst (λ (r : Rows). place < length r.opened) (sym is.rows_are)
     (fits_at state.structure state.opened place found.0 is.fits.opened (there h.origin h.steps name place found.0 is.live found.1)).0
 
+-- the watts that are listed for a level
+pub pairs_standing : (h : History) (name : List ℕ) (rows : Rows) (place : ℕ) (level : VoltageLevel) → IsStanding h name rows → slice_get (levels (structure h.origin h.steps)) place ≡ Some level
+    → pairs_at rows.watts place ≡ listed_row (state_of h.origin h.steps name).powers level
+unfolding level_at
+pairs_standing h name rows place level is at =
+    let state = state_of h.origin h.steps name in
+    ap (λ (r : Rows). pairs_at r.watts place) is.rows_are ∙ row_listed state.structure state.powers place level (there h.origin h.steps name place level is.live at)
+
 -- a level that is alike in an earlier variant has that one's view
-pub taken_over : (h : History) (name : List ℕ) (opened : List (List Bool)) (listed : Listed) (shown : VariantView) (others : List (List Bool)) (other_listed : Listed) (place : ℕ) (level : VoltageLevel) (seen : BusView)
-    → IsStanding h name opened listed → IsStanding h shown.name others other_listed → IsShown h shown → place < length (levels (structure h.origin h.steps)) → slice_get (levels (structure h.origin h.steps)) place ≡ Some level
-    → IsAlike opened listed others other_listed place level → slice_get shown.views place ≡ Some seen → view h.origin h.steps name place ≡ Some seen
-taken_over h name opened listed shown others other_listed place level seen own other is lt at alike here =
+pub taken_over : (h : History) (name : List ℕ) (rows : Rows) (shown : VariantView) (others : Rows) (place : ℕ) (level : VoltageLevel) (seen : BusView) → IsStanding h name rows → IsStanding h shown.name others → IsShown h shown
+    → place < length (levels (structure h.origin h.steps)) → slice_get (levels (structure h.origin h.steps)) place ≡ Some level
+    → IsAlike rows.opened (state_of h.origin h.steps name).powers others.opened (state_of h.origin h.steps shown.name).powers place level → slice_get shown.views place ≡ Some seen → view h.origin h.steps name place ≡ Some seen
+taken_over h name rows shown others place level seen own other is lt at alike here =
+    let state = state_of h.origin h.steps name in
+    let other_state = state_of h.origin h.steps shown.name in
     view_read h.origin h.steps name place level (there h.origin h.steps name place level own.live at)
-    ∙ ap (λ (rows : List (List Bool)). Some (bus_view_of (positioned level (row_at rows place)) (level_watts (state_of h.origin h.steps name).powers level))) (sym own.positions)
-    ∙ ap (λ l. Some (bus_view_of (positioned level (row_at opened place)) (level_watts l level))) (sym own.watts)
-    ∙ ap (λ row. Some (bus_view_of (positioned level row) (level_watts listed level))) alike.positions
-    ∙ ap (λ w. Some (bus_view_of (positioned level (row_at others place)) w)) alike.watts
-    ∙ ap (λ (rows : List (List Bool)). Some (bus_view_of (positioned level (row_at rows place)) (level_watts other_listed level))) other.positions
-    ∙ ap (λ l. Some (bus_view_of (positioned level (row_at (state_of h.origin h.steps shown.name).opened place)) (level_watts l level))) other.watts
+    ∙ ap (λ (r : Rows). Some (bus_view_of (positioned level (row_at r.opened place)) (level_watts state.powers level))) (sym own.rows_are)
+    ∙ ap (λ row. Some (bus_view_of (positioned level row) (level_watts state.powers level))) alike.positions
+    ∙ ap (λ w. Some (bus_view_of (positioned level (row_at others.opened place)) w)) alike.watts
+    ∙ ap (λ (r : Rows). Some (bus_view_of (positioned level (row_at r.opened place)) (level_watts other_state.powers level))) other.rows_are
     ∙ sym (view_read h.origin h.steps shown.name place level (there h.origin h.steps shown.name place level other.live at))
     ∙ sym (shown_at h shown place is lt) ∙ here
 

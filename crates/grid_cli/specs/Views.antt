@@ -1,12 +1,13 @@
 -- What a history shows in its live variants.
 use Rattle.std.specs.Prelude.{◌≡◌, ℕ, Bool, List, IsTrue}
 use Rattle.grid_level.specs.VoltageLevel.{VoltageLevel}
-use Rattle.grid_states.specs.Rows.{row_at}
+use Rattle.grid_states.specs.Rows.{Rows, row_at}
 use Rattle.grid_powers.specs.Listed.{Listed}
 use Rattle.grid_watts.specs.Watts.{level_watts}
 use Rattle.grid_core.specs.Fitting.{StateFits}
 use Rattle.grid_core.specs.History.{History, is_live}
 use Rattle.grid_core.specs.Replies.{state_of}
+use Rattle.grid_core.specs.Solo.{state_rows}
 use Rattle.grid_report.specs.declared.outcome.VariantView.{VariantView}
 use Rattle.grid_report.specs.Histories.{variant_view}
 
@@ -15,11 +16,10 @@ pub record IsShown (history : History) (shown : VariantView) : Type 0 where
   pub live : IsTrue (is_live history.steps shown.name)
   pub views : shown ≡ variant_view history.origin history.steps shown.name
 
--- the positions of a live variant, and the watts that it lists
-pub record IsStanding (history : History) (name : List ℕ) (opened : List (List Bool)) (listed : Listed) : Type 0 where
+-- what a live variant has of each level
+pub record IsStanding (history : History) (name : List ℕ) (rows : Rows) : Type 0 where
   pub live : IsTrue (is_live history.steps name)
-  pub positions : opened ≡ (state_of history.origin history.steps name).opened
-  pub watts : listed ≡ (state_of history.origin history.steps name).powers
+  pub rows_are : rows ≡ state_rows (state_of history.origin history.steps name)
   pub fits : StateFits (state_of history.origin history.steps name)
 
 -- the level at a place has the same positions and watts in two variants

@@ -43,8 +43,8 @@ pub fn grid<R: Threads + Wait + Sync, S: Source, K: Sink, G: Gate>(
 ) -> Status
     ensures usage { (result ≡ Status.Usage) ↔ (form_of (map string_bytes words.now) ≡ None) }
 
-    // What was read and what was written, by the status. For `run` it is what is written of some order of the job, which
-    // the first line tells.
+    // What was read and what was written, by the status. For `run` it is what is written of some order of the job,
+    // which the first line tells.
     ensures outcome { Outcome (form_of (map string_bytes words.now)) (S.left input.old.source)
         (S.left input.new.source) (K.written sink.old) (K.written sink.new) result }
 

@@ -1,7 +1,10 @@
 // The views that a history leaves: of each level in each live variant.
-ghost use Rattle.std.specs.Prelude.{◌≡◌, ◌↔◌, ◌<◌, ◌^◌, All, length, map, IsTrue, IfOk, IfSome, Some, slice_get, option_map};
+ghost use Rattle.std.specs.Prelude.{◌≡◌, ◌↔◌, ◌<◌, ◌^◌, All, length, IsTrue, IfOk, IfSome, Some, slice_get, option_map};
 ghost use Rattle.grid_structure.specs.Sites.{levels};
-ghost use Rattle.grid_watts.specs.Watts as watts;
+ghost use Rattle.grid_powers.specs.Listed.{Listed};
+ghost use Rattle.grid_states.specs.Rows.{pairs_at};
+ghost use Rattle.grid_watts.specs.Nodes.{listed_row};
+ghost use Rattle.grid_watts.specs.Watts.{level_watts};
 ghost use Rattle.grid_core.specs.History.{live, is_live, structure};
 ghost use Rattle.grid_core.specs.Replies as replies;
 ghost use Rattle.grid_report.specs.Histories.{variant_view, variant_views};
@@ -10,60 +13,49 @@ ghost use Rattle.grid_cli.specs.Views.{IsShown, IsStanding, IsAlike};
 use grid_busview::BusView;
 use grid_core::World;
 use grid_ids::{Duplicate, Id, Memory, Seq, same_items};
-use grid_level::{Level, Placed};
-use grid_powers::Powers;
+use grid_level::Level;
 use grid_report::{BusViews, VariantView, VariantViews};
 use grid_shared::Shared;
-use grid_states::States;
-use grid_watts::watts_at;
+use grid_states::{NodeWatts, States};
+use grid_watts::next_watts;
 use std::alloc::Global;
 
-/// Whether both lists give the terminals the same watts. Where nothing is listed, no id is looked up.
-fn same_watts(placed: &[Placed], powers: &Powers, others: &Powers) -> bool
-    ensures { IsTrue result ↔ (map (watts.watts_at powers.now.listed) placed.now
-        ≡ map (watts.watts_at others.now.listed) placed.now) }
+/// Whether two rows give a level's terminals the same watts: one pass over all three, by rising node. Where nothing is
+/// listed, nothing is read.
+fn same_watts(level: &Level, row: &[NodeWatts], others: &[NodeWatts]) -> bool
+    ensures { (listed other_listed : Listed) → row.now ≡ listed_row listed level.now
+        → others.now ≡ listed_row other_listed level.now
+        → IsTrue result ↔ (level_watts listed level.now ≡ level_watts other_listed level.now) }
 {
-    if powers.is_empty() && others.is_empty() {
+    if row.is_empty() && others.is_empty() {
         return true;
     }
-    for place in 0..placed.len() {
-        let terminal = &placed[place];
-        let watts = watts_at(powers, terminal);
-        let other_watts = watts_at(others, terminal);
+    level.keeps();
+    let mut behind = row;
+    let mut others_behind = others;
+    for placed in level.placed() {
+        let (watts, rest) = next_watts(placed, behind);
+        let (other_watts, others_rest) = next_watts(placed, others_behind);
         if watts != other_watts {
             return false;
         }
+        behind = rest;
+        others_behind = others_rest;
     }
     true
 }
 
-/// What the views of a live variant are made of, beside the structure.
-#[derive(Clone, Copy)]
-struct Standing<'a> {
-    states: &'a States,
-    powers: &'a Powers,
-}
-
-/// The positions and the watts of a live variant.
-fn standing_of<'a>(world: &'a World, name: &Id) -> Standing<'a>
-    requires { IsTrue (is_live world.now.steps name.now) }
-    ensures { IsStanding world.now name.now result.states.now.opened result.powers.now.listed }
-{
-    Standing {
-        states: world.states_in(name),
-        powers: world.powers_in(name),
-    }
-}
-
 /// Whether a level has the same positions and watts in two variants.
-fn is_alike(level: &Level, place: u32, one: Standing<'_>, other: Standing<'_>) -> bool
-    requires one { place < length one.states.now.opened }
-    requires other { place < length other.states.now.opened }
-    ensures { IsTrue result ↔ IsAlike one.entry.states.now.opened one.entry.powers.now.listed
-        other.entry.states.now.opened other.entry.powers.now.listed place level.now }
+fn is_alike(level: &Level, place: u32, one: &States, other: &States) -> bool
+    requires one { place < length one.now.opened }
+    requires other { place < length other.now.opened }
+    ensures { (listed other_listed : Listed)
+        → pairs_at one.now.watts place ≡ listed_row listed level.now
+        → pairs_at other.now.watts place ≡ listed_row other_listed level.now
+        → IsTrue result ↔ IsAlike one.now.opened listed other.now.opened other_listed place level.now }
 {
-    same_items(one.states.opened_row(place), other.states.opened_row(place))
-        && same_watts(level.placed(), one.powers, other.powers)
+    same_items(one.opened_row(place), other.opened_row(place))
+        && same_watts(level, one.watts_row(place), other.watts_row(place))
 }
 
 /// The view of the level at a place in a live variant: that in an earlier one, where the level is alike there.
@@ -71,14 +63,13 @@ fn level_view(
     alloc: Global,
     world: &World,
     name: &Id,
-    own: Standing<'_>,
+    own: &States,
     earlier: &VariantView,
-    other: Standing<'_>,
+    other: &States,
     place: u32,
 ) -> Result<Shared<BusView>, Memory>
-    requires own { IsStanding world.now name.now own.states.now.opened own.powers.now.listed }
-    requires other { IsStanding world.now earlier.now.name other.states.now.opened
-        other.powers.now.listed }
+    requires own { IsStanding world.now name.now own.now }
+    requires other { IsStanding world.now earlier.now.name other.now }
     requires shown { IsShown world.now earlier.now }
     requires place { place < length (levels (structure world.now.origin world.now.steps)) }
     ensures { IfOk result (λ view. replies.view world.now.origin world.now.steps name.now place
@@ -104,8 +95,8 @@ fn views_beside(
         ≡ (variant_view world.now.origin world.now.steps name.now).views) }
     ensures few { IfOk result (λ views. length views < 2 ^ 32) }
 {
-    let own = standing_of(world, name);
-    let other = standing_of(world, &earlier.name);
+    let own = world.states_in(name);
+    let other = world.states_in(&earlier.name);
     let mut views = Seq::empty(alloc);
     for level in 0..world.level_count() {
         let view = level_view(alloc, world, name, own, earlier, other, level)?;
@@ -170,8 +161,8 @@ fn variant_view(
     })
 }
 
-/// The views of all live variants, by byte order of their names. A level that is alike in a variant and in the one before is
-/// looked at once.
+/// The views of all live variants, by byte order of their names. A level that is alike in a variant and in the one
+/// before is looked at once.
 pub(crate) fn variant_views(alloc: Global, world: &World) -> Result<VariantViews, Memory>
     ensures views { IfOk result (λ views. views ≡ variant_views world.now.origin world.now.steps) }
     ensures few { IfOk result (λ views. length views < 2 ^ 32) }

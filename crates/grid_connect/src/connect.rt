@@ -221,8 +221,8 @@ pub fn plan_connect(
     connect_unless(alloc, level, states, node, connected)
 }
 
-/// The same plan by labels that are kept: those of the level's nodes, by index, where the closed switches pass. Where the
-/// node is connected, it searches nothing.
+/// The same plan by labels that are kept: those of the level's nodes, by index, where the closed switches pass. Where
+/// the node is connected, it searches nothing.
 pub fn plan_connect_from(
     alloc: Global,
     level: &Level,

@@ -117,8 +117,8 @@ pub fn plan_disconnect(
     disconnect_if(alloc, level, states, node, connected)
 }
 
-/// The same plan by labels that are kept: those of the level's nodes, by index, where the closed switches pass. Where the
-/// node is not connected, it searches nothing.
+/// The same plan by labels that are kept: those of the level's nodes, by index, where the closed switches pass. Where
+/// the node is not connected, it searches nothing.
 pub fn plan_disconnect_from(
     alloc: Global,
     level: &Level,

@@ -127,8 +127,8 @@ fn has_busbar(level: &Level, labels: &[u32], own: u32) -> bool
     false
 }
 
-// Whether the node is joined to a busbar section over internal connections and closed switches, by labels of the level's
-// nodes, by index, where the closed switches pass.
+// Whether the node is joined to a busbar section over internal connections and closed switches, by labels of the
+// level's nodes, by index, where the closed switches pass.
 pub(crate) fn is_connected_by(level: &Level, states: &[bool], labels: &[u32], node: u16) -> bool
     requires flags { length states.now ≡ length level.now.switches }
     requires node { IsTrue (among (nodes level.now) node) }

@@ -35,7 +35,8 @@ pub enum DisconnectPlan {
     NoBreaker(Terminal),
 }
 
-/// The plan that connects a node closes the open breakers of the closable path of least measure, of all lists of places.
+/// The plan that connects a node closes the open breakers of the closable path of least measure, of all lists of
+/// places.
 pub fn connect_plan_is_least()
     ensures { ConnectPlanIsLeast }
 {}

@@ -60,8 +60,8 @@ fn read_root(alloc: Global, value: &Value) -> Result<HvdcJob, ReadError>
 /// The job of the bytes with its HVDC lines: BadJson exactly where `serde_json` has no reading of them, BadJob exactly
 /// where there is a fault, with the first one. The root's member `job` is read whole, with its loading, before `hvdc`;
 /// after all are read, each line in order is held against the loaded network and the lines before it: its id is new,
-/// then the ids of side 1 and of side 2 are each that of a converter station that no line or side before names. The rules
-/// and their order are this project's own.
+/// then the ids of side 1 and of side 2 are each that of a converter station that no line or side before names. The
+/// rules and their order are this project's own.
 #[tactic(auto, unfolding(crate::specs::Jobs::hvdc_job_of))]
 pub fn read_hvdc(alloc: Global, bytes: &[u8]) -> Result<HvdcJob, JobFault>
     ensures job { JobGives result (hvdc_job_of bytes.now) }

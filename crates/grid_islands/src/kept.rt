@@ -25,9 +25,9 @@ pub(crate) struct KeptLevel {
     pub(crate) buses: NodeBuses,
 }
 
-/// The buses of the levels of a network that were looked at, from the first level on, each with the flags that it had then.
-/// A call that is given them makes anew only the buses of levels whose flags are others. Where the ends of the network's
-/// branches stand is kept, too, once it is found.
+/// The buses of the levels of a network that were looked at, from the first level on, each with the flags that it had
+/// then. A call that is given them makes anew only the buses of levels whose flags are others. Where the ends of the
+/// network's branches stand is kept, too, once it is found.
 #[derive(Drop)]
 pub struct KeptBuses {
     levels: Seq<KeptLevel>,

@@ -18,7 +18,8 @@ pub(crate) struct Spot {
     pub(crate) node: u32,
 }
 
-/// Where the ends of a branch stand: none for an end whose level or node there is not, or for a third end that there is not.
+/// Where the ends of a branch stand: none for an end whose level or node there is not, or for a third end that there is
+/// not.
 #[derive(Clone, Copy)]
 pub(crate) struct BranchSpots {
     pub(crate) first: Option<Spot>,

@@ -88,8 +88,9 @@ fn is_broken(alloc: Global, bytes: &[u8]) -> bool
     }
 }
 
-/// The first pass over the bytes, straight from the tokens where that goes, and else over a tree of them, which is given
-/// up then. Where the tokens came to an end, the text is looked at first, since a tree of a broken text is made in vain.
+/// The first pass over the bytes, straight from the tokens where that goes, and else over a tree of them, which is
+/// given up then. Where the tokens came to an end, the text is looked at first, since a tree of a broken text is made
+/// in vain.
 #[tactic(auto, unfolding(crate::specs::Whole::draft_of))]
 fn read_bytes(alloc: Global, bytes: &[u8]) -> Result<JobDraft, JobFault>
     ensures draft { JobGives result (draft_of bytes.now) }
@@ -138,8 +139,8 @@ fn read_whole(alloc: Global, value: &Value) -> Result<Job, ReadError>
     load(alloc, draft)
 }
 
-/// The job that is the member `job` of an object, which must be there: both passes over it, with `/job` before the place
-/// of its first fault.
+/// The job that is the member `job` of an object, which must be there: both passes over it, with `/job` before the
+/// place of its first fault.
 pub fn job_member(alloc: Global, value: &Value) -> Result<Job, ReadError>
     ensures job { Gives result (member_at whole_job_at (codes "job") (view value.now)) }
     ensures total { IfOk result (λ job. command_total job.scripts ≤ max_commands) }

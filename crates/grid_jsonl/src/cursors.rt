@@ -1,5 +1,5 @@
-// Where the writing of lines stands. Each cursor is seen as the lines that are still to come, and gives them one by one,
-// without memory.
+// Where the writing of lines stands. Each cursor is seen as the lines that are still to come, and gives them one by
+// one, without memory.
 ghost use Rattle.std.specs.Prelude.{◌≡◌, [], ◌∷◌, filter, map, MatchOption};
 ghost use Rattle.std.specs.List.{flat_map, range_with_len};
 ghost use Rattle.std.specs.Option.{option_map};

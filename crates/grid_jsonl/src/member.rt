@@ -1,4 +1,5 @@
-// The members of objects. Their names are literals at nearly every call: where it is inlined, no name is looked through.
+// The members of objects. Their names are literals at nearly every call: where it is inlined, no name is looked
+// through.
 ghost use Rattle.std.specs.Prelude.{◌≡◌, ◌++◌, ◌∷◌, OnOk, OnErr, [], true, false};
 ghost use Rattle.serde_json.specs.Data.{boolean, string};
 ghost use Rattle.serde_json.specs.Written.{compact_text};

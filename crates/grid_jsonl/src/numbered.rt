@@ -9,8 +9,8 @@ use grid_core::Entry;
 use grid_ids::Memory;
 use std::alloc::Global;
 
-// The number of a worker's next step behind the first steps of a journal. The scan ends at the worker's last one, so over
-// a whole journal it passes each step at most once for each worker.
+// The number of a worker's next step behind the first steps of a journal. The scan ends at the worker's last one, so
+// over a whole journal it passes each step at most once for each worker.
 fn number_behind(journal: &[Entry], steps: &[Step<'_>], worker: u32) -> u64
     requires { map step_in steps.now ≡ take (length steps.now) (those.steps journal.now) }
     ensures { result ≡ suc (count_by (λ e. e.worker == worker) (take (length steps.now) journal.now)) }

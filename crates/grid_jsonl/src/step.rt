@@ -57,9 +57,9 @@ fn put_answered(out: &mut Text, request: &Request, reply: &Reply) -> Result<(), 
     put_reply(out, request, reply)
 }
 
-/// Puts the members of a step last that say who asked for what, without braces: its place in the order from 0, its worker,
-/// its number among its worker's steps from 1, the working variant and the command. Where memory is wanting, the text is
-/// empty.
+/// Puts the members of a step last that say who asked for what, without braces: its place in the order from 0, its
+/// worker, its number among its worker's steps from 1, the working variant and the command. Where memory is wanting,
+/// the text is empty.
 pub fn put_asked_step(out: &mut Text, place: u64, step: u64, entry: &Entry) -> Result<(), Memory>
     ensures ok { OnOk result (out.new
         ≡ out.old ++ fields_text (asked_fields place step entry.now.worker entry.now.variant

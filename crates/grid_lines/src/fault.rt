@@ -201,9 +201,9 @@ fn fault_of(
     }
 }
 
-/// The exit status, and what is told of it on standard error. Words and input are those of the call; they are looked
-/// at again for what the line names, and an empty input makes it tell less. What is around them moves the
-/// wording of a line alone. The words are None where one of them is no UTF-8. The numbers and the texts are this project's own.
+/// The exit status, and what is told of it on standard error. Words and input are those of the call; they are looked at
+/// again for what the line names, and an empty input makes it tell less. What is around them moves the wording of a
+/// line alone. The words are None where one of them is no UTF-8. The numbers and the texts are this project's own.
 pub fn ending(
     alloc: Global,
     words: Option<&[String]>,

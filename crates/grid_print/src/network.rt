@@ -1,4 +1,5 @@
-// Networks as JSON. A structure has its levels one substation after the other, and its transformers too, before the lines.
+// Networks as JSON. A structure has its levels one substation after the other, and its transformers too, before the
+// lines.
 ghost use Rattle.std.specs.Prelude.{◌≡◌, ◌≤◌, ◌<◌, ◌+◌, IfOk, OnOk, All, length, map, take, drop};
 ghost use Rattle.std.specs.List.{AllWithin};
 ghost use Rattle.serde_json.specs.View.{view};

@@ -19,7 +19,8 @@ impl Shown for Terminal {
     }
 }
 
-/// Puts the name of a bus last: its level's id, an underscore and its least node. Where memory is wanting, the text is empty.
+/// Puts the name of a bus last: its level's id, an underscore and its least node. Where memory is wanting, the text is
+/// empty.
 pub fn put_bus_name(out: &mut Text, level: &Id, least: u16) -> Result<(), Memory>
     ensures ok { OnOk result (out.new ≡ out.old ++ bus_name level.now least) }
     ensures err { OnErr result (out.new ≡ []) }

@@ -97,10 +97,10 @@ fn put_texts<K: Sink>(pieces: &mut Pieces, sink: &mut K, texts: &[Text]) -> Resu
     Ok(())
 }
 
-/// Writes the report of an outcome as `write_report` does, where several threads make its text, a portion of which is in
-/// memory at a time. No lock is taken, and the call always returns where the sink does. It stops only where the sink's
-/// count of faults rose, which is as before after every other answer; after that, or want of memory, a front of the text
-/// was written.
+/// Writes the report of an outcome as `write_report` does, where several threads make its text, a portion of which is
+/// in memory at a time. No lock is taken, and the call always returns where the sink does. It stops only where the
+/// sink's count of faults rose, which is as before after every other answer; after that, or want of memory, a front of
+/// the text was written.
 pub fn write_report_on_threads<R: Threads + Sync, K: Sink>(
     rt: &R,
     alloc: Global,

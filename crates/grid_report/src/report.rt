@@ -96,9 +96,9 @@ impl<'a> Blocks for Report<'a> {
     }
 }
 
-/// Writes the report of an outcome, in pieces of `PIECE` bytes, the last one shorter. Beside the outcome it holds a piece
-/// and one block's text. It stops only where the sink's count of faults rose, which is as before after every other
-/// answer; after that, or want of memory, a front of the text was written.
+/// Writes the report of an outcome, in pieces of `PIECE` bytes, the last one shorter. Beside the outcome it holds a
+/// piece and one block's text. It stops only where the sink's count of faults rose, which is as before after every
+/// other answer; after that, or want of memory, a front of the text was written.
 pub fn write_report<K: Sink>(
     alloc: Global,
     outcome: &Outcome,

@@ -30,8 +30,8 @@ pub(crate) fn screening_of(alloc: Global, case: &Case) -> Result<Screening, Memo
     Ok(kept)
 }
 
-/// What it is to the figures that these ids are out. The time is that of a view of each level that an id touches, and of
-/// its links: no other level is looked at again.
+/// What it is to the figures that these ids are out. The time is that of a view of each level that an id touches, and
+/// of its links: no other level is looked at again.
 pub(crate) fn outage_without(
     alloc: Global,
     case: &Case,

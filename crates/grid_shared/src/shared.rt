@@ -7,8 +7,8 @@ use std::alloc::{AllocError, Global};
 use std::marker::Model;
 use std::sync::Arc;
 
-/// A value that stays as it is while several owners read it, on several threads too. A copy is one more owner and takes no
-/// memory. It is seen as the value, so that no contract above tells what is shared from what is not.
+/// A value that stays as it is while several owners read it, on several threads too. A copy is one more owner and takes
+/// no memory. It is seen as the value, so that no contract above tells what is shared from what is not.
 #[derive(Debug, Drop)]
 pub struct Shared<T> {
     held: Arc<T>,

@@ -6,9 +6,9 @@ use crate::read::MAX_DEPTH;
 use json::{Reader, Scratch};
 use std::alloc::AllocError;
 
-/// Whether the bytes are text, and the text is one value by the grammar of JSON in which arrays and objects nest at most
-/// `MAX_DEPTH` deep. The size of its numbers is not looked at: `serde_json` has no reading of `1e400`. The error is memory
-/// that is wanting.
+/// Whether the bytes are text, and the text is one value by the grammar of JSON in which arrays and objects nest at
+/// most `MAX_DEPTH` deep. The size of its numbers is not looked at: `serde_json` has no reading of `1e400`. The error
+/// is memory that is wanting.
 pub fn is_grammatical(bytes: &[u8], scratch: &mut Scratch) -> Result<bool, AllocError>
     ensures grammar { IfOk result (λ is_one. is_one ≡ is_some (spelled bytes.now)) }
     ensures broken { IfOk result (λ is_one. is_one ≡ false → reading bytes.now ≡ None) }

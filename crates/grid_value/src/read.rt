@@ -118,8 +118,8 @@ impl<'t> Tree<'t> {
 }
 
 impl<'t> Value<'t, 't> {
-    /// The next value of the reader, where it is neither an array nor an object, however deep those may nest; None exactly
-    /// where there is no such value. It takes no memory.
+    /// The next value of the reader, where it is neither an array nor an object, however deep those may nest; None
+    /// exactly where there is no such value. It takes no memory.
     #[inline]
     pub fn next_leaf(reader: &mut Reader<'t>) -> Option<Value<'t, 't>>
         ensures leaf { IfSome result (λ v. (depth : ℕ) → converted of_json (value depth reader.old)
