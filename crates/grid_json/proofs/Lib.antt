@@ -2,6 +2,13 @@ pub mod Objects
 pub mod Items
 pub mod Counts
 pub mod Loading
+pub mod BusPlaces
+pub mod BusLoading
+pub mod BusLevels
+pub mod BusPositions
+pub mod BusSections
+pub mod OlderReading
+pub mod OlderLoading
 pub mod Results
 pub mod IdSets
 pub mod Streams

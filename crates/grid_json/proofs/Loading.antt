@@ -4,7 +4,7 @@ use Rattle.std.specs.Prelude.{decimal}
 use Rattle.grid_json.specs.declared.fault.Fault.{Fault}
 use Rattle.grid_json.specs.declared.fault.ReadError.{ReadError}
 use Rattle.grid_json.specs.declared.fault.ReadError.TheVariants as errors
-use Rattle.grid_json.specs.Reading.{Fails, IsUnder, placed, under}
+use Rattle.grid_json.specs.Reading.{◌>>=◌, Fails, IsUnder, placed, under}
 use Rattle.grid_json.specs.Loading.{load_items}
 
 pub goes_on : {A S : Type 0} (load : A → List ℕ → S → Result S Fault) (i : ℕ) (rest more : List A) (x : A) (owner : List ℕ) (s after : S) (total : Result S Fault) → rest ≡ x ∷ more → load x owner s ≡ Ok after
@@ -32,3 +32,8 @@ pub under_fails : {A : Type 0} (name : List ℕ) (read : Result A Fault) (e r : 
 under_fails name read e errors.Memory h u = tt
 under_fails name read errors.Memory (errors.Fault g) h u = absurd u
 under_fails name read (errors.Fault f) (errors.Fault g) h u = ap (under name) h ∙ ap Err (sym u)
+
+-- what failed fails with whatever follows
+pub fails_on : {A B : Type 0} (f : A → Result B Fault) (read : Result A Fault) (r : ReadError) → Fails r read → Fails r (read >>= f)
+fails_on f read errors.Memory h = tt
+fails_on f read (errors.Fault g) h = rw h refl

@@ -11,7 +11,7 @@ use Rattle.grid_json.specs.declared.fault.Fault.{Fault}
 use Rattle.grid_json.specs.declared.fault.Reason.{Reason}
 use Rattle.grid_json.specs.declared.fault.Reason.TheVariants.{WrongKind, Unknown, Schedule, TooManyCommands, TooManyWorkers, TooManyListeners}
 use Rattle.grid_json.specs.declared.format.Format.{Format}
-use Rattle.grid_json.specs.declared.format.Format.TheVariants.{One, Two, Three, Four}
+use Rattle.grid_json.specs.declared.format.Format.TheVariants.{One, Two, Three, Four, Five}
 use Rattle.grid_json.specs.declared.kinds.EventKind.{EventKind}
 use Rattle.grid_json.specs.declared.kinds.EventKind.TheVariants as kinds
 use Rattle.grid_json.specs.declared.job.JobDraft.{JobDraft}
@@ -23,7 +23,7 @@ use Rattle.grid_json.specs.Command.{command_at}
 -- ---- the format
 
 abbrev pub format_of : ℤ → Result Format Fault
-format_of number = if int_eq number (pos 1) then Ok One else (if int_eq number (pos 2) then Ok Two else (if int_eq number (pos 3) then Ok Three else (if int_eq number (pos 4) then Ok Four else Err (here Unknown))))
+format_of number = if int_eq number (pos 1) then Ok One else (if int_eq number (pos 2) then Ok Two else (if int_eq number (pos 3) then Ok Three else (if int_eq number (pos 4) then Ok Four else (if int_eq number (pos 5) then Ok Five else Err (here Unknown)))))
 
 abbrev pub format_at : Format → Data → Result Format Fault
 format_at format d = whole_at d >>= format_of

@@ -11,6 +11,8 @@ use Rattle.grid_json.specs.declared.kinds.InjectionKind.{InjectionKind}
 use Rattle.grid_json.specs.declared.kinds.InjectionKind.TheVariants as injections
 use Rattle.grid_json.specs.declared.kinds.WindingsKind.{WindingsKind}
 use Rattle.grid_json.specs.declared.kinds.WindingsKind.TheVariants as windings
+use Rattle.grid_json.specs.declared.kinds.Topology.{Topology}
+use Rattle.grid_json.specs.declared.kinds.Topology.TheVariants as topologies
 use Rattle.grid_json.specs.declared.kinds.BranchKind.{BranchKind}
 use Rattle.grid_json.specs.declared.kinds.BranchKind.TheVariants as branches
 use Rattle.grid_json.specs.declared.kinds.EventKind.{EventKind}
@@ -35,6 +37,10 @@ known_injection kind format = Ok kind
 
 abbrev pub injection_kind_at : Format → Data → Result InjectionKind Fault
 injection_kind_at format d = word_at injection_words d >>= λ kind. known_injection kind format
+
+-- how the parts of a level are joined: by nodes, or by configured buses
+abbrev pub topology_at : Format → Data → Result Topology Fault
+topology_at format = word_at ((codes "NODE_BREAKER", topologies.Nodes) ∷ (codes "BUS_BREAKER", topologies.Buses) ∷ [])
 
 -- a transformer's kind
 abbrev pub windings_kind_at : Format → Data → Result WindingsKind Fault

@@ -7,4 +7,6 @@ pub mod Slots
 pub mod Command
 pub mod Job
 pub mod Loading
+pub mod BusPositions
+pub mod OlderFormats
 pub mod Whole

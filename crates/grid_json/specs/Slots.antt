@@ -11,7 +11,7 @@ use Rattle.grid_json.specs.declared.slots.NetworkSlots.{NetworkSlots}
 use Rattle.grid_json.specs.declared.stream.JobSlots.{JobSlots}
 use Rattle.grid_json.specs.Reading.{id_at, whole_at, flag_at, array_at, all_known}
 use Rattle.grid_json.specs.Kinds.{switch_kind_at}
-use Rattle.grid_json.specs.Network.{busbar_at, switch_names, switch_at, internal_at, injection_at, level_names, level_at, transformer_at, substation_at, line_at, network_at}
+use Rattle.grid_json.specs.Network.{busbar_at, switch_names, switch_at, internal_at, injection_at, level_names, any_level_at, transformer_at, substation_at, line_at, network_at}
 use Rattle.grid_json.specs.Job.{format_at, listeners_at, workers_at}
 use Rattle.grid_json.specs.Streams.{Holds}
 
@@ -57,7 +57,7 @@ abbrev pub SubstationHolds : Format → SubstationSlots → Members → Type 0
 SubstationHolds format slots found = record {
   known : all_known substation_names found ≡ true;
   id : Holds id_at (codes "id") found slots.id;
-  levels : Holds (array_at (level_at format)) (codes "levels") found slots.levels;
+  levels : Holds (array_at (any_level_at format)) (codes "levels") found slots.levels;
   transformers : Holds (array_at (transformer_at format)) (codes "transformers") found slots.transformers;
 }
 
@@ -69,7 +69,7 @@ NetworkHolds format slots found = record {
   known : all_known network_names found ≡ true;
   id : Holds id_at (codes "id") found slots.id;
   substations : Holds (array_at (substation_at format)) (codes "substations") found slots.substations;
-  lines : Holds (array_at line_at) (codes "lines") found slots.lines;
+  lines : Holds (array_at (line_at format)) (codes "lines") found slots.lines;
 }
 
 abbrev pub job_names : List (List ℕ)

@@ -37,6 +37,12 @@ pub enum Reason {
     NoBus,
     /// Reason 76: both ends of a switch are one configured bus.
     SameBus,
+    /// Reason 90: an end of a branch names a node of a level that has configured buses.
+    NoNode,
+    /// Reason 91: an id at a configured bus has more than 126 bytes, so that its breaker's would have more than 128.
+    LongAtBus,
+    /// Reason 92: a thing of the network has the id of the breaker of this side, from 1 on.
+    BreakerTaken { side: u8 },
     /// A text that must be an id is none.
     Name(IdFault),
     /// An edit that loads the network is refused.

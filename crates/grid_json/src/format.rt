@@ -14,6 +14,23 @@ pub enum Format {
     Three,
     /// Has also the injection kind `CONVERTER_STATION`.
     Four,
+    /// Has also levels with configured buses, and ends of branches at such buses.
+    Five,
+}
+
+impl Format {
+    ghost use Rattle.std.specs.Prelude.{◌≡◌};
+    ghost use Rattle.grid_json.specs.Network as network;
+
+    /// Whether it has levels with configured buses.
+    pub fn has_buses(self) -> bool
+        ensures { result ≡ network.has_buses self }
+    {
+        match self {
+            Format::One | Format::Two | Format::Three | Format::Four => false,
+            Format::Five => true,
+        }
+    }
 }
 
 impl FromJson for Format {
@@ -27,6 +44,7 @@ impl FromJson for Format {
             2 => Ok(Format::Two),
             3 => Ok(Format::Three),
             4 => Ok(Format::Four),
+            5 => Ok(Format::Five),
             _ => Err(ReadError::here(alloc, Reason::Unknown)),
         }
     }

@@ -21,6 +21,15 @@ pub enum InjectionKind {
     ConverterStation,
 }
 
+/// How the parts of a level are joined, by the kinds of the IIDM documentation.
+#[derive(Clone, Copy, Debug, PartialEq, Eq)]
+pub enum Topology {
+    /// By nodes: `NODE_BREAKER`.
+    Nodes,
+    /// By configured buses: `BUS_BREAKER`.
+    Buses,
+}
+
 /// The kinds of transformers.
 #[derive(Clone, Copy, Debug, PartialEq, Eq)]
 pub enum WindingsKind {
@@ -107,6 +116,23 @@ impl FromJson for InjectionKind {
     fn from_json(alloc: Global, format: Format, value: &Value) -> Result<InjectionKind, ReadError> {
         let kind = injection_kind_of(alloc, value)?;
         known_injection(alloc, kind, format)
+    }
+}
+
+impl FromJson for Topology {
+    ghost use Rattle.grid_json.specs.Kinds.{topology_at};
+
+    ghost reads = { topology_at };
+
+    fn from_json(alloc: Global, _format: Format, value: &Value) -> Result<Topology, ReadError> {
+        let Some(word) = value.as_str() else {
+            return Err(ReadError::here(alloc, Reason::WrongKind));
+        };
+        match word {
+            "NODE_BREAKER" => Ok(Topology::Nodes),
+            "BUS_BREAKER" => Ok(Topology::Buses),
+            _ => Err(ReadError::here(alloc, Reason::Unknown)),
+        }
     }
 }
 

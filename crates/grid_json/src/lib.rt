@@ -1,13 +1,18 @@
 //! Jobs from JSON: each value read with the first fault and its place.
 #![tactic(auto)]
 
+mod branch_load;
+mod bus_load;
+mod buses;
 mod command;
 mod ends;
 mod fault;
 mod format;
 mod job;
 mod kinds;
+mod laws;
 mod load;
+mod loader;
 mod network;
 mod order;
 mod place;
@@ -18,11 +23,13 @@ mod stream;
 mod tokens;
 mod whole;
 
+pub use buses::{BusEnd, BusInjection, BusSwitch, names_of_bus_injection};
 pub use ends::Two;
 pub use fault::{Fault, ReadError, Reason};
 pub use format::Format;
 pub use job::{JobDraft, MOST_WORKERS, Order, are_too_many, few, optional_order, read_draft};
 pub use kinds::InjectionKind;
+pub use laws::{buses_have_places, nodes_load_by_edits, older_formats_are_of_nodes};
 pub use network::item_of;
 pub use place::Place;
 pub use read::{FromJson, member, member_otherwise, object, only, optional};

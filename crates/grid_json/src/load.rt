@@ -3,40 +3,47 @@ ghost use Rattle.std.specs.Prelude.{◌≡◌, List, ℕ, Result, IfOk};
 ghost use Rattle.grid_structure.specs.Network.{Network};
 ghost use Rattle.grid_json.specs.Reading.{Gives};
 ghost use Rattle.grid_json.specs.declared.fault.Fault.{Fault as FaultAt};
-ghost use Rattle.grid_json.specs.Loading.{Leads, Answers, load_items, load_member, edited, shape_of, parts_load, network_load};
+ghost use Rattle.grid_json.specs.Loading.{Loaded, Leads, Answers, load_items, load_member, edited, loaded_of, parts_load, network_load};
 
-use crate::command::{line, three_windings, two_windings};
-use crate::ends::{Three, Two};
+use crate::loader::Loader;
 use crate::network::{
-    BusbarDraft, InjectionDraft, InternalDraft, LevelDraft, LineDraft, NetworkDraft,
-    SubstationDraft, SwitchDraft, TransformerDraft, Windings,
+    AnyLevelDraft, BusbarDraft, InjectionDraft, InternalDraft, LevelDraft, NetworkDraft,
+    SubstationDraft, SwitchDraft,
 };
 use crate::{ReadError, Reason};
-use grid_ids::{Duplicate, Id, Memory, Seq};
-use grid_structure::{ApplyFault, Branch, Edit, End, Structure};
+use grid_ids::{Duplicate, Id, Seq};
+use grid_structure::{ApplyFault, Edit, Structure};
 use std::alloc::Global;
 
 /// What loading makes edits of, within the thing that owns it. It is given up then.
-trait Load: Sized + Drop {
-    // The network with this part.
-    ghost loads: { Self → List ℕ → Network → Result Network FaultAt };
+pub trait Load: Sized + Drop {
+    /// What it is loaded into.
+    type Into;
 
-    fn load(self, alloc: Global, owner: &Id, structure: &mut Structure) -> Result<(), ReadError>
-        ensures { Leads structure.new result (loads self owner.now structure.old) };
+    // What is seen of it.
+    ghost State: { Type 0 };
+
+    ghost seen: { Self.Into → State };
+
+    // What is there with this part.
+    ghost loads: { Self → List ℕ → State → Result State FaultAt };
+
+    fn load(self, alloc: Global, owner: &Id, into: &mut Self::Into) -> Result<(), ReadError>
+        ensures { Leads (seen into.new) result (loads self owner.now (seen into.old)) };
 }
 
 /// The parts that stand under a name.
-fn load_under<T: Load>(
+pub fn load_under<T: Load>(
     alloc: Global,
     parts: Seq<T>,
     name: &str,
     owner: &Id,
-    structure: &mut Structure,
+    into: &mut T::Into,
 ) -> Result<(), ReadError>
-    ensures { Leads structure.new result
-        (load_member T.loads name.now parts owner.now structure.old) }
+    ensures { Leads (T.seen into.new) result
+        (load_member T.loads name.now parts owner.now (T.seen into.old)) }
 {
-    match load_each(alloc, parts, owner, structure) {
+    match load_each(alloc, parts, owner, into) {
         Ok(()) => Ok(()),
         Err(e) => Err(e.under(alloc, name)),
     }
@@ -47,13 +54,14 @@ fn load_each<T: Load>(
     alloc: Global,
     parts: Seq<T>,
     owner: &Id,
-    structure: &mut Structure,
+    into: &mut T::Into,
 ) -> Result<(), ReadError>
-    ensures { Leads structure.new result (load_items T.loads 0 parts owner.now structure.old) }
+    ensures { Leads (T.seen into.new) result
+        (load_items T.loads 0 parts owner.now (T.seen into.old)) }
 {
     let mut position = 0usize;
     for part in parts.into_vec() {
-        if let Err(e) = part.load(alloc, owner, structure) {
+        if let Err(e) = part.load(alloc, owner, into) {
             return Err(e.under_position(alloc, position));
         }
         position += 1;
@@ -62,7 +70,7 @@ fn load_each<T: Load>(
 }
 
 /// What the answer of an edit is for the load.
-fn told(alloc: Global, answer: Result<(), ApplyFault>) -> Result<(), ReadError>
+pub fn told(alloc: Global, answer: Result<(), ApplyFault>) -> Result<(), ReadError>
     ensures { Answers result answer }
 {
     match answer {
@@ -73,6 +81,12 @@ fn told(alloc: Global, answer: Result<(), ApplyFault>) -> Result<(), ReadError>
 }
 
 impl Load for BusbarDraft {
+    type Into = Structure;
+
+    ghost State = { Network };
+
+    ghost seen = { λ structure. structure };
+
     ghost use Rattle.grid_json.specs.Loading.{busbar_load};
 
     ghost loads = { busbar_load };
@@ -84,6 +98,12 @@ impl Load for BusbarDraft {
 }
 
 impl Load for SwitchDraft {
+    type Into = Structure;
+
+    ghost State = { Network };
+
+    ghost seen = { λ structure. structure };
+
     ghost use Rattle.grid_json.specs.Loading.{switch_load};
 
     ghost loads = { switch_load };
@@ -105,6 +125,12 @@ impl Load for SwitchDraft {
 }
 
 impl Load for InternalDraft {
+    type Into = Structure;
+
+    ghost State = { Network };
+
+    ghost seen = { λ structure. structure };
+
     ghost use Rattle.grid_json.specs.Loading.{internal_load};
 
     ghost loads = { internal_load };
@@ -116,6 +142,12 @@ impl Load for InternalDraft {
 }
 
 impl Load for InjectionDraft {
+    type Into = Structure;
+
+    ghost State = { Network };
+
+    ghost seen = { λ structure. structure };
+
     ghost use Rattle.grid_json.specs.Loading.{injection_load};
 
     ghost loads = { injection_load };
@@ -151,6 +183,12 @@ fn add_level(
 }
 
 impl Load for LevelDraft {
+    type Into = Structure;
+
+    ghost State = { Network };
+
+    ghost seen = { λ structure. structure };
+
     ghost use Rattle.grid_json.specs.Loading.{level_load};
 
     ghost loads = { level_load };
@@ -165,74 +203,23 @@ impl Load for LevelDraft {
     }
 }
 
-/// A branch.
-fn add_branch(
-    alloc: Global,
-    id: &Id,
-    shape: &Branch,
-    structure: &mut Structure,
-) -> Result<(), ReadError>
-    ensures { Leads structure.new result (edited (Edit.AddBranch id.now shape.now) structure.old) }
-{
-    told(alloc, structure.add_branch(id, shape))
-}
+impl Load for AnyLevelDraft {
+    ghost use Rattle.grid_json.specs.Loading.{any_level_load};
 
-/// The branch that a transformer is.
-fn shape(substation: &Id, windings: &Windings) -> Result<Branch, Memory>
-    ensures { IfOk result (λ branch. branch ≡ shape_of substation.now windings.now) }
-{
-    match windings {
-        Windings::Two { ends, rated_u } => {
-            Ok(two_windings(substation.copy()?, copy_two(ends)?, rated_u))
+    type Into = Loader;
+
+    ghost State = { Loaded };
+
+    ghost seen = { loaded_of };
+
+    ghost loads = { any_level_load };
+
+    #[tactic(auto, unfolding(crate::specs::Loading::any_level_load))]
+    fn load(self, alloc: Global, owner: &Id, loader: &mut Loader) -> Result<(), ReadError> {
+        match self {
+            AnyLevelDraft::Nodes(level) => loader.add_level(alloc, level, owner),
+            AnyLevelDraft::Buses(level) => loader.add_bus_level(alloc, level, owner),
         }
-        Windings::Three { ends, rated_u } => Ok(three_windings(
-            substation.copy()?,
-            copy_three(ends)?,
-            rated_u,
-        )),
-    }
-}
-
-fn copy_two(ends: &Two<End>) -> Result<Two<End>, Memory>
-    ensures { IfOk result (λ copy. copy ≡ ends.now) }
-{
-    Ok(Two {
-        first: ends.first.copy()?,
-        second: ends.second.copy()?,
-    })
-}
-
-fn copy_three(ends: &Three<End>) -> Result<Three<End>, Memory>
-    ensures { IfOk result (λ copy. copy ≡ ends.now) }
-{
-    Ok(Three {
-        first: ends.first.copy()?,
-        second: ends.second.copy()?,
-        third: ends.third.copy()?,
-    })
-}
-
-impl Load for TransformerDraft {
-    ghost use Rattle.grid_json.specs.Loading.{transformer_load};
-
-    ghost loads = { transformer_load };
-
-    #[tactic(auto, unfolding(crate::specs::Loading::transformer_load))]
-    fn load(self, alloc: Global, owner: &Id, structure: &mut Structure) -> Result<(), ReadError> {
-        let shape = shape(owner, &self.windings)?;
-        add_branch(alloc, &self.id, &shape, structure)
-    }
-}
-
-impl Load for LineDraft {
-    ghost use Rattle.grid_json.specs.Loading.{line_load};
-
-    ghost loads = { line_load };
-
-    #[tactic(auto, unfolding(crate::specs::Loading::line_load))]
-    fn load(self, alloc: Global, _owner: &Id, structure: &mut Structure) -> Result<(), ReadError> {
-        let shape = line(copy_two(&self.ends)?);
-        add_branch(alloc, &self.id, &shape, structure)
     }
 }
 
@@ -246,39 +233,29 @@ fn add_substation(alloc: Global, id: &Id, structure: &mut Structure) -> Result<(
 impl Load for SubstationDraft {
     ghost use Rattle.grid_json.specs.Loading.{substation_load};
 
+    type Into = Loader;
+
+    ghost State = { Loaded };
+
+    ghost seen = { loaded_of };
+
     ghost loads = { substation_load };
 
     #[tactic(auto, unfolding(crate::specs::Loading::substation_load))]
-    fn load(self, alloc: Global, _owner: &Id, structure: &mut Structure) -> Result<(), ReadError> {
-        add_substation(alloc, &self.id, structure)?;
-        load_under(alloc, self.levels, "levels", &self.id, structure)?;
-        load_under(
-            alloc,
-            self.transformers,
-            "transformers",
-            &self.id,
-            structure,
-        )
+    fn load(self, alloc: Global, _owner: &Id, loader: &mut Loader) -> Result<(), ReadError> {
+        add_substation(alloc, &self.id, &mut loader.structure)?;
+        load_under(alloc, self.levels, "levels", &self.id, loader)?;
+        load_under(alloc, self.transformers, "transformers", &self.id, loader)
     }
 }
 
 /// The substations and the lines of a network.
 #[tactic(auto, unfolding(crate::specs::Loading::parts_load))]
-fn load_parts(
-    alloc: Global,
-    draft: NetworkDraft,
-    structure: &mut Structure,
-) -> Result<(), ReadError>
-    ensures { Leads structure.new result (parts_load draft structure.old) }
+fn load_parts(alloc: Global, draft: NetworkDraft, loader: &mut Loader) -> Result<(), ReadError>
+    ensures { Leads (loaded_of loader.new) result (parts_load draft (loaded_of loader.old)) }
 {
-    load_under(
-        alloc,
-        draft.substations,
-        "substations",
-        &draft.id,
-        structure,
-    )?;
-    load_under(alloc, draft.lines, "lines", &draft.id, structure)
+    load_under(alloc, draft.substations, "substations", &draft.id, loader)?;
+    load_under(alloc, draft.lines, "lines", &draft.id, loader)
 }
 
 /// The network of a draft.
@@ -286,9 +263,9 @@ fn load_parts(
 pub fn load_network(alloc: Global, draft: NetworkDraft) -> Result<Structure, ReadError>
     ensures { Gives result (network_load draft) }
 {
-    let mut structure = Structure::empty(alloc, draft.id.copy()?);
-    match load_parts(alloc, draft, &mut structure) {
-        Ok(()) => Ok(structure),
+    let mut loader = Loader::empty(alloc, draft.id.copy()?);
+    match load_parts(alloc, draft, &mut loader) {
+        Ok(()) => Ok(loader.structure),
         Err(e) => Err(e.under(alloc, "network")),
     }
 }

@@ -2,16 +2,16 @@
 ghost use Rattle.std.specs.Prelude.{◌≡◌};
 ghost use Rattle.grid_value.specs.View.{view};
 ghost use Rattle.grid_json.specs.Reading.{Gives, texts};
-ghost use Rattle.grid_json.specs.Network.{injection_names, item_at, windings_at};
+ghost use Rattle.grid_json.specs.Network.{either_level_at, injection_names, item_at, level_by, level_members_at, windings_at};
 
 use crate::ReadError;
+use crate::buses::{BusLevelDraft, EndDraft};
 use crate::ends::{Three, Two};
 use crate::format::Format;
-use crate::kinds::{InjectionKind, WindingsKind};
+use crate::kinds::{InjectionKind, Topology, WindingsKind};
 use crate::read::{FromJson, member, member_otherwise, object, only, optional};
 use grid_ids::{Id, Seq};
 use grid_kinds::{Injection, SwitchKind};
-use grid_structure::End;
 use grid_value::Value;
 use std::alloc::Global;
 
@@ -49,7 +49,7 @@ pub struct InjectionDraft {
     pub item: Injection,
 }
 
-/// A level with its parts.
+/// A level of nodes with its parts.
 #[derive(Drop)]
 pub struct LevelDraft {
     pub id: Id,
@@ -62,15 +62,22 @@ pub struct LevelDraft {
     pub injections: Seq<InjectionDraft>,
 }
 
+/// A level with its parts, joined by nodes or by configured buses.
+#[derive(Drop)]
+pub enum AnyLevelDraft {
+    Nodes(LevelDraft),
+    Buses(BusLevelDraft),
+}
+
 /// The windings of a transformer: where each stands, and its rated voltage in volts.
 #[derive(Drop)]
 pub enum Windings {
     Two {
-        ends: Two<End>,
+        ends: Two<EndDraft>,
         rated_u: Two<i64>,
     },
     Three {
-        ends: Three<End>,
+        ends: Three<EndDraft>,
         rated_u: Three<i64>,
     },
 }
@@ -86,14 +93,14 @@ pub struct TransformerDraft {
 #[derive(Drop)]
 pub struct LineDraft {
     pub id: Id,
-    pub ends: Two<End>,
+    pub ends: Two<EndDraft>,
 }
 
 /// A substation with its levels and transformers.
 #[derive(Drop)]
 pub struct SubstationDraft {
     pub id: Id,
-    pub levels: Seq<LevelDraft>,
+    pub levels: Seq<AnyLevelDraft>,
     pub transformers: Seq<TransformerDraft>,
 }
 
@@ -320,6 +327,31 @@ impl FromJson for InjectionDraft {
     }
 }
 
+/// The members of a level of nodes.
+#[tactic(auto, unfolding(crate::specs::Network::level_members_at))]
+fn level_members(alloc: Global, format: Format, value: &Value) -> Result<LevelDraft, ReadError>
+    ensures { Gives result (level_members_at format (view value.now)) }
+{
+    let id = member(alloc, format, value, "id")?;
+    let nominal_v = member(alloc, format, value, "nominal_v")?;
+    let low_v = optional(alloc, format, value, "low_v")?;
+    let high_v = optional(alloc, format, value, "high_v")?;
+    let busbars = member_otherwise(alloc, format, value, "busbars", Seq::empty(alloc))?;
+    let switches = member_otherwise(alloc, format, value, "switches", Seq::empty(alloc))?;
+    let internals = member_otherwise(alloc, format, value, "internal", Seq::empty(alloc))?;
+    let injections = member_otherwise(alloc, format, value, "injections", Seq::empty(alloc))?;
+    Ok(LevelDraft {
+        id,
+        nominal_v,
+        low_v,
+        high_v,
+        busbars,
+        switches,
+        internals,
+        injections,
+    })
+}
+
 impl FromJson for LevelDraft {
     ghost use Rattle.grid_json.specs.Network.{level_at};
 
@@ -341,24 +373,64 @@ impl FromJson for LevelDraft {
                 "injections",
             ],
         )?;
-        let id = member(alloc, format, value, "id")?;
-        let nominal_v = member(alloc, format, value, "nominal_v")?;
-        let low_v = optional(alloc, format, value, "low_v")?;
-        let high_v = optional(alloc, format, value, "high_v")?;
-        let busbars = member_otherwise(alloc, format, value, "busbars", Seq::empty(alloc))?;
-        let switches = member_otherwise(alloc, format, value, "switches", Seq::empty(alloc))?;
-        let internals = member_otherwise(alloc, format, value, "internal", Seq::empty(alloc))?;
-        let injections = member_otherwise(alloc, format, value, "injections", Seq::empty(alloc))?;
-        Ok(LevelDraft {
-            id,
-            nominal_v,
-            low_v,
-            high_v,
-            busbars,
-            switches,
-            internals,
-            injections,
-        })
+        level_members(alloc, format, value)
+    }
+}
+
+/// A level of nodes that may say so.
+#[tactic(auto, unfolding(crate::specs::Network::level_by))]
+fn node_level(alloc: Global, format: Format, value: &Value) -> Result<AnyLevelDraft, ReadError>
+    ensures { Gives result (level_by Topology.Nodes format (view value.now)) }
+{
+    only(
+        alloc,
+        value,
+        &[
+            "topology",
+            "id",
+            "nominal_v",
+            "low_v",
+            "high_v",
+            "busbars",
+            "switches",
+            "internal",
+            "injections",
+        ],
+    )?;
+    Ok(AnyLevelDraft::Nodes(level_members(alloc, format, value)?))
+}
+
+/// A level with configured buses.
+#[tactic(auto, unfolding(crate::specs::Network::level_by))]
+fn bus_level(alloc: Global, format: Format, value: &Value) -> Result<AnyLevelDraft, ReadError>
+    ensures { Gives result (level_by Topology.Buses format (view value.now)) }
+{
+    Ok(AnyLevelDraft::Buses(BusLevelDraft::from_json(alloc, format, value)?))
+}
+
+/// A level of the kind that it says, and of nodes where it does not say.
+#[tactic(auto, unfolding(crate::specs::Network::either_level_at))]
+fn either_level(alloc: Global, format: Format, value: &Value) -> Result<AnyLevelDraft, ReadError>
+    ensures { Gives result (either_level_at format (view value.now)) }
+{
+    let topology = member_otherwise(alloc, format, value, "topology", Topology::Nodes)?;
+    match topology {
+        Topology::Nodes => node_level(alloc, format, value),
+        Topology::Buses => bus_level(alloc, format, value),
+    }
+}
+
+impl FromJson for AnyLevelDraft {
+    ghost use Rattle.grid_json.specs.Network.{any_level_at};
+
+    ghost reads = { any_level_at };
+
+    #[tactic(auto, unfolding(crate::specs::Network::any_level_at))]
+    fn from_json(alloc: Global, format: Format, value: &Value) -> Result<AnyLevelDraft, ReadError> {
+        if format.has_buses() {
+            return either_level(alloc, format, value);
+        }
+        Ok(AnyLevelDraft::Nodes(LevelDraft::from_json(alloc, format, value)?))
     }
 }
 
@@ -370,7 +442,7 @@ pub fn windings_of(
     kind: WindingsKind,
     value: &Value,
 ) -> Result<Windings, ReadError>
-    ensures { Gives result (windings_at kind (view value.now)) }
+    ensures { Gives result (windings_at format kind (view value.now)) }
 {
     match kind {
         WindingsKind::Two => {
@@ -409,7 +481,7 @@ impl FromJson for TransformerDraft {
 impl FromJson for LineDraft {
     ghost use Rattle.grid_json.specs.Network.{line_at};
 
-    ghost reads = { λ _. line_at };
+    ghost reads = { line_at };
 
     #[tactic(auto, unfolding(crate::specs::Network::line_at))]
     fn from_json(alloc: Global, format: Format, value: &Value) -> Result<LineDraft, ReadError> {

@@ -3,10 +3,10 @@ ghost use Rattle.std.specs.Prelude.{◌≡◌};
 
 use crate::format::Format;
 use crate::network::{
-    BusbarDraft, InjectionDraft, InternalDraft, LevelDraft, LineDraft, NetworkDraft,
+    AnyLevelDraft, BusbarDraft, InjectionDraft, InternalDraft, LevelDraft, LineDraft, NetworkDraft,
     SubstationDraft, SwitchDraft, TransformerDraft,
 };
-use crate::tokens::{FromTokens, Slots, fill, object_of, or_none};
+use crate::tokens::{FromTokens, Slots, fill, object_of, or_none, small};
 use grid_ids::{Id, Seq};
 use grid_kinds::SwitchKind;
 use json::Reader;
@@ -209,11 +209,28 @@ impl FromTokens for LevelDraft {
     }
 }
 
+/// A level of a format that has configured buses is read by way of a tree of it alone.
+impl FromTokens for AnyLevelDraft {
+    #[tactic(auto, unfolding(crate::specs::Network::any_level_at))]
+    fn from_tokens(
+        alloc: Global,
+        format: Format,
+        reader: &mut Reader<'_>,
+        depth: usize,
+    ) -> Option<AnyLevelDraft> {
+        if format.has_buses() {
+            return small(alloc, format, reader, depth);
+        }
+        let level = LevelDraft::from_tokens(alloc, format, reader, depth)?;
+        Some(AnyLevelDraft::Nodes(level))
+    }
+}
+
 /// The members of a substation.
 #[derive(Drop)]
 struct SubstationSlots {
     id: Option<Id>,
-    levels: Option<Seq<LevelDraft>>,
+    levels: Option<Seq<AnyLevelDraft>>,
     transformers: Option<Seq<TransformerDraft>>,
 }
 

@@ -2,13 +2,13 @@ use Rattle.std.proofs.Common.{[], Some, rules}
 use Rattle.std.specs.Prelude.{codes}
 use Rattle.serde_json.specs.Data.{object}
 use Rattle.grid_json.specs.Reading.{id_at, whole_at, array_at}
-use Rattle.grid_json.specs.Network.{busbar_at, injection_at, internal_at, level_at, switch_at}
+use Rattle.grid_json.specs.Network.{busbar_at, injection_at, internal_at, level_at, level_members_at, switch_at}
 use Rattle.grid_json.specs.Streams.{Holds}
 use Rattle.grid_json.proofs.Filling.{member_is, member_or_is}
 use Rattle.grid_json.proofs.slots.LevelDraftFromTokens.from_tokens.Goals as goal
 
 pub returns-clause-read : goal.returns-clause-read
-unfolding level_at
+unfolding level_at level_members_at
 returns-clause-read c =
     let slots = c.in_ok-slots.slots in
     let read = c.in_ok-slots.ensures.object in

@@ -22,7 +22,7 @@ returns-clause-read c =
         member_is id_at (codes "id") found c.in_ok-slots-2.field-0 id,
         member_or_is (array_at (substation_at c.args.format)) (codes "substations") [] found slots.substations held.substations,
         ← c.or_none.ensures,
-        member_or_is (array_at line_at) (codes "lines") [] found slots.lines held.lines,
+        member_or_is (array_at (line_at c.args.format)) (codes "lines") [] found slots.lines held.lines,
         ← c.or_none-2.ensures,
       ) refl,
     )

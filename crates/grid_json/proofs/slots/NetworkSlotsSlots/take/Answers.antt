@@ -32,7 +32,7 @@ pub returns-in-lines-clause-taken : goal.returns-in-lines-clause-taken
 returns-in-lines-clause-taken c =
     let name = codes "lines" in
     let went = c.fill-in-lines in
-    taken (array_at line_at) name (NetworkHolds c.args.format) c.args.name.now c.args.depth c.args.reader.now went.new.reader c.args.self.now _ went.new.slot went.result (λ d found held now. record {
+    taken (array_at (line_at c.args.format)) name (NetworkHolds c.args.format) c.args.name.now c.args.depth c.args.reader.now went.new.reader c.args.self.now _ went.new.slot went.result (λ d found held now. record {
       known = one_known network_names name d found refl held.known;
       id = kept name d held.id refl;
       substations = kept name d held.substations refl;

@@ -2,7 +2,7 @@ use Rattle.std.proofs.Common.{[], Some, refl}
 use Rattle.std.specs.Prelude.{codes}
 use Rattle.serde_json.specs.Data.{object}
 use Rattle.grid_json.specs.Reading.{id_at, array_at}
-use Rattle.grid_json.specs.Network.{level_at, substation_at, transformer_at}
+use Rattle.grid_json.specs.Network.{any_level_at, substation_at, transformer_at}
 use Rattle.grid_json.specs.Streams.{Holds}
 use Rattle.grid_json.proofs.Filling.{member_is, member_or_is}
 use Rattle.grid_json.proofs.slots.SubstationDraftFromTokens.from_tokens.Goals as goal
@@ -20,7 +20,7 @@ returns-clause-read c =
       rw (
         held.known,
         member_is id_at (codes "id") found c.in_ok-slots-2.field-0 id,
-        member_or_is (array_at (level_at c.args.format)) (codes "levels") [] found slots.levels held.levels,
+        member_or_is (array_at (any_level_at c.args.format)) (codes "levels") [] found slots.levels held.levels,
         ← c.or_none.ensures,
         member_or_is (array_at (transformer_at c.args.format)) (codes "transformers") [] found slots.transformers held.transformers,
         ← c.or_none-2.ensures,
