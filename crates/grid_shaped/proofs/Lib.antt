@@ -1,0 +1,10 @@
+pub mod Changing
+pub mod Adding
+pub mod Parts
+pub mod Ends
+pub mod Sides
+pub mod Branches
+pub mod Items
+pub mod Levels
+pub mod Shaped
+pub mod Counted

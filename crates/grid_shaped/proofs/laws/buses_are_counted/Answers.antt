@@ -1,0 +1,5 @@
+use Rattle.grid_shaped.proofs.Counted.{buses_counted}
+use Rattle.grid_shaped.proofs.laws.buses_are_counted.Goals as goal
+
+pub returns : goal.returns
+returns c = buses_counted

@@ -1,0 +1,5 @@
+use Rattle.grid_shaped.proofs.Shaped.{load_shaped}
+use Rattle.grid_shaped.proofs.laws.load_is_shaped.Goals as goal
+
+pub returns : goal.returns
+returns c = load_shaped
