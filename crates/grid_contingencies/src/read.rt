@@ -134,6 +134,7 @@ impl FromJson for Contingency {
             Format::Two => read_fault(alloc, value),
             Format::Three => read_fault(alloc, value),
             Format::Four => read_fault(alloc, value),
+            Format::Five => read_fault(alloc, value),
         }
     }
 }
@@ -352,6 +353,7 @@ fn read_in(alloc: Global, format: Format, value: &Value) -> Result<ScreenJob, Re
         Format::Two => read_second(alloc, value),
         Format::Three => read_second(alloc, value),
         Format::Four => read_second(alloc, value),
+        Format::Five => read_second(alloc, value),
     }
 }
 

@@ -2,7 +2,7 @@
 use Rattle.std.proofs.Common.{◌≡◌, refl, sym, ap, ◌∙◌, subst, ℕ, suc, ◌+◌, ◌≤◌, true, false, cond, not, List, [], ◌∷◌, ◌++◌, length, arith, Some, append_assoc}
 use Rattle.std.specs.Prelude.{map, flat_map, Ok, is_none}
 use Rattle.std.specs.List.{list_all}
-use Rattle.std.proofs.lemmas.Bool.{and_parts, false≢true}
+use Rattle.std.proofs.lemmas.Bool.{and_parts, and_from, false≢true}
 use Rattle.std.proofs.lemmas.List.{map-append, append-nil, length-append, length-map}
 use Rattle.grid_lemmas.proofs.Bools.{or_false}
 use Rattle.grid_ids.specs.Name.{ids_differ}
@@ -26,8 +26,11 @@ use Rattle.grid_structure.proofs.Sides.{Side, has, side_of}
 use Rattle.grid_structure.proofs.Substations.{levels_in, transformers_in, levels_at}
 use Rattle.grid_json.specs.declared.network.TransformerDraft.{TransformerDraft}
 use Rattle.grid_json.specs.declared.network.LineDraft.{LineDraft}
-use Rattle.grid_json.specs.Loading.{load_items, level_load, transformer_load, line_load, substation_load, parts_load, network_load}
-use Rattle.grid_print.specs.Laws.{level_draft, transformer_draft_of, line_draft_of, substation_draft}
+use Rattle.grid_json.specs.declared.network.AnyLevelDraft.TheVariants as drafts
+use Rattle.grid_json.specs.Loading.{load_items, level_load}
+use Rattle.grid_json.specs.OlderFormats.{is_of_nodes, transformer_at_nodes, line_at_nodes, substation_of_nodes, network_of_nodes, transformer_edit, line_edit, level_edits, substation_edits, parts_edits, network_edits}
+use Rattle.grid_json.proofs.OlderLoading.{nodes_load}
+use Rattle.grid_print.specs.Laws.{level_draft, transformer_draft_of, line_draft_of, substation_draft, network_draft}
 use Rattle.grid_print.specs.Loads.{bare, growing, more, LevelsAreLoaded, NetworksAreLoaded}
 use Rattle.grid_print.proofs.LevelLoad.{level_is_loaded}
 use Rattle.grid_print.proofs.EndsLoad.{kept, stays}
@@ -37,15 +40,15 @@ use Rattle.grid_print.proofs.StageLoad.{stage, shown, weight, weights, weights-a
 -- ---- one branch's draft
 
 transformer_item : (id sub : List ℕ) (shape : Branch) (i : ℕ) (rest : List TransformerDraft) (net new : Network) → home_of shape ≡ Some sub → apply net (edits.AddBranch id shape) ≡ Ok new
-    → load_items transformer_load i (transformer_draft_of id shape ++ rest) sub net ≡ load_items transformer_load (suc i) rest sub new
-unfolding load_items transformer_load home_of
+    → load_items transformer_edit i (transformer_draft_of id shape ++ rest) sub net ≡ load_items transformer_edit (suc i) rest sub new
+unfolding load_items transformer_edit home_of
 transformer_item id sub (Line end1 end2) i rest net new h done = cc
 transformer_item id sub (TwoWindings substation end1 end2 rated_u1 rated_u2) i rest net new h done = let same : sub ≡ substation = cc in rw (same, done) refl
 transformer_item id sub (ThreeWindings substation end1 end2 end3 rated_u1 rated_u2 rated_u3) i rest net new h done = let same : sub ≡ substation = cc in rw (same, done) refl
 
 line_item : (id owner : List ℕ) (shape : Branch) (i : ℕ) (rest : List LineDraft) (net new : Network) → is_none (home_of shape) ≡ true → apply net (edits.AddBranch id shape) ≡ Ok new
-    → load_items line_load i (line_draft_of id shape ++ rest) owner net ≡ load_items line_load (suc i) rest owner new
-unfolding load_items line_load home_of
+    → load_items line_edit i (line_draft_of id shape ++ rest) owner net ≡ load_items line_edit (suc i) rest owner new
+unfolding load_items line_edit home_of
 line_item id owner (Line end1 end2) i rest net new h done = rw done refl
 line_item id owner (TwoWindings substation end1 end2 rated_u1 rated_u2) i rest net new h done = absurd (false≢true h)
 line_item id owner (ThreeWindings substation end1 end2 end3 rated_u1 rated_u2 rated_u3) i rest net new h done = absurd (false≢true h)
@@ -90,7 +93,7 @@ module _ (load : LevelsAreLoaded) (net : Network) (k : IsSound net) (front back 
   holding done = stage net.id (front ++ record s { transformers = done } ∷ []) []
 
   transformers_loaded : (rest done : List NamedBranch) (i : ℕ) → s.transformers ≡ done ++ rest
-      → load_items transformer_load i (flat_map (λ b. transformer_draft_of b.id b.shape) rest) s.id (shown (holding done)) ≡ Ok (shown (stage net.id (front ++ s ∷ []) []))
+      → load_items transformer_edit i (flat_map (λ b. transformer_draft_of b.id b.shape) rest) s.id (shown (holding done)) ≡ Ok (shown (stage net.id (front ++ s ∷ []) []))
   unfolding load_items
   transformers_loaded [] done i is = ap (λ (z : List NamedBranch). Ok (shown (holding z))) (sym (append-nil done) ∙ sym is)
   transformers_loaded (b ∷ rest) done i is =
@@ -165,8 +168,8 @@ module _ (load : LevelsAreLoaded) (net : Network) (k : IsSound net) (front back 
         )
 
     levels_loaded : (rest done : List VoltageLevel) (i : ℕ) → s.levels ≡ done ++ rest
-        → load_items level_load i (map level_draft rest) s.id (growing net.id before (filled s done)) ≡ Ok (growing net.id before (filled s s.levels))
-    unfolding load_items
+        → load_items level_edits i (map (λ l. drafts.Nodes (level_draft l)) rest) s.id (growing net.id before (filled s done)) ≡ Ok (growing net.id before (filled s s.levels))
+    unfolding load_items level_edits
     levels_loaded [] done i is = ap (λ (z : List VoltageLevel). Ok (growing net.id before (filled s z))) (sym (append-nil done) ∙ sym is)
     levels_loaded (l ∷ rest) done i is =
         let next : s.levels ≡ (done ++ l ∷ []) ++ rest = is ∙ sym (append_assoc done (l ∷ []) rest) in
@@ -199,8 +202,8 @@ module _ (load : LevelsAreLoaded) (net : Network) (k : IsSound net) (front back 
       ap (λ t. cond t 1 0 + (times s.id (ids_of s.levels) + (locals s.id s.levels + times s.id (map (λ (b : NamedBranch). b.id) s.transformers)))) (is_same s.id s.id refl) in
       none_there s.id (all_ids (shown start)) (ids_partly s.id (sides_by (branches start)) start ∙ omega (arith, own, weighed s.id start, counted net k front back s split s.id))
 
-  sub_loaded : (owner : List ℕ) → substation_load (substation_draft s) owner (shown (stage net.id front [])) ≡ Ok (shown (stage net.id (front ++ s ∷ []) []))
-  unfolding substation_load apply branches
+  sub_loaded : (owner : List ℕ) → substation_edits (substation_draft s) owner (shown (stage net.id front [])) ≡ Ok (shown (stage net.id (front ++ s ∷ []) []))
+  unfolding substation_edits apply branches
   sub_loaded owner =
       let loaded = sides_by (transformers_in front ++ []) in
       rw (sub_free, levels_loaded loaded s.levels [] 0 refl, begun, transformers_loaded s.transformers [] 0 refl) refl
@@ -208,14 +211,14 @@ module _ (load : LevelsAreLoaded) (net : Network) (k : IsSound net) (front back 
 -- ---- the network
 
 subs_loaded : (load : LevelsAreLoaded) (net : Network) (k : IsSound net) (rest front : List Substation) (i : ℕ) (owner : List ℕ) → net.substations ≡ front ++ rest
-    → load_items substation_load i (map substation_draft rest) owner (shown (stage net.id front [])) ≡ Ok (shown (stage net.id net.substations []))
+    → load_items substation_edits i (map substation_draft rest) owner (shown (stage net.id front [])) ≡ Ok (shown (stage net.id net.substations []))
 unfolding load_items
 subs_loaded load net k [] front i owner is = ap (λ (z : List Substation). Ok (shown (stage net.id z []))) (sym (append-nil front) ∙ sym is)
 subs_loaded load net k (s ∷ rest) front i owner is =
     rw (sub_loaded load net k front rest s is owner) (subs_loaded load net k rest (front ++ s ∷ []) (suc i) owner (is ∙ sym (append_assoc front (s ∷ []) rest)))
 
 lines_loaded : (net : Network) (k : IsSound net) (rest done : List NamedBranch) (i : ℕ) (owner : List ℕ) → net.lines ≡ done ++ rest
-    → load_items line_load i (flat_map (λ b. line_draft_of b.id b.shape) rest) owner (shown (stage net.id net.substations done)) ≡ Ok (shown net)
+    → load_items line_edit i (flat_map (λ b. line_draft_of b.id b.shape) rest) owner (shown (stage net.id net.substations done)) ≡ Ok (shown net)
 unfolding load_items line_passes
 lines_loaded net k [] done i owner is = ap (λ (z : List NamedBranch). Ok (shown (stage net.id net.substations z))) (sym (append-nil done) ∙ sym is)
 lines_loaded net k (b ∷ rest) done i owner is =
@@ -223,10 +226,45 @@ lines_loaded net k (b ∷ rest) done i owner is =
     line_item b.id owner b.shape i (flat_map (λ b. line_draft_of b.id b.shape) rest) (shown (stage net.id net.substations done)) (shown (stage net.id net.substations (done ++ b ∷ []))) passes (line_step net done rest b k is)
     ∙ lines_loaded net k rest (done ++ b ∷ []) (suc i) owner (is ∙ sym (append_assoc done (b ∷ []) rest))
 
+-- ---- a network's draft is of nodes alone
+
+levels_of_nodes : (ls : List VoltageLevel) → list_all is_of_nodes (map (λ l. drafts.Nodes (level_draft l)) ls) ≡ true
+levels_of_nodes [] = refl
+levels_of_nodes (l ∷ ls) = levels_of_nodes ls
+
+transformers_at_nodes : (bs : List NamedBranch) → list_all transformer_at_nodes (flat_map (λ b. transformer_draft_of b.id b.shape) bs) ≡ true
+transformers_at_nodes [] = refl
+transformers_at_nodes (b ∷ bs) = by b.shape (transformers_at_nodes bs)
+  where
+    by : (shape : Branch) → list_all transformer_at_nodes (flat_map (λ b. transformer_draft_of b.id b.shape) bs) ≡ true
+        → list_all transformer_at_nodes (transformer_draft_of b.id shape ++ flat_map (λ b. transformer_draft_of b.id b.shape) bs) ≡ true
+    by (Line end1 end2) rest = rest
+    by (TwoWindings substation end1 end2 rated_u1 rated_u2) rest = rest
+    by (ThreeWindings substation end1 end2 end3 rated_u1 rated_u2 rated_u3) rest = rest
+
+lines_at_nodes : (bs : List NamedBranch) → list_all line_at_nodes (flat_map (λ b. line_draft_of b.id b.shape) bs) ≡ true
+lines_at_nodes [] = refl
+lines_at_nodes (b ∷ bs) = by b.shape (lines_at_nodes bs)
+  where
+    by : (shape : Branch) → list_all line_at_nodes (flat_map (λ b. line_draft_of b.id b.shape) bs) ≡ true
+        → list_all line_at_nodes (line_draft_of b.id shape ++ flat_map (λ b. line_draft_of b.id b.shape) bs) ≡ true
+    by (Line end1 end2) rest = rest
+    by (TwoWindings substation end1 end2 rated_u1 rated_u2) rest = rest
+    by (ThreeWindings substation end1 end2 end3 rated_u1 rated_u2 rated_u3) rest = rest
+
+substations_of_nodes : (ss : List Substation) → list_all substation_of_nodes (map substation_draft ss) ≡ true
+substations_of_nodes [] = refl
+substations_of_nodes (s ∷ ss) = and_from (substation_of_nodes (substation_draft s)) (list_all substation_of_nodes (map substation_draft ss)) (
+    and_from (list_all is_of_nodes (map (λ l. drafts.Nodes (level_draft l)) s.levels)) (list_all transformer_at_nodes (flat_map (λ b. transformer_draft_of b.id b.shape) s.transformers)) (levels_of_nodes s.levels) (transformers_at_nodes s.transformers))
+    (substations_of_nodes ss)
+
+drafts_of_nodes : (net : Network) → network_of_nodes (network_draft net) ≡ true
+drafts_of_nodes net = and_from (list_all substation_of_nodes (map substation_draft net.substations)) (list_all line_at_nodes (flat_map (λ b. line_draft_of b.id b.shape) net.lines)) (substations_of_nodes net.substations) (lines_at_nodes net.lines)
+
 -- where levels are loaded, sound networks are
 pub network_is_loaded : LevelsAreLoaded → NetworksAreLoaded
-unfolding network_load parts_load
-network_is_loaded load net k = rw (subs_loaded load net k net.substations [] 0 net.id refl, lines_loaded net k net.lines [] 0 net.id refl, all_shown net k) refl
+unfolding network_edits parts_edits
+network_is_loaded load net k = nodes_load (network_draft net) (drafts_of_nodes net) ∙ rw (subs_loaded load net k net.substations [] 0 net.id refl, lines_loaded net k net.lines [] 0 net.id refl, all_shown net k) refl
 
 pub networks_are_loaded : NetworksAreLoaded
 networks_are_loaded = network_is_loaded level_is_loaded

@@ -19,18 +19,20 @@ use Rattle.grid_level.specs.declared.Internal.{Internal}
 use Rattle.grid_structure.specs.declared.End.{End}
 use Rattle.grid_json.specs.declared.format.Format.{Format}
 use Rattle.grid_json.specs.Reading.{items_at, whole_at}
-use Rattle.grid_json.specs.Network.{busbar_at, switch_at, internal_at, injection_at, item_at, level_at, end_at, two_of, both, three_of, all_three, windings_at, transformer_at, line_at, substation_at, network_at}
+use Rattle.grid_json.specs.Network.{busbar_at, switch_at, internal_at, injection_at, item_at, has_buses, level_members_at, level_at, level_by, either_level_at, any_level_at, end_at, either_end_at, end_draft_at, two_of, both, three_of, all_three, windings_at, transformer_at, line_at, substation_at, network_at}
 use Rattle.grid_print.specs.Objects.{members_from, whole}
 use Rattle.grid_print.specs.Network.{switch_value, internal_value, end_value, busbar_of, injection_of, busbars_value, injections_value, level_value, branch_value, named_branch_value, substation_value, network_value}
 use Rattle.grid_print.specs.Readable.{IsId, IsWhole, IsReadableSwitch, IsReadableInternal, IsReadableBusbar, IsReadableInjection, IsReadableLevel, IsReadableEnd, IsReadableShape, IsReadableBranch, IsTransformer, IsLine, IsReadableSubstation}
-use Rattle.grid_print.specs.Laws.{BusbarsAreRead, switch_draft, internal_draft, InjectionsAreRead, EndsAreRead, busbar_draft_of, injection_draft_of, level_draft, LevelsAreRead, transformer_draft_of, line_draft_of, substation_draft, draft_alone, NetworksAreRead, NetworkJobsAreRead}
+use Rattle.grid_print.specs.Laws.{BusbarsAreRead, switch_draft, internal_draft, InjectionsAreRead, EndsAreRead, EndDraftsAreRead, busbar_draft_of, injection_draft_of, level_draft, LevelsAreRead, transformer_draft_of, line_draft_of, substation_draft, draft_alone, NetworksAreRead, NetworkJobsAreRead}
 use Rattle.grid_print.proofs.Each.{each_of}
 use Rattle.grid_print.specs.Formats.{number_of, item_format, stand_format, level_needs, network_needs, least_format}
 use Rattle.grid_print.specs.Job.{job_value}
 use Rattle.grid_structure.specs.Sites.{levels}
 use Rattle.grid_structure.proofs.Found.{any-flat_map}
 use Rattle.grid_json.specs.Job.{draft_at, command_total}
-use Rattle.grid_json.specs.declared.format.Format.TheVariants.{One, Two, Three, Four}
+use Rattle.grid_json.specs.declared.format.Format.TheVariants.{One, Two, Three, Four, Five}
+use Rattle.grid_json.specs.declared.buses.EndDraft.TheVariants as ends
+use Rattle.grid_json.specs.declared.network.AnyLevelDraft.TheVariants as drafts
 use Rattle.grid_json.specs.declared.network.Windings.TheVariants as windings
 use Rattle.grid_structure.specs.Network.{Network, Substation}
 use Rattle.grid_structure.specs.declared.NamedBranch.{NamedBranch}
@@ -83,6 +85,8 @@ injections_are_read Two id node (injections.ConverterStation target_q) valid sma
 injections_are_read Three id node (injections.ConverterStation target_q) valid small fits known = cc
 injections_are_read Four id node (injections.ConverterStation target_q) valid small fits known =
     rw (valid, lt-ltb node (2 ^ 63) small, whole_read target_q fits) refl
+injections_are_read Five id node (injections.ConverterStation target_q) valid small fits known =
+    rw (valid, lt-ltb node (2 ^ 63) small, whole_read target_q fits) refl
 
 busbars_from : (n : ℕ) (placed : List Placed) → AllByRecursion (λ p. IsReadableBusbar p.terminal.equipment p.node p.stand) placed
     → items_at busbar_at n (items_of (flat_map (λ p. busbar_of p.terminal.equipment p.node p.stand) placed)) ≡ Ok (flat_map (λ p. busbar_draft_of p.terminal.equipment p.node p.stand) placed)
@@ -118,60 +122,86 @@ injections_from format n (p ∷ placed) fit known =
     by (Feeder read) here known again = rw (injections_are_read format p.terminal.equipment p.node read here.0 here.1 here.2 known, again (suc n)) refl
     by BranchEnd here known again = again n
 
-level_read : (format : Format) (l : VoltageLevel) (low high : Option ℤ) → l.low_v ≡ low → l.high_v ≡ high → IfSome low IsWhole → IfSome high IsWhole → IsReadableLevel l
+members_read : (format : Format) (l : VoltageLevel) (low high : Option ℤ) → l.low_v ≡ low → l.high_v ≡ high → IfSome low IsWhole → IfSome high IsWhole → IsReadableLevel l
     → AllByRecursion (λ p. IsReadableBusbar p.terminal.equipment p.node p.stand) l.placed → AllByRecursion IsReadableSwitch l.switches → AllByRecursion IsReadableInternal l.internals
-    → AllByRecursion (λ p. IsReadableInjection p.terminal.equipment p.node p.stand) l.placed → list_any (late format) l.placed ≡ false → level_at format (level_value l) ≡ Ok (level_draft l)
-unfolding level_at level_value busbars_value injections_value members_from
-level_read format l None None is1 is2 low high fits busbars switches internals injections known =
+    → AllByRecursion (λ p. IsReadableInjection p.terminal.equipment p.node p.stand) l.placed → list_any (late format) l.placed ≡ false → level_members_at format (level_value l) ≡ Ok (level_draft l)
+unfolding level_members_at level_value busbars_value injections_value members_from
+members_read format l None None is1 is2 low high fits busbars switches internals injections known =
     rw (is1, is2, fits.id, whole_read l.nominal_v fits.nominal, busbars_from 0 l.placed busbars, switches_from format 0 l.switches switches, internals_from 0 l.internals internals, injections_from format 0 l.placed injections known) refl
-level_read format l (Some a) None is1 is2 low high fits busbars switches internals injections known =
+members_read format l (Some a) None is1 is2 low high fits busbars switches internals injections known =
     rw (is1, is2, fits.id, whole_read l.nominal_v fits.nominal, whole_read a low, busbars_from 0 l.placed busbars, switches_from format 0 l.switches switches, internals_from 0 l.internals internals, injections_from format 0 l.placed injections known) refl
-level_read format l None (Some b) is1 is2 low high fits busbars switches internals injections known =
+members_read format l None (Some b) is1 is2 low high fits busbars switches internals injections known =
     rw (is1, is2, fits.id, whole_read l.nominal_v fits.nominal, whole_read b high, busbars_from 0 l.placed busbars, switches_from format 0 l.switches switches, internals_from 0 l.internals internals, injections_from format 0 l.placed injections known) refl
-level_read format l (Some a) (Some b) is1 is2 low high fits busbars switches internals injections known =
+members_read format l (Some a) (Some b) is1 is2 low high fits busbars switches internals injections known =
     rw (is1, is2, fits.id, whole_read l.nominal_v fits.nominal, whole_read a low, whole_read b high, busbars_from 0 l.placed busbars, switches_from format 0 l.switches switches, internals_from 0 l.internals internals, injections_from format 0 l.placed injections known) refl
+
+-- a level has no word of how its parts are joined, so it is read as one of nodes
+nodes_read : (format : Format) (l : VoltageLevel) (low high : Option ℤ) → l.low_v ≡ low → l.high_v ≡ high → level_members_at format (level_value l) ≡ Ok (level_draft l)
+    → any_level_at format (level_value l) ≡ Ok (drafts.Nodes (level_draft l))
+unfolding any_level_at either_level_at level_by level_at level_value members_from
+nodes_read format l low high is1 is2 read = by (has_buses format) low high refl is1 is2
+  where
+    by : (t : Bool) (low high : Option ℤ) → has_buses format ≡ t → l.low_v ≡ low → l.high_v ≡ high → any_level_at format (level_value l) ≡ Ok (drafts.Nodes (level_draft l))
+    by true None None five is1 is2 = let read = rw (is1, is2) at read in rw (five, is1, is2, read) refl
+    by true (Some a) None five is1 is2 = let read = rw (is1, is2) at read in rw (five, is1, is2, read) refl
+    by true None (Some b) five is1 is2 = let read = rw (is1, is2) at read in rw (five, is1, is2, read) refl
+    by true (Some a) (Some b) five is1 is2 = let read = rw (is1, is2) at read in rw (five, is1, is2, read) refl
+    by false None None older is1 is2 = let read = rw (is1, is2) at read in rw (older, is1, is2, read) refl
+    by false (Some a) None older is1 is2 = let read = rw (is1, is2) at read in rw (older, is1, is2, read) refl
+    by false None (Some b) older is1 is2 = let read = rw (is1, is2) at read in rw (older, is1, is2, read) refl
+    by false (Some a) (Some b) older is1 is2 = let read = rw (is1, is2) at read in rw (older, is1, is2, read) refl
 
 pub levels_are_read : LevelsAreRead
 unfolding level_needs
 levels_are_read format l fits known =
-    level_read format l l.low_v l.high_v refl refl fits.low fits.high fits
+    nodes_read format l l.low_v l.high_v refl refl (
+    members_read format l l.low_v l.high_v refl refl fits.low fits.high fits
     (each_of (λ p. IsReadableBusbar p.terminal.equipment p.node p.stand) l.placed fits.busbars)
     (each_of IsReadableSwitch l.switches fits.switches)
     (each_of IsReadableInternal l.internals fits.internals)
     (each_of (λ p. IsReadableInjection p.terminal.equipment p.node p.stand) l.placed fits.injections)
-    known
+    known)
 
 pub ends_are_read : EndsAreRead
 unfolding end_at end_value members_from
 ends_are_read e fits = rw (fits.0, whole_read e.node fits.1) refl
 
+-- an end has no bus, so it is read as one by node
+pub end_drafts_are_read : EndDraftsAreRead
+unfolding end_draft_at either_end_at end_value members_from
+end_drafts_are_read format e fits = by (has_buses format) refl
+  where
+    by : (t : Bool) → has_buses format ≡ t → end_draft_at format (end_value e) ≡ Ok (ends.Node e)
+    by true five = rw (five, ends_are_read e fits) refl
+    by false older = rw (older, ends_are_read e fits) refl
+
 -- ---- branches
 
 two_read : (format : Format) (id home : List ℕ) (end1 end2 : End) (rated_u1 rated_u2 : ℤ) → IsId id → IsReadableShape (TwoWindings home end1 end2 rated_u1 rated_u2)
     → transformer_at format (branch_value id (TwoWindings home end1 end2 rated_u1 rated_u2))
-    ≡ Ok (record { id = id; windings = windings.Two (record { first = end1; second = end2 }) (record { first = rated_u1; second = rated_u2 }) })
+    ≡ Ok (record { id = id; windings = windings.Two (record { first = ends.Node end1; second = ends.Node end2 }) (record { first = rated_u1; second = rated_u2 }) })
 unfolding transformer_at windings_at two_of both branch_value members_from
 two_read format id home end1 end2 rated_u1 rated_u2 valid fits =
-    rw (valid, ends_are_read end1 fits.0, ends_are_read end2 fits.1.0, whole_read rated_u1 fits.1.1.0, whole_read rated_u2 fits.1.1.1) refl
+    rw (valid, end_drafts_are_read format end1 fits.0, end_drafts_are_read format end2 fits.1.0, whole_read rated_u1 fits.1.1.0, whole_read rated_u2 fits.1.1.1) refl
 
 three_read : (format : Format) (id home : List ℕ) (end1 end2 end3 : End) (rated_u1 rated_u2 rated_u3 : ℤ) → IsId id → IsReadableShape (ThreeWindings home end1 end2 end3 rated_u1 rated_u2 rated_u3)
     → transformer_at format (branch_value id (ThreeWindings home end1 end2 end3 rated_u1 rated_u2 rated_u3))
-    ≡ Ok (record { id = id; windings = windings.Three (record { first = end1; second = end2; third = end3 }) (record { first = rated_u1; second = rated_u2; third = rated_u3 }) })
+    ≡ Ok (record { id = id; windings = windings.Three (record { first = ends.Node end1; second = ends.Node end2; third = ends.Node end3 }) (record { first = rated_u1; second = rated_u2; third = rated_u3 }) })
 unfolding transformer_at windings_at three_of all_three branch_value members_from
 three_read format id home end1 end2 end3 rated_u1 rated_u2 rated_u3 valid fits =
     rw (
       valid,
-      ends_are_read end1 fits.0,
-      ends_are_read end2 fits.1.0,
-      ends_are_read end3 fits.1.1.0,
+      end_drafts_are_read format end1 fits.0,
+      end_drafts_are_read format end2 fits.1.0,
+      end_drafts_are_read format end3 fits.1.1.0,
       whole_read rated_u1 fits.1.1.1.0,
       whole_read rated_u2 fits.1.1.1.1.0,
       whole_read rated_u3 fits.1.1.1.1.1,
     ) refl
 
-line_read : (id : List ℕ) (end1 end2 : End) → IsId id → IsReadableEnd end1 → IsReadableEnd end2 → line_at (branch_value id (Line end1 end2)) ≡ Ok (record { id = id; ends = record { first = end1; second = end2 } })
+line_read : (format : Format) (id : List ℕ) (end1 end2 : End) → IsId id → IsReadableEnd end1 → IsReadableEnd end2 → line_at format (branch_value id (Line end1 end2)) ≡ Ok (record { id = id; ends = record { first = ends.Node end1; second = ends.Node end2 } })
 unfolding line_at two_of both branch_value members_from
-line_read id end1 end2 valid fit1 fit2 = rw (valid, ends_are_read end1 fit1, ends_are_read end2 fit2) refl
+line_read format id end1 end2 valid fit1 fit2 = rw (valid, end_drafts_are_read format end1 fit1, end_drafts_are_read format end2 fit2) refl
 
 transformers_from : (format : Format) (n : ℕ) (bs : List NamedBranch) → AllByRecursion IsReadableBranch bs → AllByRecursion (λ b. IsTransformer b.shape) bs
     → items_at (transformer_at format) n (items_of (map named_branch_value bs)) ≡ Ok (flat_map (λ b. transformer_draft_of b.id b.shape) bs)
@@ -185,20 +215,20 @@ transformers_from format n (b ∷ bs) fit kinds = by b.shape fit.0.1 kinds.0 (tr
     by (TwoWindings home end1 end2 rated_u1 rated_u2) fits kind again = rw (two_read format b.id home end1 end2 rated_u1 rated_u2 fit.0.0 fits, again) refl
     by (ThreeWindings home end1 end2 end3 rated_u1 rated_u2 rated_u3) fits kind again = rw (three_read format b.id home end1 end2 end3 rated_u1 rated_u2 rated_u3 fit.0.0 fits, again) refl
 
-lines_from : (n : ℕ) (bs : List NamedBranch) → AllByRecursion IsReadableBranch bs → AllByRecursion (λ b. IsLine b.shape) bs → items_at line_at n (items_of (map named_branch_value bs)) ≡ Ok (flat_map (λ b. line_draft_of b.id b.shape) bs)
+lines_from : (format : Format) (n : ℕ) (bs : List NamedBranch) → AllByRecursion IsReadableBranch bs → AllByRecursion (λ b. IsLine b.shape) bs → items_at (line_at format) n (items_of (map named_branch_value bs)) ≡ Ok (flat_map (λ b. line_draft_of b.id b.shape) bs)
 unfolding items_at
-lines_from n [] fit kinds = refl
-lines_from n (b ∷ bs) fit kinds = by b.shape fit.0.1 kinds.0 (lines_from (suc n) bs fit.1 kinds.1)
+lines_from format n [] fit kinds = refl
+lines_from format n (b ∷ bs) fit kinds = by b.shape fit.0.1 kinds.0 (lines_from format (suc n) bs fit.1 kinds.1)
   where
-    by : (shape : Branch) → IsReadableShape shape → IsLine shape → items_at line_at (suc n) (items_of (map named_branch_value bs)) ≡ Ok (flat_map (λ b. line_draft_of b.id b.shape) bs)
-        → items_at line_at n (items_of (branch_value b.id shape ∷ map named_branch_value bs)) ≡ Ok (line_draft_of b.id shape ++ flat_map (λ b. line_draft_of b.id b.shape) bs)
-    by (Line end1 end2) fits kind again = rw (line_read b.id end1 end2 fit.0.0 fits.0 fits.1, again) refl
+    by : (shape : Branch) → IsReadableShape shape → IsLine shape → items_at (line_at format) (suc n) (items_of (map named_branch_value bs)) ≡ Ok (flat_map (λ b. line_draft_of b.id b.shape) bs)
+        → items_at (line_at format) n (items_of (branch_value b.id shape ∷ map named_branch_value bs)) ≡ Ok (line_draft_of b.id shape ++ flat_map (λ b. line_draft_of b.id b.shape) bs)
+    by (Line end1 end2) fits kind again = rw (line_read format b.id end1 end2 fit.0.0 fits.0 fits.1, again) refl
     by (TwoWindings home end1 end2 rated_u1 rated_u2) fits kind again = absurd kind
     by (ThreeWindings home end1 end2 end3 rated_u1 rated_u2 rated_u3) fits kind again = absurd kind
 
 -- ---- networks
 
-levels_from : (format : Format) (n : ℕ) (ls : List VoltageLevel) → AllByRecursion IsReadableLevel ls → list_any (level_needs (suc (number_of format))) ls ≡ false → items_at (level_at format) n (items_of (map level_value ls)) ≡ Ok (map level_draft ls)
+levels_from : (format : Format) (n : ℕ) (ls : List VoltageLevel) → AllByRecursion IsReadableLevel ls → list_any (level_needs (suc (number_of format))) ls ≡ false → items_at (any_level_at format) n (items_of (map level_value ls)) ≡ Ok (map (λ l. drafts.Nodes (level_draft l)) ls)
 unfolding items_at
 levels_from format n [] fit known = refl
 levels_from format n (l ∷ ls) fit known =
@@ -227,10 +257,10 @@ networks_are_read format net fits known =
     rw (
       fits.id,
       substations_from format 0 net.substations (each_of IsReadableSubstation net.substations fits.substations) (sym (any-flat_map (level_needs (suc (number_of format))) (λ (s : Substation). s.levels) net.substations) ∙ known),
-      lines_from 0 net.lines (each_of IsReadableBranch net.lines fits.lines) (each_of (λ b. IsLine b.shape) net.lines fits.are_lines),
+      lines_from format 0 net.lines (each_of IsReadableBranch net.lines fits.lines) (each_of (λ b. IsLine b.shape) net.lines fits.are_lines),
     ) refl
 
--- nothing came with a fifth format
+-- no injection came with the fifth format
 no_fifth : (item : Injection) → nat_le 5 (item_format item) ≡ false
 unfolding item_format
 no_fifth (injections.Load p0 q0) = refl

@@ -13,13 +13,14 @@ use Rattle.grid_structure.specs.Sites.{levels}
 use Rattle.grid_requests.specs.declared.request.Request.{Request}
 use Rattle.grid_requests.specs.declared.request.Request.TheVariants as requests
 use Rattle.grid_json.specs.declared.format.Format.{Format}
-use Rattle.grid_json.specs.declared.format.Format.TheVariants.{One, Two, Three, Four}
+use Rattle.grid_json.specs.declared.format.Format.TheVariants.{One, Two, Three, Four, Five}
 
 abbrev pub number_of : Format → ℕ
 number_of One = 1
 number_of Two = 2
 number_of Three = 3
 number_of Four = 4
+number_of Five = 5
 
 -- the format that a kind of injections came with
 unfoldable pub item_format : Injection → ℕ

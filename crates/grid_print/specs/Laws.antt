@@ -17,6 +17,8 @@ use Rattle.grid_json.specs.declared.format.Format.{Format}
 use Rattle.grid_json.specs.declared.network.BusbarDraft.{BusbarDraft}
 use Rattle.grid_json.specs.declared.network.InjectionDraft.{InjectionDraft}
 use Rattle.grid_json.specs.declared.network.LevelDraft.{LevelDraft}
+use Rattle.grid_json.specs.declared.network.AnyLevelDraft.TheVariants as levels
+use Rattle.grid_json.specs.declared.buses.EndDraft.TheVariants as ends
 use Rattle.grid_json.specs.declared.network.TransformerDraft.{TransformerDraft}
 use Rattle.grid_json.specs.declared.network.Windings.TheVariants as windings
 use Rattle.grid_json.specs.declared.network.LineDraft.{LineDraft}
@@ -26,7 +28,7 @@ use Rattle.grid_json.specs.declared.network.SwitchDraft.{SwitchDraft}
 use Rattle.grid_json.specs.declared.network.InternalDraft.{InternalDraft}
 use Rattle.grid_json.specs.declared.job.JobDraft.{JobDraft}
 use Rattle.grid_json.specs.Reading.{array_at}
-use Rattle.grid_json.specs.Network.{busbar_at, switch_at, internal_at, injection_at, level_at, end_at, network_at}
+use Rattle.grid_json.specs.Network.{busbar_at, switch_at, internal_at, injection_at, any_level_at, end_at, end_draft_at, network_at}
 use Rattle.grid_json.specs.Job.{draft_at}
 use Rattle.grid_print.specs.Objects.{array_of}
 use Rattle.grid_print.specs.Network.{busbar_value, switch_value, internal_value, injection_value, level_value, end_value, network_value}
@@ -81,32 +83,36 @@ level_draft l = record {
   injections = flat_map (λ p. injection_draft_of p.terminal.equipment p.node p.stand) l.placed;
 }
 
--- a level with its parts
+-- a level with its parts, as one of nodes
 abbrev pub LevelsAreRead : Type 0
-LevelsAreRead = (format : Format) (l : VoltageLevel) → IsReadableLevel l → HasWordsOf format l → level_at format (level_value l) ≡ Ok (level_draft l)
+LevelsAreRead = (format : Format) (l : VoltageLevel) → IsReadableLevel l → HasWordsOf format l → any_level_at format (level_value l) ≡ Ok (levels.Nodes (level_draft l))
 
 -- ---- branches
 
--- an end of a branch
+-- an end of a branch that an edit adds
 abbrev pub EndsAreRead : Type 0
 EndsAreRead = (e : End) → IsReadableEnd e → end_at (end_value e) ≡ Ok e
+
+-- an end of a network's branch, as one by node
+abbrev pub EndDraftsAreRead : Type 0
+EndDraftsAreRead = (format : Format) (e : End) → IsReadableEnd e → end_draft_at format (end_value e) ≡ Ok (ends.Node e)
 
 abbrev pub transformer_draft_of : List ℕ → Branch → List TransformerDraft
 transformer_draft_of id (Line end1 end2) = []
 transformer_draft_of id (TwoWindings substation end1 end2 rated_u1 rated_u2) =
-    record { id = id; windings = windings.Two (record { first = end1; second = end2 }) (record { first = rated_u1; second = rated_u2 }) } ∷ []
+    record { id = id; windings = windings.Two (record { first = ends.Node end1; second = ends.Node end2 }) (record { first = rated_u1; second = rated_u2 }) } ∷ []
 transformer_draft_of id (ThreeWindings substation end1 end2 end3 rated_u1 rated_u2 rated_u3) =
-    record { id = id; windings = windings.Three (record { first = end1; second = end2; third = end3 }) (record { first = rated_u1; second = rated_u2; third = rated_u3 }) } ∷ []
+    record { id = id; windings = windings.Three (record { first = ends.Node end1; second = ends.Node end2; third = ends.Node end3 }) (record { first = rated_u1; second = rated_u2; third = rated_u3 }) } ∷ []
 
 abbrev pub line_draft_of : List ℕ → Branch → List LineDraft
-line_draft_of id (Line end1 end2) = record { id = id; ends = record { first = end1; second = end2 } } ∷ []
+line_draft_of id (Line end1 end2) = record { id = id; ends = record { first = ends.Node end1; second = ends.Node end2 } } ∷ []
 line_draft_of id (TwoWindings substation end1 end2 rated_u1 rated_u2) = []
 line_draft_of id (ThreeWindings substation end1 end2 end3 rated_u1 rated_u2 rated_u3) = []
 
 -- ---- networks
 
 abbrev pub substation_draft : Substation → SubstationDraft
-substation_draft s = record { id = s.id; levels = map level_draft s.levels; transformers = flat_map (λ b. transformer_draft_of b.id b.shape) s.transformers }
+substation_draft s = record { id = s.id; levels = map (λ l. levels.Nodes (level_draft l)) s.levels; transformers = flat_map (λ b. transformer_draft_of b.id b.shape) s.transformers }
 
 -- what a network is before it is loaded
 abbrev pub network_draft : Network → NetworkDraft

@@ -13,7 +13,7 @@ use Rattle.grid_structure.specs.declared.Edit.TheVariants as edits
 use Rattle.grid_requests.specs.declared.request.Request.{Request}
 use Rattle.grid_requests.specs.declared.request.Request.TheVariants as requests
 use Rattle.grid_json.specs.declared.format.Format.{Format}
-use Rattle.grid_json.specs.declared.format.Format.TheVariants.{One, Two, Three, Four}
+use Rattle.grid_json.specs.declared.format.Format.TheVariants.{One, Two, Three, Four, Five}
 use Rattle.grid_json.specs.declared.command.EditVerb.{EditVerb}
 use Rattle.grid_json.specs.declared.command.EditVerb.TheVariants as edit_verbs
 use Rattle.grid_json.specs.declared.command.Verb.{Verb}
@@ -36,37 +36,37 @@ abbrev IsOld : Verb → Type 0
 IsOld verb = (format : Format) → known_verb format verb ≡ Ok verb
 
 old_use : IsOld verbs.Use
-old_use = each_format (λ f. known_verb f verbs.Use ≡ Ok verbs.Use) refl refl refl refl
+old_use = each_format (λ f. known_verb f verbs.Use ≡ Ok verbs.Use) refl refl refl refl refl
 
 old_remove : IsOld verbs.Remove
-old_remove = each_format (λ f. known_verb f verbs.Remove ≡ Ok verbs.Remove) refl refl refl refl
+old_remove = each_format (λ f. known_verb f verbs.Remove ≡ Ok verbs.Remove) refl refl refl refl refl
 
 old_open : IsOld verbs.Open
-old_open = each_format (λ f. known_verb f verbs.Open ≡ Ok verbs.Open) refl refl refl refl
+old_open = each_format (λ f. known_verb f verbs.Open ≡ Ok verbs.Open) refl refl refl refl refl
 
 old_close : IsOld verbs.Close
-old_close = each_format (λ f. known_verb f verbs.Close ≡ Ok verbs.Close) refl refl refl refl
+old_close = each_format (λ f. known_verb f verbs.Close ≡ Ok verbs.Close) refl refl refl refl refl
 
 old_connect : IsOld verbs.Connect
-old_connect = each_format (λ f. known_verb f verbs.Connect ≡ Ok verbs.Connect) refl refl refl refl
+old_connect = each_format (λ f. known_verb f verbs.Connect ≡ Ok verbs.Connect) refl refl refl refl refl
 
 old_disconnect : IsOld verbs.Disconnect
-old_disconnect = each_format (λ f. known_verb f verbs.Disconnect ≡ Ok verbs.Disconnect) refl refl refl refl
+old_disconnect = each_format (λ f. known_verb f verbs.Disconnect ≡ Ok verbs.Disconnect) refl refl refl refl refl
 
 old_bus_breaker_view : IsOld verbs.BusBreakerView
-old_bus_breaker_view = each_format (λ f. known_verb f verbs.BusBreakerView ≡ Ok verbs.BusBreakerView) refl refl refl refl
+old_bus_breaker_view = each_format (λ f. known_verb f verbs.BusBreakerView ≡ Ok verbs.BusBreakerView) refl refl refl refl refl
 
 old_bus_view : IsOld verbs.BusView
-old_bus_view = each_format (λ f. known_verb f verbs.BusView ≡ Ok verbs.BusView) refl refl refl refl
+old_bus_view = each_format (λ f. known_verb f verbs.BusView ≡ Ok verbs.BusView) refl refl refl refl refl
 
 old_components : IsOld verbs.Components
-old_components = each_format (λ f. known_verb f verbs.Components ≡ Ok verbs.Components) refl refl refl refl
+old_components = each_format (λ f. known_verb f verbs.Components ≡ Ok verbs.Components) refl refl refl refl refl
 
 old_clone : IsOld verbs.Clone
-old_clone = each_format (λ f. known_verb f verbs.Clone ≡ Ok verbs.Clone) refl refl refl refl
+old_clone = each_format (λ f. known_verb f verbs.Clone ≡ Ok verbs.Clone) refl refl refl refl refl
 
 old_edit : (edit : EditVerb) → IsOld (verbs.Change edit)
-old_edit edit = each_format (λ f. known_verb f (verbs.Change edit) ≡ Ok (verbs.Change edit)) refl refl refl refl
+old_edit edit = each_format (λ f. known_verb f (verbs.Change edit) ≡ Ok (verbs.Change edit)) refl refl refl refl refl
 
 -- ---- edits
 
@@ -132,6 +132,7 @@ add_injection_back One id level node (injections.ConverterStation target_q) ids 
 add_injection_back Two id level node (injections.ConverterStation target_q) ids fit known = cc
 add_injection_back Three id level node (injections.ConverterStation target_q) ids fit known = cc
 add_injection_back Four id level node (injections.ConverterStation target_q) ids fit known = rw (ids.0, ids.1.0, whole_back node fit.0, whole_back target_q fit.1.0) refl
+add_injection_back Five id level node (injections.ConverterStation target_q) ids fit known = rw (ids.0, ids.1.0, whole_back node fit.0, whole_back target_q fit.1.0) refl
 
 add_branch_back : (format : Format) (id : List ℕ) (shape : Branch) → AreIds (id ∷ shape_ids shape) → AreNumbers (shape_numbers shape) → IsEditBack format (edits.AddBranch id shape)
 unfolding command_at request_at edit_at add_branch_at shape_at two_of both three_of all_three edit_value add_branch_value members_from
@@ -184,6 +185,7 @@ retain_back One id retained valid known = cc
 retain_back Two id retained valid known = rw valid refl
 retain_back Three id retained valid known = rw valid refl
 retain_back Four id retained valid known = rw valid refl
+retain_back Five id retained valid known = rw valid refl
 
 set_power_back : (format : Format) (id : List ℕ) (watts : ℤ) → IsId id → IsWhole watts → IsKnownIn format (requests.SetPower id watts) → IsBack format (requests.SetPower id watts)
 unfolding command_at request_at set_power_at first_format request_value members_from
@@ -191,6 +193,7 @@ set_power_back One id watts valid small known = cc
 set_power_back Two id watts valid small known = cc
 set_power_back Three id watts valid small known = rw (valid, whole_back watts small) refl
 set_power_back Four id watts valid small known = rw (valid, whole_back watts small) refl
+set_power_back Five id watts valid small known = rw (valid, whole_back watts small) refl
 
 totals_back : (format : Format) → IsKnownIn format requests.Totals → IsBack format requests.Totals
 unfolding command_at request_at first_format request_value members_from
@@ -198,6 +201,7 @@ totals_back One known = cc
 totals_back Two known = cc
 totals_back Three known = refl
 totals_back Four known = refl
+totals_back Five known = refl
 
 -- ---- commands
 

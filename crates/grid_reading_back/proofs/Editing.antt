@@ -1,7 +1,8 @@
 -- Edits whose ids and numbers keep a rule leave a network whose ids and numbers keep it.
-use Rattle.std.proofs.Common.{◌≡◌, ◌+◌, ℕ, ℤ, pos, negsuc, Bool, true, false, cond, not, List, [], ◌∷◌, ◌++◌, Option, Some, None, map, length, Result, Ok, Err, ap, ◌∙◌, subst}
+use Rattle.std.proofs.Common.{◌≡◌, ◌+◌, ◌≤◌, ℕ, ℤ, pos, negsuc, Bool, true, false, cond, not, List, [], ◌∷◌, ◌++◌, Option, Some, None, map, length, Result, Ok, Err, refl, ap, ◌∙◌, subst}
 use Rattle.std.specs.Prelude.{IfSome, find, nat_le, nat_lt}
 use Rattle.std.specs.List.{AllByRecursion, flat_map}
+use Rattle.std.proofs.lemmas.Bool.{leb-true}
 use Rattle.grid_ids.specs.Name.{same_id}
 use Rattle.grid_ids.specs.Refusing.{refuse_if, refuse_by, found_or, map_fault}
 use Rattle.grid_kinds.specs.Records.{level_fault, injection_fault}
@@ -28,7 +29,7 @@ use Rattle.grid_structure.specs.Sites.{levels, switches, level_named, substation
 use Rattle.grid_structure.specs.Editing.{edit_fault, max_levels, max_switches, substation_with_levels, with_levels, with_level, with_substation, in_home, place_end, place_ends, refuse_home, with_branch, apply}
 use Rattle.grid_structure.proofs.OneLevel.{found}
 use Rattle.grid_reading_back.specs.Requests.{item_numbers, shape_ids, shape_numbers}
-use Rattle.grid_reading_back.proofs.Networks.{SwitchKeeps, InternalKeeps, StandKeeps, PlacedKeeps, LevelKeeps, BranchKeeps, SubstationKeeps, NetworkKeeps}
+use Rattle.grid_reading_back.proofs.Networks.{SwitchKeeps, InternalKeeps, StandKeeps, PlacedKeeps, LevelKeeps, BranchKeeps, SubstationKeeps, NetworkKeeps, rated_numbers}
 
 -- ---- lists
 
@@ -50,13 +51,13 @@ found_keeps {A} R t (y ∷ xs) x is all = by (t y) is (λ e. found_keeps R t xs 
 
 -- ---- nodes
 
-node_is : (z : ℤ) (n : ℕ) → node_of z ≡ Ok n → z ≡ pos n
+node_is : (z : ℤ) (n : ℕ) → node_of z ≡ Ok n → (z ≡ pos n) × (n ≤ max_node)
 unfolding node_of
-node_is (pos k) n h = by (nat_le k max_node) h
+node_is (pos k) n h = by (nat_le k max_node) refl h
   where
-    by : (t : Bool) → ◌≡◌ {A = Result ℕ Unfit} (cond t (Ok k) (Err (node_range (pos k)))) (Ok n) → pos k ≡ pos n
-    by true e = let same : k ≡ n = cc in ap pos same
-    by false e = cc
+    by : (t : Bool) → nat_le k max_node ≡ t → ◌≡◌ {A = Result ℕ Unfit} (cond t (Ok k) (Err (node_range (pos k)))) (Ok n) → (pos k ≡ pos n) × (n ≤ max_node)
+    by true low e = let same : k ≡ n = cc in (ap pos same, rw (← same) (leb-true k max_node low))
+    by false low e = cc
 node_is (negsuc k) n h = cc
 
 -- a refusal told otherwise
@@ -64,9 +65,16 @@ unwrapped : (r : Result VoltageLevel Unfit) (l : VoltageLevel) → map_fault edi
 unwrapped (Ok m) l is = cc
 unwrapped (Err fault) l is = cc
 
+-- the levels of substations that keep the rules
 module _ (P : List ℕ → Type 0) (Q : ℤ → Type 0) where
-  node_keeps : (z : ℤ) (n : ℕ) → node_of z ≡ Ok n → Q z → Q (pos n)
-  node_keeps z n is fits = subst Q (node_is z n is) fits
+  pub levels_keep : (ss : List Substation) → AllByRecursion (SubstationKeeps P Q) ss → AllByRecursion (LevelKeeps P Q) (flat_map (λ s. s.levels) ss)
+  levels_keep [] all = tt
+  levels_keep (s ∷ ss) all = join (LevelKeeps P Q) s.levels (flat_map (λ t. t.levels) ss) all.0.levels (levels_keep ss all.1)
+
+-- a rule of ids, and one of numbers that the numbers of nodes keep
+module _ (P : List ℕ → Type 0) (Q : ℤ → Type 0) (low : (n : ℕ) → n ≤ max_node → Q (pos n)) where
+  node_keeps : (z : ℤ) (n : ℕ) → node_of z ≡ Ok n → Q (pos n)
+  node_keeps z n is = low n (node_is z n is).1
 
   -- ---- one level
 
@@ -79,16 +87,16 @@ module _ (P : List ℕ → Type 0) (Q : ℤ → Type 0) where
       by true later = (all.0, later)
       by false later = (fits, all)
 
-  terminal_keeps : (old new : VoltageLevel) (node : ℤ) (terminal : Terminal) (stand : Stand) → level_with_terminal old node terminal stand ≡ Ok new → P terminal.equipment → Q node → StandKeeps P Q stand
+  terminal_keeps : (old new : VoltageLevel) (node : ℤ) (terminal : Terminal) (stand : Stand) → level_with_terminal old node terminal stand ≡ Ok new → P terminal.equipment → StandKeeps P Q stand
       → LevelKeeps P Q old → LevelKeeps P Q new
   unfolding level_with_terminal terminal_fits
-  terminal_keeps old new node terminal stand is id fits item keeps =
+  terminal_keeps old new node terminal stand is id item keeps =
       let a = went (terminal_fits old node) _ new is in
       let b = went (node_of node) _ a.value a.is in
       let c = went (refuse_taken (placed_at old b.value)) _ a.value b.next in
       let d = went (refuse_if (nat_lt max_nodes (length (with_node b.value (nodes old)))) too_many_nodes) _ a.value c.next in
       let same_node : b.value ≡ a.value = cc (d.next) in
-      let number : Q (pos a.value) = node_keeps node a.value (b.is ∙ ap Ok same_node) fits in
+      let number : Q (pos a.value) = node_keeps node a.value (b.is ∙ ap Ok same_node) in
       let placed : Placed = record { node = a.value; terminal = terminal; stand = stand } in
       let made : VoltageLevel = record old { placed = with_placed placed old.placed } in
       let same : made ≡ new = cc (a.next) in
@@ -104,9 +112,9 @@ module _ (P : List ℕ → Type 0) (Q : ℤ → Type 0) where
       subst (LevelKeeps P Q) same kept
 
   switch_keeps : (old new : VoltageLevel) (id : List ℕ) (kind : SwitchKind) (node1 node2 : ℤ) (opened retained fictitious : Bool) → level_with_switch old id kind node1 node2 opened retained fictitious ≡ Ok new
-      → P id → Q node1 → Q node2 → LevelKeeps P Q old → LevelKeeps P Q new
+      → P id → LevelKeeps P Q old → LevelKeeps P Q new
   unfolding level_with_switch
-  switch_keeps old new id kind node1 node2 opened retained fictitious is valid fits1 fits2 keeps =
+  switch_keeps old new id kind node1 node2 opened retained fictitious is valid keeps =
       let a = went (edge_fits old node1 node2) _ new is in
       let fit = fitting old node1 node2 a.value a.is in
       let switch : Switch = record { id = id; kind = kind; node1 = a.value.0; node2 = a.value.1; opened = opened; retained = retained; fictitious = fictitious } in
@@ -117,15 +125,15 @@ module _ (P : List ℕ → Type 0) (Q : ℤ → Type 0) where
         nominal = keeps.nominal;
         low = keeps.low;
         high = keeps.high;
-        switches = one_more (SwitchKeeps P Q) old.switches switch keeps.switches (valid, node_keeps node1 a.value.0 fit.first fits1, node_keeps node2 a.value.1 fit.second fits2);
+        switches = one_more (SwitchKeeps P Q) old.switches switch keeps.switches (valid, node_keeps node1 a.value.0 fit.first, node_keeps node2 a.value.1 fit.second);
         internals = keeps.internals;
         placed = keeps.placed;
       } in
       subst (LevelKeeps P Q) same kept
 
-  internal_keeps : (old new : VoltageLevel) (node1 node2 : ℤ) → level_with_internal old node1 node2 ≡ Ok new → Q node1 → Q node2 → LevelKeeps P Q old → LevelKeeps P Q new
+  internal_keeps : (old new : VoltageLevel) (node1 node2 : ℤ) → level_with_internal old node1 node2 ≡ Ok new → LevelKeeps P Q old → LevelKeeps P Q new
   unfolding level_with_internal
-  internal_keeps old new node1 node2 is fits1 fits2 keeps =
+  internal_keeps old new node1 node2 is keeps =
       let a = went (edge_fits old node1 node2) _ new is in
       let fit = fitting old node1 node2 a.value a.is in
       let internal : Internal = record { node1 = a.value.0; node2 = a.value.1 } in
@@ -137,7 +145,7 @@ module _ (P : List ℕ → Type 0) (Q : ℤ → Type 0) where
         low = keeps.low;
         high = keeps.high;
         switches = keeps.switches;
-        internals = one_more (InternalKeeps P Q) old.internals internal keeps.internals (node_keeps node1 a.value.0 fit.first fits1, node_keeps node2 a.value.1 fit.second fits2);
+        internals = one_more (InternalKeeps P Q) old.internals internal keeps.internals (node_keeps node1 a.value.0 fit.first, node_keeps node2 a.value.1 fit.second);
         placed = keeps.placed;
       } in
       subst (LevelKeeps P Q) same kept
@@ -163,13 +171,9 @@ module _ (P : List ℕ → Type 0) (Q : ℤ → Type 0) where
   unfolding with_level with_levels
   level_put new net fits keeps = record { id = keeps.id; substations = substations_changed new net.substations fits keeps.substations; lines = keeps.lines }
 
-  pub levels_keep : (ss : List Substation) → AllByRecursion (SubstationKeeps P Q) ss → AllByRecursion (LevelKeeps P Q) (flat_map (λ s. s.levels) ss)
-  levels_keep [] all = tt
-  levels_keep (s ∷ ss) all = join (LevelKeeps P Q) s.levels (flat_map (λ t. t.levels) ss) all.0.levels (levels_keep ss all.1)
-
   level_found : (net : Network) (id : List ℕ) (l : VoltageLevel) → found_or (level_named net id) faults.NoLevel ≡ Ok l → NetworkKeeps P Q net → LevelKeeps P Q l
   unfolding level_named levels
-  level_found net id l is keeps = found_keeps (LevelKeeps P Q) (λ m. same_id id m.id) (levels net) l (found _ _ _ is) (levels_keep net.substations keeps.substations)
+  level_found net id l is keeps = found_keeps (LevelKeeps P Q) (λ m. same_id id m.id) (levels net) l (found _ _ _ is) (levels_keep P Q net.substations keeps.substations)
 
   -- ---- a substation within a network
 
@@ -184,29 +188,42 @@ module _ (P : List ℕ → Type 0) (Q : ℤ → Type 0) where
 
   -- ---- the ends of a branch
 
-  end_keeps : (home : Option (List ℕ)) (id : List ℕ) (side : ℕ) (end : End) (net new : Network) → place_end home id side end net ≡ Ok new → P id → Q end.node → NetworkKeeps P Q net → NetworkKeeps P Q new
+  -- the node of a terminal that was placed
+  terminal_node : (old new : VoltageLevel) (node : ℤ) (terminal : Terminal) (stand : Stand) → level_with_terminal old node terminal stand ≡ Ok new → Q node
+  unfolding level_with_terminal terminal_fits
+  terminal_node old new node terminal stand is =
+      let a = went (terminal_fits old node) _ new is in
+      let b = went (node_of node) _ a.value a.is in
+      rw (node_is node b.value b.is).0 (node_keeps node b.value b.is)
+
+  end_keeps : (home : Option (List ℕ)) (id : List ℕ) (side : ℕ) (end : End) (net new : Network) → place_end home id side end net ≡ Ok new → P id → NetworkKeeps P Q net → Q end.node × NetworkKeeps P Q new
   unfolding place_end
-  end_keeps home id side end net new is valid fits keeps =
+  end_keeps home id side end net new is valid keeps =
       let a = went (found_or (level_named net end.level) faults.NoLevel) _ new is in
       let terminal : Terminal = record { equipment = id; side = side } in
       let b = went (refuse_if (not (in_home net home end.level)) (faults.OtherSubstation side)) _ new a.next in
       let c = went (map_fault edit_fault (level_with_terminal a.value end.node terminal BranchEnd)) _ new b.next in
-      let same : with_level c.value net ≡ new = cc (c.next) in
-      subst (NetworkKeeps P Q) same (level_put c.value net (terminal_keeps a.value c.value end.node terminal BranchEnd (unwrapped _ c.value c.is) valid fits tt (level_found net end.level a.value a.is keeps)) keeps)
+      let placed : level_with_terminal a.value end.node terminal BranchEnd ≡ Ok c.value = unwrapped _ c.value c.is in
+      let same : with_level c.value net ≡ new = cc (c.next) in (
+        terminal_node a.value c.value end.node terminal BranchEnd placed,
+        subst (NetworkKeeps P Q) same (level_put c.value net (terminal_keeps a.value c.value end.node terminal BranchEnd placed valid tt (level_found net end.level a.value a.is keeps)) keeps),
+      )
 
-  ends_keep : (home : Option (List ℕ)) (id : List ℕ) (side : ℕ) (ends : List End) (net new : Network) → place_ends home id side ends net ≡ Ok new → P id → AllByRecursion (λ e. Q e.node) ends
-      → NetworkKeeps P Q net → NetworkKeeps P Q new
+  ends_keep : (home : Option (List ℕ)) (id : List ℕ) (side : ℕ) (ends : List End) (net new : Network) → place_ends home id side ends net ≡ Ok new → P id → NetworkKeeps P Q net
+      → AllByRecursion (λ e. Q e.node) ends × NetworkKeeps P Q new
   unfolding place_ends
-  ends_keep home id side [] net new is valid fits keeps = let same : net ≡ new = cc in subst (NetworkKeeps P Q) same keeps
-  ends_keep home id side (end ∷ ends) net new is valid fits keeps =
+  ends_keep home id side [] net new is valid keeps = let same : net ≡ new = cc in (tt, subst (NetworkKeeps P Q) same keeps)
+  ends_keep home id side (end ∷ ends) net new is valid keeps =
       let a = went (place_end home id side end net) _ new is in
-      ends_keep home id (side + 1) ends a.value new a.next valid fits.1 (end_keeps home id side end net a.value a.is valid fits.0 keeps)
+      let here = end_keeps home id side end net a.value a.is valid keeps in
+      let later = ends_keep home id (side + 1) ends a.value new a.next valid here.1 in
+      ((here.0, later.0), later.1)
 
-  nodes_of : (shape : Branch) → AllByRecursion Q (shape_numbers shape) → AllByRecursion (λ e. Q e.node) (branch_ends shape)
+  numbers_of : (shape : Branch) → AllByRecursion (λ e. Q e.node) (branch_ends shape) → AllByRecursion Q (rated_numbers shape) → AllByRecursion Q (shape_numbers shape)
   unfolding branch_ends
-  nodes_of (Line end1 end2) fit = (fit.0, (fit.1.0, tt))
-  nodes_of (TwoWindings substation end1 end2 rated_u1 rated_u2) fit = (fit.0, (fit.1.0, tt))
-  nodes_of (ThreeWindings substation end1 end2 end3 rated_u1 rated_u2 rated_u3) fit = (fit.0, (fit.1.0, (fit.1.1.0, tt)))
+  numbers_of (Line end1 end2) ends rated = (ends.0, (ends.1.0, tt))
+  numbers_of (TwoWindings substation end1 end2 rated_u1 rated_u2) ends rated = (ends.0, (ends.1.0, rated))
+  numbers_of (ThreeWindings substation end1 end2 end3 rated_u1 rated_u2 rated_u3) ends rated = (ends.0, (ends.1.0, (ends.1.1.0, rated)))
 
   branch_put : (b : NamedBranch) (home : Option (List ℕ)) (net : Network) → BranchKeeps P Q b → NetworkKeeps P Q net → NetworkKeeps P Q (with_branch b home net)
   unfolding with_branch with_substation
@@ -221,9 +238,9 @@ module _ (P : List ℕ → Type 0) (Q : ℤ → Type 0) where
   -- ---- the edits
 
   single_keeps : (net : Network) (old new : VoltageLevel) (level id : List ℕ) (node : ℤ) (stand : Stand) → found_or (level_named net level) faults.NoLevel ≡ Ok old
-      → map_fault edit_fault (level_with_terminal old node (record { equipment = id; side = 1 }) stand) ≡ Ok new → P id → Q node → StandKeeps P Q stand → NetworkKeeps P Q net → NetworkKeeps P Q (with_level new net)
-  single_keeps net old new level id node stand there is valid fits item keeps =
-      level_put new net (terminal_keeps old new node (record { equipment = id; side = 1 }) stand (unwrapped _ new is) valid fits item (level_found net level old there keeps)) keeps
+      → map_fault edit_fault (level_with_terminal old node (record { equipment = id; side = 1 }) stand) ≡ Ok new → P id → StandKeeps P Q stand → NetworkKeeps P Q net → NetworkKeeps P Q (with_level new net)
+  single_keeps net old new level id node stand there is valid item keeps =
+      level_put new net (terminal_keeps old new node (record { equipment = id; side = 1 }) stand (unwrapped _ new is) valid item (level_found net level old there keeps)) keeps
 
   module _ (net new : Network) (keeps : NetworkKeeps P Q net) where
     pub substation_added : (id : List ℕ) → apply net (edits.AddSubstation id) ≡ Ok new → P id → NetworkKeeps P Q new
@@ -258,52 +275,52 @@ module _ (P : List ℕ → Type 0) (Q : ℤ → Type 0) where
         } in
         subst (NetworkKeeps P Q) same done
 
-    pub busbar_added : (id level : List ℕ) (node : ℤ) → apply net (edits.AddBusbar id level node) ≡ Ok new → P id → Q node → NetworkKeeps P Q new
+    pub busbar_added : (id level : List ℕ) (node : ℤ) → apply net (edits.AddBusbar id level node) ≡ Ok new → P id → NetworkKeeps P Q new
     unfolding apply
-    busbar_added id level node is valid fits =
+    busbar_added id level node is valid =
         let a = went (refuse_if (taken net id) faults.IdTaken) _ new is in
         let b = went (found_or (level_named net level) faults.NoLevel) _ new a.next in
         let c = went (map_fault edit_fault (level_with_terminal b.value node (record { equipment = id; side = 1 }) Busbar)) _ new b.next in
         let same : with_level c.value net ≡ new = cc (c.next) in
-        subst (NetworkKeeps P Q) same (single_keeps net b.value c.value level id node Busbar b.is c.is valid fits tt keeps)
+        subst (NetworkKeeps P Q) same (single_keeps net b.value c.value level id node Busbar b.is c.is valid tt keeps)
 
     pub switch_added : (id level : List ℕ) (kind : SwitchKind) (node1 node2 : ℤ) (opened retained fictitious : Bool) → apply net (edits.AddSwitch id level kind node1 node2 opened retained fictitious) ≡ Ok new
-        → P id → Q node1 → Q node2 → NetworkKeeps P Q new
+        → P id → NetworkKeeps P Q new
     unfolding apply
-    switch_added id level kind node1 node2 opened retained fictitious is valid fits1 fits2 =
+    switch_added id level kind node1 node2 opened retained fictitious is valid =
         let a = went (refuse_if (taken net id) faults.IdTaken) _ new is in
         let b = went (found_or (level_named net level) faults.NoLevel) _ new a.next in
         let c = went (refuse_if (nat_le max_switches (length (switches net))) faults.TooManySwitches) _ new b.next in
         let d = went (map_fault edit_fault (level_with_switch b.value id kind node1 node2 opened retained fictitious)) _ new c.next in
         let same : with_level d.value net ≡ new = cc (d.next) in
         subst (NetworkKeeps P Q) same
-        (level_put d.value net (switch_keeps b.value d.value id kind node1 node2 opened retained fictitious (unwrapped _ d.value d.is) valid fits1 fits2 (level_found net level b.value b.is keeps)) keeps)
+        (level_put d.value net (switch_keeps b.value d.value id kind node1 node2 opened retained fictitious (unwrapped _ d.value d.is) valid (level_found net level b.value b.is keeps)) keeps)
 
-    pub internal_added : (level : List ℕ) (node1 node2 : ℤ) → apply net (edits.AddInternal level node1 node2) ≡ Ok new → Q node1 → Q node2 → NetworkKeeps P Q new
+    pub internal_added : (level : List ℕ) (node1 node2 : ℤ) → apply net (edits.AddInternal level node1 node2) ≡ Ok new → NetworkKeeps P Q new
     unfolding apply
-    internal_added level node1 node2 is fits1 fits2 =
+    internal_added level node1 node2 is =
         let b = went (found_or (level_named net level) faults.NoLevel) _ new is in
         let c = went (map_fault edit_fault (level_with_internal b.value node1 node2)) _ new b.next in
         let same : with_level c.value net ≡ new = cc (c.next) in
-        subst (NetworkKeeps P Q) same (level_put c.value net (internal_keeps b.value c.value node1 node2 (unwrapped _ c.value c.is) fits1 fits2 (level_found net level b.value b.is keeps)) keeps)
+        subst (NetworkKeeps P Q) same (level_put c.value net (internal_keeps b.value c.value node1 node2 (unwrapped _ c.value c.is) (level_found net level b.value b.is keeps)) keeps)
 
-    pub injection_added : (id level : List ℕ) (node : ℤ) (item : Injection) → apply net (edits.AddInjection id level node item) ≡ Ok new → P id → Q node → AllByRecursion Q (item_numbers item) → NetworkKeeps P Q new
+    pub injection_added : (id level : List ℕ) (node : ℤ) (item : Injection) → apply net (edits.AddInjection id level node item) ≡ Ok new → P id → AllByRecursion Q (item_numbers item) → NetworkKeeps P Q new
     unfolding apply
-    injection_added id level node item is valid fits numbers =
+    injection_added id level node item is valid numbers =
         let a = went (refuse_if (taken net id) faults.IdTaken) _ new is in
         let b = went (found_or (level_named net level) faults.NoLevel) _ new a.next in
         let c = went (refuse_by faults.Check (injection_fault item)) _ new b.next in
         let d = went (map_fault edit_fault (level_with_terminal b.value node (record { equipment = id; side = 1 }) (Feeder item))) _ new c.next in
         let same : with_level d.value net ≡ new = cc (d.next) in
-        subst (NetworkKeeps P Q) same (single_keeps net b.value d.value level id node (Feeder item) b.is d.is valid fits numbers keeps)
+        subst (NetworkKeeps P Q) same (single_keeps net b.value d.value level id node (Feeder item) b.is d.is valid numbers keeps)
 
-    pub branch_added : (id : List ℕ) (shape : Branch) → apply net (edits.AddBranch id shape) ≡ Ok new → P id → AllByRecursion P (shape_ids shape) → AllByRecursion Q (shape_numbers shape) → NetworkKeeps P Q new
+    pub branch_added : (id : List ℕ) (shape : Branch) → apply net (edits.AddBranch id shape) ≡ Ok new → P id → AllByRecursion P (shape_ids shape) → AllByRecursion Q (rated_numbers shape) → NetworkKeeps P Q new
     unfolding apply
-    branch_added id shape is valid ids numbers =
+    branch_added id shape is valid ids rated =
         let a = went (refuse_if (taken net id) faults.IdTaken) _ new is in
         let b = went (refuse_home net shape) _ new a.next in
         let c = went (place_ends (home_of shape) id 1 (branch_ends shape) net) _ new b.next in
         let branch : NamedBranch = record { id = id; shape = shape } in
         let same : with_branch branch (home_of shape) c.value ≡ new = cc (c.next) in
-        let placed = ends_keep (home_of shape) id 1 (branch_ends shape) net c.value c.is valid (nodes_of shape numbers) keeps in
-        subst (NetworkKeeps P Q) same (branch_put branch (home_of shape) c.value (valid, ids, numbers) placed)
+        let placed = ends_keep (home_of shape) id 1 (branch_ends shape) net c.value c.is valid keeps in
+        subst (NetworkKeeps P Q) same (branch_put branch (home_of shape) c.value (valid, ids, numbers_of shape placed.0 rated) placed.1)

@@ -20,7 +20,7 @@ use Rattle.grid_json.specs.declared.format.Format.TheVariants.{One, Two, Three, 
 use Rattle.grid_print.specs.Formats.{number_of, item_format, stand_format, level_needs, network_needs, edit_format, first_format, needs, least_format, IsWrittenIn}
 use Rattle.grid_reading_back.specs.Requests.{IsKnownIn}
 
--- ---- nothing came with a fifth format
+-- ---- no command and no injection came with the fifth format
 
 item_fifth : (item : Injection) → nat_le 5 (item_format item) ≡ false
 unfolding item_format

@@ -1,6 +1,7 @@
 pub mod Values
 pub mod Lists
 pub mod Formats
+pub mod Breakers
 pub mod Commands
 pub mod Listeners
 pub mod Orders

@@ -1,5 +1,5 @@
 -- Networks and commands whose ids and whose numbers all keep a rule.
-use Rattle.std.proofs.Common.{ℕ, ℤ, pos, List}
+use Rattle.std.proofs.Common.{ℕ, ℤ, pos, List, [], ◌∷◌}
 use Rattle.std.specs.Prelude.{IfSome, ⊤}
 use Rattle.std.specs.List.{AllByRecursion}
 use Rattle.grid_level.specs.declared.Placed.{Placed}
@@ -9,11 +9,19 @@ use Rattle.grid_level.specs.declared.Stand.{Stand}
 use Rattle.grid_level.specs.declared.Stand.TheVariants.{Busbar, Feeder, BranchEnd}
 use Rattle.grid_level.specs.VoltageLevel.{VoltageLevel}
 use Rattle.grid_structure.specs.Network.{Network, Substation}
+use Rattle.grid_structure.specs.declared.Branch.{Branch}
+use Rattle.grid_structure.specs.declared.Branch.TheVariants.{Line, TwoWindings, ThreeWindings}
 use Rattle.grid_structure.specs.declared.End.{End}
 use Rattle.grid_structure.specs.declared.NamedBranch.{NamedBranch}
 use Rattle.grid_structure.specs.declared.Edit.{Edit}
 use Rattle.grid_requests.specs.declared.request.Request.{Request}
 use Rattle.grid_reading_back.specs.Requests.{edit_ids, edit_numbers, item_numbers, shape_ids, shape_numbers, request_ids, request_numbers}
+
+-- the rated voltages of a branch
+abbrev pub rated_numbers : Branch → List ℤ
+rated_numbers (Line end1 end2) = []
+rated_numbers (TwoWindings substation end1 end2 rated_u1 rated_u2) = rated_u1 ∷ rated_u2 ∷ []
+rated_numbers (ThreeWindings substation end1 end2 end3 rated_u1 rated_u2 rated_u3) = rated_u1 ∷ rated_u2 ∷ rated_u3 ∷ []
 
 module _ (P : List ℕ → Type 0) (Q : ℤ → Type 0) where
   abbrev pub SwitchKeeps : Switch → Type 0

@@ -9,6 +9,7 @@ use Rattle.serde_json.specs.Find.{as_array}
 use Rattle.grid_ids.specs.declared.id.IdFault.{IdFault}
 use Rattle.grid_ids.specs.Fault.{id_fault}
 use Rattle.grid_events.specs.declared.filter.Filter.{Filter}
+use Rattle.grid_level.specs.LevelEdits.{max_node}
 use Rattle.grid_requests.specs.declared.request.Request.{Request}
 use Rattle.grid_structure.specs.Soundness.{IsSound}
 use Rattle.grid_value.specs.Bytes.{reading}
@@ -35,8 +36,10 @@ use Rattle.grid_reading_back.specs.Requests.{request_ids, request_numbers, IsRea
 use Rattle.grid_reading_back.specs.Jobs.{IsReadableFilter, IsReadableScript, IsScheduleOf, IsReadableJob}
 use Rattle.grid_reading_back.proofs.Networks.{NetworkKeeps, RequestKeeps}
 use Rattle.grid_reading_back.proofs.Legible.{IsSigned, IsLegible, Reads, member_reads, either_reads, array_reads, optional_reads, number_reads}
-use Rattle.grid_reading_back.proofs.Loads.{NetworkDraftKeeps, network_loaded}
-use Rattle.grid_reading_back.proofs.Drafts.{same_read, network_read}
+use Rattle.grid_reading_back.proofs.Breakers.{breaker_is_id, breaker_is_text}
+use Rattle.grid_reading_back.proofs.Loads.{NetworkDraftKeeps, BreakersKeep, network_loaded}
+use Rattle.grid_reading_back.proofs.Options.{same_read}
+use Rattle.grid_reading_back.proofs.Drafts.{network_read}
 use Rattle.grid_reading_back.proofs.Requested.{command_read}
 use Rattle.grid_reading_back.proofs.Parsed.{reading_legible}
 use Rattle.grid_reading_back.proofs.Quoted.{spelled_texts}
@@ -97,6 +100,9 @@ few_commands scripts counted true e is = cc
 few_commands scripts counted false e is = let same : scripts ≡ counted = cc in rw (← same) (ltb-false max_commands (command_total scripts) e)
 
 -- ---- ids
+
+nodes_fit : (n : ℕ) → n ≤ max_node → IsSigned (pos n)
+nodes_fit n few = omega (arith, few)
 
 module _ (T : List ℕ → Type 0) where
   -- an id whose text keeps the rule
@@ -209,13 +215,13 @@ module _ (T : List ℕ → Type 0) where
     pub scripts : ScriptsKeep job.scripts
     pub order : IfSome job.order (IsScheduleOf job.scripts)
 
-  of_loaded : (draft : JobDraft) (job : Job) → loaded draft ≡ Ok job → DraftKeeps draft → JobKeeps job
+  of_loaded : BreakersKeep IsKeptId → (draft : JobDraft) (job : Job) → loaded draft ≡ Ok job → DraftKeeps draft → JobKeeps job
   unfolding loaded
-  of_loaded draft job is keeps =
+  of_loaded breakers draft job is keeps =
       let a = bound (network_load draft.network) _ job is in
       let made : Job = record { network = a.0; filters = draft.filters; scripts = draft.scripts; order = draft.order } in
       let same : made ≡ job = same_read made job a.2 in
-      let fine = network_loaded IsKeptId IsSigned draft.network a.0 a.1 keeps.network in
+      let fine = network_loaded IsKeptId IsSigned nodes_fit breakers draft.network a.0 a.1 keeps.network in
       let kept : JobKeeps made = record { network = fine.0; sound = fine.1; filters = keeps.filters; scripts = keeps.scripts; order = keeps.order } in
       subst JobKeeps {x = made} same kept
 
@@ -223,18 +229,18 @@ module _ (T : List ℕ → Type 0) where
   no_fault (Ok y) x is = cc
   no_fault (Err fault) x is = cc
 
-  of_draft : (read : Result JobDraft JobFault) (job : Job) → job_in read ≡ Ok job → ((draft : JobDraft) → read ≡ Ok draft → DraftKeeps draft) → JobKeeps job
-  of_draft (Ok draft) job is keeps = of_loaded draft job (no_fault (loaded draft) job is) (keeps draft refl)
-  of_draft (Err fault) job is keeps = cc
+  of_draft : BreakersKeep IsKeptId → (read : Result JobDraft JobFault) (job : Job) → job_in read ≡ Ok job → ((draft : JobDraft) → read ≡ Ok draft → DraftKeeps draft) → JobKeeps job
+  of_draft breakers (Ok draft) job is keeps = of_loaded breakers draft job (no_fault (loaded draft) job is) (keeps draft refl)
+  of_draft breakers (Err fault) job is keeps = cc
 
   of_data : (found : Option Data) (draft : JobDraft) → draft_in found ≡ Ok draft → ((d : Data) → found ≡ Some d → IsLegible T d) → DraftKeeps draft
   of_data None draft is fine = cc
   of_data (Some d) draft is fine = drafted d draft (fine d refl) (no_fault (draft_at d) draft is)
 
   -- what a job of legible data keeps
-  pub job_received : (bytes : List ℕ) (job : Job) → ((d : Data) → reading bytes ≡ Some d → IsLegible T d) → job_of bytes ≡ Ok job → JobKeeps job
+  pub job_received : BreakersKeep IsKeptId → (bytes : List ℕ) (job : Job) → ((d : Data) → reading bytes ≡ Some d → IsLegible T d) → job_of bytes ≡ Ok job → JobKeeps job
   unfolding job_of draft_of
-  job_received bytes job legible is = of_draft (draft_in (reading bytes)) job is (λ draft h. of_data (reading bytes) draft h legible)
+  job_received breakers bytes job legible is = of_draft breakers (draft_in (reading bytes)) job is (λ draft h. of_data (reading bytes) draft h legible)
 
   -- ---- is one that is read back
 
@@ -267,7 +273,7 @@ module _ (T : List ℕ → Type 0) where
 
 -- a job that was read keeps texts
 pub texts_received : (bytes : List ℕ) (job : Job) → job_of bytes ≡ Ok job → JobKeeps IsUtf8 job
-texts_received bytes job is = job_received IsUtf8 bytes job (λ d h. reading_legible IsUtf8 bytes d (λ j text spelled. spelled_texts bytes j (IsUtf8-from_is_utf8 bytes text) spelled) h) is
+texts_received bytes job is = job_received IsUtf8 (λ id side few short kept. (breaker_is_id id side few short kept.0, breaker_is_text id side few kept.1)) bytes job (λ d h. reading_legible IsUtf8 bytes d (λ j text spelled. spelled_texts bytes j (IsUtf8-from_is_utf8 bytes text) spelled) h) is
 
 -- a job that was read is one that is read back
 pub read_jobs_are_readable : (bytes : List ℕ) (job : Job) → job_of bytes ≡ Ok job → IsReadableJob job

@@ -23,7 +23,8 @@ use Rattle.grid_json.proofs.Results.{bound}
 use Rattle.grid_reading_back.specs.Requests.{given_number, shape_ids, shape_numbers}
 use Rattle.grid_reading_back.proofs.Networks.{EndKeeps, EditKeeps, RequestKeeps}
 use Rattle.grid_reading_back.proofs.Legible.{Reads, member_reads, either_reads, optional_reads}
-use Rattle.grid_reading_back.proofs.Drafts.{same_read, id_of, number_of, BothKeep, AllKeep, two_read, three_read, end_read, item_read}
+use Rattle.grid_reading_back.proofs.Options.{same_read}
+use Rattle.grid_reading_back.proofs.Drafts.{id_of, number_of, BothKeep, AllKeep, two_read, three_read, end_read, item_read}
 
 module _ (T : List ℕ → Type 0) (P : List ℕ → Type 0) (Q : ℤ → Type 0) (ids_read : Reads T P id_at) (numbers_read : Reads T Q whole_at) where
   id_at_name : (name : List ℕ) → Reads T P (member_at id_at name)

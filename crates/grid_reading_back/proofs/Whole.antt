@@ -7,7 +7,7 @@ use Rattle.grid_structure.specs.Network.{Network}
 use Rattle.grid_value.specs.Bytes.{reading}
 use Rattle.grid_json.specs.declared.fault.Reason.TheVariants.{TooManyListeners}
 use Rattle.grid_json.specs.declared.format.Format.{Format}
-use Rattle.grid_json.specs.declared.format.Format.TheVariants.{One, Two, Three, Four}
+use Rattle.grid_json.specs.declared.format.Format.TheVariants.{One, Two, Three, Four, Five}
 use Rattle.grid_json.specs.declared.whole.Job.{Job}
 use Rattle.grid_json.specs.Job.{max_listeners, format_at, listener_at, draft_at}
 use Rattle.grid_json.specs.Whole.{loaded, draft_of, job_of, whole_job_at}
@@ -29,6 +29,7 @@ format_back One = refl
 format_back Two = refl
 format_back Three = refl
 format_back Four = refl
+format_back Five = refl
 
 -- in the least format
 draft_in : (format : Format) (net : Network) (filters : List Filter) (scripts : List (List Request)) (order : Option (List ℕ)) → HasAllWords net scripts format → IsReadable net

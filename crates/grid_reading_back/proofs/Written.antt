@@ -28,7 +28,7 @@ use Rattle.grid_requests.specs.declared.request.Request.{Request}
 use Rattle.grid_requests.specs.declared.request.Request.TheVariants as requests
 use Rattle.grid_events.specs.declared.filter.Filter.{Filter}
 use Rattle.grid_json.specs.declared.format.Format.{Format}
-use Rattle.grid_json.specs.declared.format.Format.TheVariants.{One, Two, Three, Four}
+use Rattle.grid_json.specs.declared.format.Format.TheVariants.{One, Two, Three, Four, Five}
 use Rattle.grid_json.specs.declared.whole.Job.{Job}
 use Rattle.grid_json.specs.Job.{max_workers, is_worker, is_order, counts_from}
 use Rattle.grid_print.specs.Objects.{members_from, object_of, array_of, whole, natural, given, word_if}
@@ -354,6 +354,7 @@ format_fits One = omega arith
 format_fits Two = omega arith
 format_fits Three = omega arith
 format_fits Four = omega arith
+format_fits Five = omega arith
 
 pub job_spelled : (job : Job) → JobKeeps IsUtf8 job → IsSpelled (job_value job.network job.filters job.scripts job.order)
 unfolding job_value
