@@ -74,6 +74,9 @@ const PIECES: [(&str, i64); 7] = [
     ("BREAKER", 1),
 ];
 
+/// Of what a level's parts are joined.
+const TOPOLOGIES: [(&str, i64); 2] = [("NODE_BREAKER", 5), ("BUS_BREAKER", 5)];
+
 /// What becomes of the piece of a contingency that is made.
 const ROLES: [(&str, i64); 2] = [("out", 1), ("fault", 1)];
 
@@ -101,6 +104,11 @@ pub(crate) fn kinds_of(holder: &str, command: &str) -> Option<Words> {
         (_, "add_branch") => Some(&BRANCHES),
         _ => None,
     }
+}
+
+/// The words that choose a level's parts.
+pub(crate) fn topologies() -> Words {
+    &TOPOLOGIES
 }
 
 /// What may become of a piece.
@@ -257,6 +265,36 @@ pub(crate) fn members_of_item(holder: &str) -> Option<Members> {
     members_in(&ITEMS, holder)
 }
 
+/// Those of a level of nodes, in a format that has both kinds of levels.
+const NODE_LEVEL: Members = &[
+    "topology",
+    "id",
+    "nominal_v",
+    "low_v",
+    "high_v",
+    "busbars",
+    "switches",
+    "internal",
+    "injections",
+];
+
+/// Those of a level with configured buses.
+const BUS_LEVEL: Members = &[
+    "topology",
+    "id",
+    "nominal_v",
+    "low_v",
+    "high_v",
+    "buses",
+    "switches",
+    "injections",
+];
+
+/// The members of a level, in a format that has both kinds of levels.
+pub(crate) fn members_of_level(has_buses: bool) -> Members {
+    if has_buses { BUS_LEVEL } else { NODE_LEVEL }
+}
+
 /// The members of an object of a job with contingencies, but of what all jobs have, by the job's format: of the object
 /// at the top, or of one that stands in an array. In the first format `format` may stand at the top, too.
 pub(crate) fn members_of_screen(holder: &str, format: i64) -> Option<Members> {
@@ -281,7 +319,8 @@ const CONFIGURED_ITEMS: [Row; 5] = [
     ("ends", &["level", "bus", "connected"]),
 ];
 
-/// The members of an object that stands in an array of a network with configured buses, but those that its kind brings.
+/// The members of an object that stands in an array of a network with configured buses, or in one of a level with such
+/// buses, but those that its kind brings.
 pub(crate) fn members_of_configured(holder: &str) -> Option<Members> {
     members_in(&CONFIGURED_ITEMS, holder)
 }
@@ -414,6 +453,7 @@ const WANTED: [Row; 4] = [
             "bus",
             "bus1",
             "bus2",
+            "topology",
             "name",
             "station1",
             "station2",

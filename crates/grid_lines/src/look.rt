@@ -133,9 +133,14 @@ impl<'a> Job<'a> {
     pub(crate) fn format(&mut self) -> i64 {
         let inner = self.inner();
         match self.member(inner, "format") {
-            Some(format) => self.whole(format).unwrap_or(4),
-            None => 4,
+            Some(format) => self.whole(format).unwrap_or(5),
+            None => 5,
         }
+    }
+
+    /// Whether the value, a level of a job of the fifth format, has configured buses.
+    pub(crate) fn is_bus_level(&mut self, at: usize) -> bool {
+        self.word(at, "topology") == "BUS_BREAKER"
     }
 
     /// The format of a job with contingencies, which is the first where it names none.

@@ -26,73 +26,77 @@ fn has_id(walk: &mut Walk<'_>, id: &str) -> bool {
     has
 }
 
-/// Passes the next value, and tells whether it is an array with an object of the id.
-fn has_level(walk: &mut Walk<'_>, id: &str) -> bool {
-    let mut has = false;
+/// Passes the next value, and tells where the first object of the id begins in it, where it is an array.
+fn level_in(walk: &mut Walk<'_>, id: &str) -> Option<usize> {
+    let mut found = None;
     if !walk.enters_array() {
-        return false;
+        return None;
     }
     for _ in 0..u64::MAX {
         if !walk.is_at_item() {
             break;
         }
-        let is_level = has_id(walk, id);
-        has = has || is_level;
+        let here = walk.here();
+        if has_id(walk, id) {
+            found = found.or(Some(here));
+        }
     }
-    has
+    found
 }
 
-/// Passes the next value, and tells whether it is a substation with a level of the id.
-fn has_level_of_id(walk: &mut Walk<'_>, id: &str) -> bool {
-    let mut has = false;
+/// Passes the next value, and tells where its level of the id begins, where it is a substation.
+fn level_in_substation(walk: &mut Walk<'_>, id: &str) -> Option<usize> {
+    let mut found = None;
     if !walk.enters_object() {
-        return false;
+        return None;
     }
     for _ in 0..u64::MAX {
         let Some(name) = walk.next_name() else {
             break;
         };
         if name == "levels" {
-            has = has_level(walk, id);
+            found = level_in(walk, id);
         } else {
             walk.pass();
         }
     }
-    has
+    found
 }
 
-/// Whether the next value is an array of which one of the first substations has a level of the id.
-fn is_in_substations(walk: &mut Walk<'_>, substations: usize, id: &str) -> bool {
+/// Where the level of the id begins in one of the first substations, where the next value is an array of these.
+fn level_in_substations(walk: &mut Walk<'_>, substations: usize, id: &str) -> Option<usize> {
     if !walk.enters_array() {
-        return false;
+        return None;
     }
     for _ in 0..substations {
         if !walk.is_at_item() {
-            return false;
+            return None;
         }
-        if has_level_of_id(walk, id) {
-            return true;
+        let level = level_in_substation(walk, id);
+        if level.is_some() {
+            return level;
         }
     }
-    false
+    None
 }
 
-/// Whether one of the first substations, or a level of a network with configured buses, is a level of the id.
-fn is_in_network(job: &mut Job<'_>, network: usize, substations: usize, id: &str) -> bool {
-    if let Some(levels) = job.member(network, "levels") {
-        if let Some(mut walk) = job.walk(levels) {
-            if has_level(&mut walk, id) {
-                return true;
-            }
-        }
+/// How many substations are loaded before the object, a branch.
+fn substations_before(seen: &Seen<'_>) -> usize {
+    match seen.above.parse::<usize>() {
+        Ok(place) if seen.holder == "transformers" => place.saturating_add(1),
+        _ => usize::MAX,
     }
-    let Some(all) = job.member(network, "substations") else {
-        return false;
-    };
-    match job.walk(all) {
-        Some(mut walk) => is_in_substations(&mut walk, substations, id),
-        None => false,
+}
+
+/// The level of the id that is loaded before the object, a branch.
+fn loaded_level(job: &mut Job<'_>, seen: &Seen<'_>, id: &str) -> Option<usize> {
+    let network = job.network()?;
+    if seen.is_configured() {
+        let levels = job.member(network, "levels")?;
+        return level_in(&mut job.walk(levels)?, id);
     }
+    let all = job.member(network, "substations")?;
+    level_in_substations(&mut job.walk(all)?, substations_before(seen), id)
 }
 
 /// A text of an end of a branch, by the end's position.
@@ -113,24 +117,45 @@ fn owned(alloc: Global, job: &mut Job<'_>, at: usize) -> Result<String, AllocErr
     String::from_str(alloc, job.text(at).unwrap_or(""))
 }
 
+/// The level that an end of a branch names, with where it begins, if it is loaded before.
+fn level_of_end(
+    alloc: Global,
+    job: &mut Job<'_>,
+    seen: &Seen<'_>,
+    position: usize,
+) -> Result<Option<(usize, Option<usize>)>, AllocError> {
+    let Some(named) = text_of_end(job, seen.value, position, "level") else {
+        return Ok(None);
+    };
+    let id = owned(alloc, job, named)?;
+    Ok(Some((named, loaded_level(job, seen, id.as_str()))))
+}
+
 /// The level that the first end of a branch names in vain.
 pub(crate) fn missing_level(
     alloc: Global,
     job: &mut Job<'_>,
     seen: &Seen<'_>,
 ) -> Result<Option<usize>, AllocError> {
-    let Some(network) = job.network() else {
-        return Ok(None);
-    };
-    let substations = match seen.above.parse::<usize>() {
-        Ok(place) if seen.holder == "transformers" => place.saturating_add(1),
-        _ => usize::MAX,
-    };
     for position in 0..MOST_ENDS {
-        if let Some(level) = text_of_end(job, seen.value, position, "level") {
-            let id = owned(alloc, job, level)?;
-            if !is_in_network(job, network, substations, id.as_str()) {
-                return Ok(Some(level));
+        if let Some((named, None)) = level_of_end(alloc, job, seen, position)? {
+            return Ok(Some(named));
+        }
+    }
+    Ok(None)
+}
+
+/// The level with configured buses of which the first end of a branch names a node.
+pub(crate) fn level_with_buses(
+    alloc: Global,
+    job: &mut Job<'_>,
+    seen: &Seen<'_>,
+) -> Result<Option<usize>, AllocError> {
+    for position in 0..MOST_ENDS {
+        if let Some((named, Some(level))) = level_of_end(alloc, job, seen, position)? {
+            let is_by_bus = text_of_end(job, seen.value, position, "bus").is_some();
+            if !is_by_bus && job.is_bus_level(level) {
+                return Ok(Some(named));
             }
         }
     }
@@ -159,41 +184,17 @@ fn has_bus(job: &mut Job<'_>, level: usize, id: &str) -> bool {
     false
 }
 
-/// The first level of the id in a network with configured buses.
-fn configured_level(job: &mut Job<'_>, network: usize, id: &str) -> Option<usize> {
-    let levels = job.member(network, "levels")?;
-    let mut walk = job.walk(levels)?;
-    if !walk.enters_array() {
-        return None;
-    }
-    for _ in 0..u64::MAX {
-        if !walk.is_at_item() {
-            break;
-        }
-        let here = walk.here();
-        if has_id(&mut walk, id) {
-            return Some(here);
-        }
-    }
-    None
-}
-
-/// The bus that an end of a line names and its level does not have.
+/// The bus that an end of a branch names and its level does not have. A level that is not there is left out.
 fn missing_bus_of_end(
     alloc: Global,
     job: &mut Job<'_>,
-    line: usize,
+    seen: &Seen<'_>,
     position: usize,
 ) -> Result<Option<usize>, AllocError> {
-    let (Some(network), Some(named), Some(bus)) = (
-        job.network(),
-        text_of_end(job, line, position, "level"),
-        text_of_end(job, line, position, "bus"),
-    ) else {
+    let Some(bus) = text_of_end(job, seen.value, position, "bus") else {
         return Ok(None);
     };
-    let id = owned(alloc, job, named)?;
-    let Some(level) = configured_level(job, network, id.as_str()) else {
+    let Some((_, Some(level))) = level_of_end(alloc, job, seen, position)? else {
         return Ok(None);
     };
     let id = owned(alloc, job, bus)?;
@@ -204,14 +205,14 @@ fn missing_bus_of_end(
     }
 }
 
-/// The first bus that an end of a line names in vain.
-fn missing_bus_of_line(
+/// The first bus that an end of a branch names in vain.
+fn missing_bus_of_branch(
     alloc: Global,
     job: &mut Job<'_>,
-    line: usize,
+    seen: &Seen<'_>,
 ) -> Result<Option<usize>, AllocError> {
     for position in 0..MOST_ENDS {
-        if let Some(bus) = missing_bus_of_end(alloc, job, line, position)? {
+        if let Some(bus) = missing_bus_of_end(alloc, job, seen, position)? {
             return Ok(Some(bus));
         }
     }
@@ -224,8 +225,8 @@ pub(crate) fn missing_bus(
     job: &mut Job<'_>,
     seen: &Seen<'_>,
 ) -> Result<Option<usize>, AllocError> {
-    if seen.holder == "lines" {
-        return missing_bus_of_line(alloc, job, seen.value);
+    if matches!(seen.holder, "lines" | "transformers") {
+        return missing_bus_of_branch(alloc, job, seen);
     }
     for name in ["bus", "bus1", "bus2"] {
         if let Some(bus) = job.text_member(seen.value, name) {

@@ -2,11 +2,11 @@
 
 use crate::known::{
     commands, events, has, kinds_of, members_of_command, members_of_configured, members_of_item,
-    members_of_kind, members_of_named, members_of_screen, other_form, roles, told_words, unit_of,
-    wanted_at, wanted_in,
+    members_of_kind, members_of_level, members_of_named, members_of_screen, other_form, roles,
+    told_words, topologies, unit_of, wanted_at, wanted_in,
 };
 use crate::look::{Job, Seen};
-use crate::missing::{level_of_side, missing_bus, missing_level};
+use crate::missing::{level_of_side, level_with_buses, missing_bus, missing_level};
 use crate::order::order_told;
 use crate::sentence::{Members, Named, Sentence, Words};
 use grid_json::Reason;
@@ -23,6 +23,7 @@ fn words_at(job: &mut Job<'_>, seen: &Seen<'_>) -> Option<Words> {
         "kind" => kinds_of(seen.above, job.word(seen.parent, "do")),
         "as" => Some(roles()),
         "only" => Some(told_words()),
+        "topology" => Some(topologies()),
         _ => None,
     }
 }
@@ -90,6 +91,27 @@ fn later_members(job: &mut Job<'_>, seen: &Seen<'_>) -> Members {
     }
 }
 
+/// Whether an object of an array is at configured buses, in a job of a format that has both kinds of levels: it stands
+/// in a level with such buses, or is an end that names one.
+fn is_at_buses(job: &mut Job<'_>, seen: &Seen<'_>) -> bool {
+    match seen.holder {
+        "switches" | "injections" => job.is_bus_level(seen.grandparent),
+        "ends" => seen.command.is_none() && job.member(seen.value, "bus").is_some(),
+        _ => false,
+    }
+}
+
+/// The members that an object of an array may have in a job of the fifth format, but those that its kind brings.
+fn members_of_either(job: &mut Job<'_>, seen: &Seen<'_>) -> Option<Members> {
+    if seen.holder == "levels" {
+        return Some(members_of_level(job.is_bus_level(seen.value)));
+    }
+    if is_at_buses(job, seen) {
+        return members_of_configured(seen.holder);
+    }
+    members_of_item(seen.holder)
+}
+
 /// The members that the object may have, but those that its kind brings.
 fn members_at(job: &mut Job<'_>, seen: &Seen<'_>) -> Option<Members> {
     if let Some(members) = members_by_format(job, seen) {
@@ -104,6 +126,8 @@ fn members_at(job: &mut Job<'_>, seen: &Seen<'_>) -> Option<Members> {
     }
     if seen.is_configured() {
         members_of_configured(seen.holder)
+    } else if job.format() == 5 {
+        members_of_either(job, seen)
     } else {
         members_of_item(seen.holder)
     }
@@ -201,7 +225,7 @@ fn format_told(found: i64, seen: &Seen<'_>) -> Sentence<'static> {
     } else if seen.is_screen() && seen.holder.is_empty() {
         "1 and 2"
     } else {
-        "1, 2, 3 and 4"
+        "1, 2, 3, 4 and 5"
     };
     Sentence::two(
         "format ",
@@ -338,6 +362,29 @@ fn substation_told<'j>(job: &'j mut Job<'_>, seen: &Seen<'_>, side: u8) -> Optio
     ))
 }
 
+/// The id that is too long for what stands at a configured bus.
+fn long_told(job: &mut Job<'_>, seen: &Seen<'_>) -> Option<Sentence<'static>> {
+    let id = job.text_member(seen.value, "id")?;
+    let length = job.text(id)?.len();
+    Some(Sentence::one(
+        "the id has ",
+        Named::Count(length),
+        " bytes, and 126 are the most at a configured bus, since its breaker's id has two more (91)",
+    ))
+}
+
+/// The id of a breaker that something has already.
+fn breaker_told<'j>(job: &'j mut Job<'_>, seen: &Seen<'_>, side: u8) -> Option<Sentence<'j>> {
+    let id = job.text_member(seen.value, "id")?;
+    Some(Sentence::two(
+        "a substation, level, switch or equipment has the id `",
+        Named::Text(job.text(id)?),
+        "!",
+        Named::Number(i64::from(side)),
+        "` of its breaker already (92)",
+    ))
+}
+
 /// What stands round the id that a job has a fault for, where one is told alone.
 fn round_id(seen: &Seen<'_>, reason: &Reason) -> Option<(&'static str, &'static str)> {
     match reason {
@@ -347,6 +394,10 @@ fn round_id(seen: &Seen<'_>, reason: &Reason) -> Option<(&'static str, &'static 
             "` has more than 100 bytes or an exclamation mark, and such ids are the program's own (74)",
         )),
         Reason::SameBus => Some(("both ends of the switch are the bus `", "` (76)")),
+        Reason::NoNode => Some((
+            "an end names a node of the level `",
+            "`, which has configured buses: `bus` must stand in its place (90)",
+        )),
         Reason::Load(EditFault::IdTaken) if seen.is_configured() => {
             Some((
                 "a level, bus, switch, injection or line has the id `",
@@ -374,6 +425,7 @@ fn id_at(
     match reason {
         Reason::NoBus => missing_bus(alloc, job, seen),
         Reason::SameBus => Ok(job.text_member(seen.value, "bus1")),
+        Reason::NoNode => level_with_buses(alloc, job, seen),
         Reason::Load(EditFault::NoLevel) => missing_level(alloc, job, seen),
         Reason::Load(_) => Ok(job.text_member(seen.value, "id").or(Some(seen.value))),
         _ => Ok(Some(seen.value)),
@@ -413,6 +465,8 @@ fn sentence_of<'j>(
         Reason::Schedule => order_told(alloc, job, seen.parent, seen.value),
         Reason::NoStation { side } => Ok(station_told(job, seen, *side, false)),
         Reason::StationUsed { side } => Ok(station_told(job, seen, *side, true)),
+        Reason::LongAtBus => Ok(long_told(job, seen)),
+        Reason::BreakerTaken { side } => Ok(breaker_told(job, seen, *side)),
         Reason::Load(EditFault::OtherSubstation { side }) => {
             Ok(substation_told(job, seen, *side))
         }

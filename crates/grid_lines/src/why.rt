@@ -165,6 +165,12 @@ fn plain_reason(reason: &Reason) -> &'static str {
         }
         Reason::NoBus => "the level has no bus of the id that is named (75)",
         Reason::SameBus => "both ends of the switch are one bus (76)",
+        Reason::NoNode => {
+            "an end names a node of a level that has configured buses: `bus` must stand in its place (90)"
+        }
+        Reason::LongAtBus => {
+            "the id has more than 126 bytes, which are the most at a configured bus, since its breaker's id has two more (91)"
+        }
         _ => "",
     }
 }
@@ -181,6 +187,11 @@ fn why_of(reason: &Reason) -> Sentence<'_> {
             "an HVDC line has the converter station of side ",
             Named::Number(i64::from(*side)),
             " already (72)",
+        ),
+        Reason::BreakerTaken { side } => Sentence::one(
+            "a substation, level, switch or equipment has the id of its breaker of side ",
+            Named::Number(i64::from(*side)),
+            " already (92)",
         ),
         Reason::Name(fault) => of_name(fault),
         Reason::Load(fault) => of_edit(fault),
