@@ -1,5 +1,5 @@
 -- The buses of levels, kept with the flags that they were made of, and the spots of branches.
-use Rattle.std.specs.Prelude.{◌≡◌, ℕ, ◌<◌, Bool, Some, List, length, slice_get}
+use Rattle.std.specs.Prelude.{◌≡◌, ◌⊎◌, ℕ, ◌<◌, Bool, Some, None, IfSome, List, length, slice_get}
 use Rattle.grid_level.specs.VoltageLevel.{VoltageLevel}
 use Rattle.grid_level.specs.Passing.{positioned}
 use Rattle.grid_structure.specs.Network.{Network}
@@ -8,6 +8,8 @@ use Rattle.grid_busview.specs.Views.{node_buses_of}
 use Rattle.grid_states.specs.Rows.{row_at}
 use Rattle.grid_islands.specs.declared.kept.KeptLevel.{KeptLevel}
 use Rattle.grid_islands.specs.declared.kept.KeptBuses.{KeptBuses}
+use Rattle.grid_islands.specs.declared.components.Numbers.{Numbers}
+use Rattle.grid_islands.specs.Numbering.{AreNumbers}
 use Rattle.grid_islands.specs.Spots.{network_spots}
 
 -- what is kept of a level under these flags
@@ -22,12 +24,28 @@ IsKeptAt kept place own = slice_get kept.levels place ≡ Some own
 abbrev pub IsMadeOf : VoltageLevel → KeptLevel → Type 0
 IsMadeOf level own = own ≡ kept_of level own.opened
 
--- what is kept of each level of a network, where something is, is of that level; the spots, where some are kept, are those
--- of the network's branches
-pub record AreBusesOf (net : Network) (kept : KeptBuses) : Type 0 where
-  pub made : (place : ℕ) (level : VoltageLevel) (own : KeptLevel) → slice_get (levels net) place ≡ Some level → IsKeptAt kept place own → IsMadeOf level own
-  pub spotted : 0 < length kept.spots → kept.spots ≡ network_spots net
+-- nothing has changed, or there are no components any more
+abbrev pub IsLeftOrNone : KeptBuses → KeptBuses → Type 0
+IsLeftOrNone old new = (new ≡ old) ⊎ (new.numbers ≡ None)
 
 -- the levels before a place are kept, under the flags of these rows
 abbrev pub AreKeptBefore : Network → List (List Bool) → ℕ → KeptBuses → Type 0
 AreKeptBefore net opened count kept = (place : ℕ) (level : VoltageLevel) → place < count → slice_get (levels net) place ≡ Some level → IsKeptAt kept place (kept_of level (row_at opened place))
+
+-- all levels are
+abbrev pub AreKept : Network → List (List Bool) → KeptBuses → Type 0
+AreKept net opened kept = AreKeptBefore net opened (length (levels net)) kept
+
+-- the numbers are those under the flags of all levels, with which the levels are kept
+pub record AreNumbersOf (net : Network) (kept : KeptBuses) (numbers : Numbers) : Type 0 where
+  pub opened : List (List Bool)
+  pub rows : length opened ≡ length (levels net)
+  pub every : AreKept net opened kept
+  pub numbered : AreNumbers net opened numbers
+
+-- what is kept of each level of a network, where something is, is of that level; the spots, where some are kept, are those
+-- of the network's branches; and so are the numbers, where they are kept
+pub record AreBusesOf (net : Network) (kept : KeptBuses) : Type 0 where
+  pub made : (place : ℕ) (level : VoltageLevel) (own : KeptLevel) → slice_get (levels net) place ≡ Some level → IsKeptAt kept place own → IsMadeOf level own
+  pub spotted : 0 < length kept.spots → kept.spots ≡ network_spots net
+  pub numbered : IfSome kept.numbers (AreNumbersOf net kept)

@@ -1,13 +1,16 @@
 // The buses of levels, kept for the next call with the flags that they were made of, and the spots of branches.
-ghost use Rattle.std.specs.Prelude.{◌≡◌, ◌≢◌, ℕ, ◌<◌, ◌≤◌, ◌^◌, IsTrue, IfOk, OnOk, OnErr, length, flat_map, slice_get};
+ghost use Rattle.std.specs.Prelude.{◌≡◌, ◌≢◌, ℕ, ◌<◌, ◌≤◌, ◌^◌, Bool, IsTrue, IsSome, IfOk, OnOk, OnErr, List, length, flat_map, slice_get};
 ghost use Rattle.grid_structure.specs.Network.{Network};
 ghost use Rattle.grid_structure.specs.Sites.{levels};
 ghost use Rattle.grid_islands.specs.declared.kept.KeptLevel.{KeptLevel};
 ghost use Rattle.grid_islands.specs.Numbering.{FlagsFit, counts_before};
-ghost use Rattle.grid_islands.specs.Kept.{kept_of, IsKeptAt, IsMadeOf, AreBusesOf, AreKeptBefore};
+ghost use Rattle.grid_islands.specs.Islands as islands;
+ghost use Rattle.grid_islands.specs.Kept.{kept_of, IsKeptAt, IsMadeOf, IsLeftOrNone, AreBusesOf, AreKept};
 ghost use Rattle.grid_islands.specs.Spots as spots;
 ghost use Rattle.grid_islands.specs.Spots.{NumbersFit};
 
+use crate::BusComponents;
+use crate::components::Numbers;
 use crate::numbering::Counts;
 use crate::pairs::Pairs;
 use crate::spots::{Spots, network_spots, spot_pairs};
@@ -27,12 +30,14 @@ pub(crate) struct KeptLevel {
 
 /// The buses of the levels of a network that were looked at, from the first level on, each with the flags that it had
 /// then. A call that is given them makes anew only the buses of levels whose flags are others. Where the ends of the
-/// network's branches stand is kept, too, once it is found.
+/// network's branches stand is kept, too, once it is found, and so are the components, until a level is made anew.
 #[derive(Drop)]
 pub struct KeptBuses {
     levels: Seq<KeptLevel>,
     // The spots of all branches; of none before they are found.
     spots: Spots,
+    // The components of the buses of these levels, once they are found.
+    numbers: Option<Numbers>,
 }
 
 impl KeptBuses {
@@ -43,6 +48,7 @@ impl KeptBuses {
         KeptBuses {
             levels: Seq::empty(alloc),
             spots: Spots::empty(alloc),
+            numbers: None,
         }
     }
 
@@ -64,6 +70,7 @@ impl KeptBuses {
         ensures others { (other : ℕ) → other ≢ place
             → slice_get self.new.levels other ≡ slice_get self.old.levels other }
         ensures spots { self.new.spots ≡ self.old.spots }
+        ensures numbers { self.new.numbers ≡ self.old.numbers }
         ensures err { OnErr result (self.new ≡ self.old) }
     {
         if (place as usize) < self.levels.len() {
@@ -74,7 +81,8 @@ impl KeptBuses {
         }
     }
 
-    // Keeps a level at its place under these flags. Where it is kept so already, nothing is made.
+    // Keeps a level at its place under these flags. Where it is kept so already, nothing is made; else the components
+    // go.
     fn keep(
         &mut self,
         alloc: Global,
@@ -89,6 +97,7 @@ impl KeptBuses {
         ensures others { (other : ℕ) → other ≢ place
             → slice_get self.new.levels other ≡ slice_get self.old.levels other }
         ensures spots { self.new.spots ≡ self.old.spots }
+        ensures numbers { OnOk result (IsLeftOrNone self.old self.new) }
         ensures err { OnErr result (self.new ≡ self.old) }
     {
         if self.has(place, opened) {
@@ -96,35 +105,32 @@ impl KeptBuses {
         }
         let buses = node_buses(alloc, level, opened)?;
         let opened = Seq::from_vec(Vec::from_slice(alloc, opened)?);
-        self.put(place, KeptLevel { opened, buses })
+        self.put(place, KeptLevel { opened, buses })?;
+        self.numbers = None;
+        Ok(())
     }
 
     // The buses that are kept of the level at a place.
-    pub(crate) fn buses(&self, place: u32) -> &NodeBuses
+    fn buses(&self, place: u32) -> &NodeBuses
         requires { place < length self.now.levels }
         ensures { (own : KeptLevel) → IsKeptAt self.now place own → result.now ≡ own.buses }
     {
         &self.levels[place as usize].buses
     }
 
-    /// How many buses the levels have. It keeps every level under these flags.
-    pub(crate) fn number(
+    /// Keeps every level under these flags.
+    pub(crate) fn keep_all(
         &mut self,
         alloc: Global,
         structure: &Structure,
         states: &States,
-    ) -> Result<Counts, Memory>
+    ) -> Result<(), Memory>
         requires rows { length states.now.opened ≡ length (levels structure.now) }
         requires flags { FlagsFit structure.now states.now.opened }
         requires kept { AreBusesOf structure.now self.old }
-        ensures value { IfOk result (λ counts. counts
-            ≡ counts_before states.now.opened (levels structure.now) (length (levels structure.now))) }
-        ensures few { IfOk result (λ counts. counts.count < 2 ^ 32) }
-        ensures every { OnOk result (AreKeptBefore structure.now states.now.opened
-            (length (levels structure.now)) self.new) }
+        ensures every { OnOk result (AreKept structure.now states.now.opened self.new) }
         ensures kept { AreBusesOf structure.now self.new }
     {
-        let mut counts = Counts::with_room(alloc, structure.level_count())?;
         for place in 0..structure.level_count() {
             self.keep(
                 alloc,
@@ -132,13 +138,26 @@ impl KeptBuses {
                 structure.level(place),
                 states.opened_row(place),
             )?;
+        }
+        Ok(())
+    }
+
+    // How many buses the levels have, which are kept under these flags.
+    fn count(&self, alloc: Global, structure: &Structure, states: &States) -> Result<Counts, Memory>
+        requires { AreKept structure.now states.now.opened self.now }
+        ensures value { IfOk result (λ counts. counts
+            ≡ counts_before states.now.opened (levels structure.now) (length (levels structure.now))) }
+        ensures few { IfOk result (λ counts. counts.count < 2 ^ 32) }
+    {
+        let mut counts = Counts::with_room(alloc, structure.level_count())?;
+        for place in 0..structure.level_count() {
             counts.add(self.buses(place).leasts.len())?;
         }
         Ok(counts)
     }
 
-    /// Finds the spots of all branches, where they are not kept.
-    pub(crate) fn find_spots(&mut self, alloc: Global, structure: &Structure) -> Result<(), Memory>
+    // Finds the spots of all branches, where they are not kept.
+    fn find_spots(&mut self, alloc: Global, structure: &Structure) -> Result<(), Memory>
         requires { AreBusesOf structure.now self.old }
         ensures found { OnOk result (self.new.spots ≡ spots.network_spots structure.now) }
         ensures levels { self.new.levels ≡ self.old.levels }
@@ -150,13 +169,62 @@ impl KeptBuses {
         Ok(())
     }
 
-    /// The pairs that the branches whose spots are kept make of the buses that are kept, by the numbers of the levels'
-    /// first buses.
-    pub(crate) fn pairs(&self, alloc: Global, firsts: &[u32]) -> Result<Pairs, Memory>
+    // The pairs that the branches whose spots are kept make of the buses that are kept, by the numbers of the levels'
+    // first buses.
+    fn pairs(&self, alloc: Global, firsts: &[u32]) -> Result<Pairs, Memory>
         requires { NumbersFit firsts.now self.now.levels }
         ensures { IfOk result (λ pairs. pairs
             ≡ flat_map (spots.pairs_of_spots firsts.now self.now.levels) self.now.spots) }
     {
         spot_pairs(alloc, firsts, self.levels.slice(), self.spots.slice())
+    }
+
+    // Finds the components, where they are not kept. The levels are kept under these flags.
+    fn find_numbers(
+        &mut self,
+        alloc: Global,
+        structure: &Structure,
+        states: &States,
+    ) -> Result<(), Memory>
+        requires rows { length states.now.opened ≡ length (levels structure.now) }
+        requires kept { AreBusesOf structure.now self.old }
+        requires every { AreKept structure.now states.now.opened self.old }
+        ensures found { OnOk result (IsSome self.new.numbers) }
+        ensures levels { self.new.levels ≡ self.old.levels }
+        ensures kept { AreBusesOf structure.now self.new }
+    {
+        if self.numbers.is_some() {
+            return Ok(());
+        }
+        self.find_spots(alloc, structure)?;
+        let counts = self.count(alloc, structure, states)?;
+        let pairs = self.pairs(alloc, counts.firsts.slice())?;
+        self.numbers = Some(Numbers::make(alloc, counts, pairs.slice())?);
+        Ok(())
+    }
+
+    /// The buses of the level at a place, each with the number and the size of its component. The levels are kept
+    /// under these flags.
+    pub(crate) fn list_level(
+        &mut self,
+        alloc: Global,
+        structure: &Structure,
+        states: &States,
+        level: u32,
+    ) -> Result<BusComponents, Memory>
+        requires rows { length states.now.opened ≡ length (levels structure.now) }
+        requires level { level < length (levels structure.now) }
+        requires kept { AreBusesOf structure.now self.old }
+        requires every { AreKept structure.now states.now.opened self.old }
+        ensures list { IfOk result (λ list. (retained : List (List Bool)) → list
+            ≡ islands.level_components structure.now states.now.opened retained level) }
+        ensures kept { AreBusesOf structure.now self.new }
+        ensures every { AreKept structure.now states.now.opened self.new }
+    {
+        self.find_numbers(alloc, structure, states)?;
+        match &self.numbers {
+            Some(numbers) => numbers.list_level(alloc, level, self.buses(level).leasts.slice()),
+            None => unreachable!(),
+        }
     }
 }

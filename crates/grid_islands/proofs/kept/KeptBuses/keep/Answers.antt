@@ -12,4 +12,4 @@ returns-clause-own c =
     let build : List Bool → NodeBuses → KeptLevel = λ x y. record { opened = x; buses = y } in
     let flags : c.from_vec-opened.result ≡ c.args.opened.now = c.from_vec-opened.ensures ∙ c.in_ok-from_slice.ensures.items in
     let same : build c.from_vec-opened.result c.in_ok-buses.buses ≡ kept_of c.args.level.now c.args.opened.now = ap (λ z. build z c.in_ok-buses.buses) flags ∙ ap (build c.args.opened.now) c.in_ok-buses.ensures in
-    on_ok_weaker c.put.result (λ own. own ∙ ap Some same) c.put.ensures.own
+    c.in_ok-put.ensures.own ∙ ap Some same
