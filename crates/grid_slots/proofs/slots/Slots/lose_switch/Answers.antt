@@ -1,13 +1,17 @@
-use Rattle.std.proofs.Common.{sym, ap, ◌∙◌, subst, arith}
+use Rattle.std.proofs.Common.{arith}
 use Rattle.grid_states.specs.Rows.{without_switch}
-use Rattle.grid_slots.specs.Variants.{with_rows, all_changed, with_each_rows, IsTable}
-use Rattle.grid_slots.proofs.Changing.{alone_changed, with_each_rows-map}
-use Rattle.grid_slots.proofs.Tables.{rows_table, each_rows_table}
+use Rattle.grid_slots.specs.Variants.{with_rows}
+use Rattle.grid_slots.proofs.Changing.{alone_changed}
+use Rattle.grid_slots.proofs.Tables.{rows_table}
+use Rattle.grid_slots.proofs.Versioned.{alone_at}
 use Rattle.grid_slots.proofs.Placed.{on_ok}
 use Rattle.grid_slots.proofs.slots.Slots.lose_switch.Goals as goal
 
 pub invariant_of-self : goal.invariant_of-self
-invariant_of-self c = rows_table c.self.inside.variants.items 0 c.index_mut.result.now c.lose.new.self c.index_mut.ensures.value c.self.invariant
+invariant_of-self c = (
+  rows_table c.self.inside.variants.items 0 c.index_mut.result.now c.lose.new.self c.index_mut.ensures.value c.self.invariant.0,
+  alone_at c.self.inside.variants.items c.self.inside.versions c.index_mut.result.now c.lose.new.self c.self.invariant.1 (omega (arith, c.if-len-eq1.true, c.len.ensures, c.self.inside.variants.ok.0)),
+)
 
 pub returns-then-len-eq1-clause-ok : goal.returns-then-len-eq1-clause-ok
 unfolding with_rows
@@ -17,11 +21,5 @@ returns-then-len-eq1-clause-ok c =
     (omega (arith, c.if-len-eq1.true, c.len.ensures, c.self.inside.variants.ok.0)) is)
     c.lose.ensures.ok
 
-pub invariant_of-self-2 : goal.invariant_of-self-2
-invariant_of-self-2 c = subst IsTable (sym c.put_states.ensures) (each_rows_table c.self.inside.variants.items c.in_ok-states.states.items c.self.invariant)
-
-pub returns-clause-ok : goal.returns-clause-ok
-returns-clause-ok c =
-    let vs = c.self.inside.variants.items in
-    c.put_states.ensures ∙ ap (with_each_rows vs) c.in_ok-states.ensures ∙ with_each_rows-map (λ rows. without_switch rows c.args.level c.args.place) vs
-    ∙ ap (all_changed (λ rows. without_switch rows c.args.level c.args.place)) c.self.view_is
+pub change_all-requires : goal.change_all-requires
+change_all-requires c = λ k d lt. (c.requires.level k d lt, c.requires.opened k d lt, c.requires.retained k d lt)
