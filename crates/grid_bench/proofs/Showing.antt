@@ -104,11 +104,10 @@ shown_as level other opened retained old new true e same look h is =
 shown_as level other opened retained old new false e same look h is = shown_none (content other opened retained) new h
 
 -- a view of a level that is kept is that of what is kept for its id
-pub view_in : (kept : Store) (part : BaseLevel) (id : List ℕ) (powers : List ℤ) (view made : BusView) → id ≡ part.level.id → powers ≡ part.powers → view ≡ made → IsKeptIn kept part
-    → made ≡ bus_view_of (placed_open part) part.powers → IsViewIn kept id powers view
-unfolding placed_open
-view_in kept part id powers view made e f same is h c there =
-    let both : Some (content_of part) ≡ Some c = sym is ∙ ap (kept_for kept) (sym e) ∙ there in
-    let one : content_of part ≡ c = cc in
+pub view_in : (kept : Store) (level : VoltageLevel) (opened retained : List Bool) (id : List ℕ) (powers watts : List ℤ) (view made : BusView) → id ≡ level.id → powers ≡ watts → view ≡ made
+    → kept_for kept level.id ≡ Some (content level opened retained) → made ≡ bus_view_of (positioned level opened) watts → IsViewIn kept id powers view
+view_in kept level opened retained id powers watts view made e f same is h c there =
+    let both : Some (content level opened retained) ≡ Some c = sym is ∙ ap (kept_for kept) (sym e) ∙ there in
+    let one : content level opened retained ≡ c = cc in
     let P : Content → Type 0 = λ z. IsViewOf z powers view in
-    subst P one (same ∙ h ∙ ap (bus_view_of (positioned part.level part.states)) (sym f))
+    subst P one (same ∙ h ∙ ap (bus_view_of (positioned level opened)) (sym f))
