@@ -1,12 +1,10 @@
-// Levels of the present structure that bases share.
+// Levels of the present structure that benches and bases share.
 ghost use Rattle.std.specs.Prelude.{◌≡◌, ◌<◌, [], length, slice_get, Some, IfOk, OnOk, OnErr};
 ghost use Rattle.std.specs.Option.{option_copied};
 ghost use Rattle.grid_structure.specs.Network.{Network};
 ghost use Rattle.grid_structure.specs.Sites.{levels};
-ghost use Rattle.grid_requests.specs.Changes.{structure_after};
-ghost use Rattle.grid_board.specs.Copied.{AreCopies, copy_at, with_copy};
+ghost use Rattle.grid_core.specs.Copied.{AreCopies, copy_at, with_copy};
 
-use grid_core::Request;
 use grid_ids::{Duplicate, Memory};
 use grid_level::Level;
 use grid_shared::Shared;
@@ -23,7 +21,7 @@ pub(crate) struct Copies {
 }
 
 impl Model for Copies {
-    ghost use Rattle.grid_board.specs.Copied.{Copied};
+    ghost use Rattle.grid_core.specs.Copied.{Copied};
 
     ghost Value = { Copied };
 
@@ -77,16 +75,5 @@ impl Copies {
         let level = Shared::new(alloc, structure.level(place).copy()?)?;
         self.keep(place, level.copy()?)?;
         Ok(level)
-    }
-
-    /// Forgets every level where the request is an edit, since those that are kept may not be the structure's any
-    /// more.
-    pub(crate) fn follow(&mut self, request: &Request)
-        ensures { (net : Network) → AreCopies net self.old
-            → AreCopies (structure_after net request.now) self.new }
-    {
-        if let Request::Change { .. } = request {
-            self.levels.clear();
-        }
     }
 }

@@ -2,9 +2,9 @@ use Rattle.std.proofs.Common.{◌≡◌, sym, ap, ◌∙◌, subst}
 use Rattle.std.proofs.lemmas.Result.{IfOk-weaker}
 use Rattle.std.specs.Prelude.{slice_get, Some}
 use Rattle.grid_structure.specs.Sites.{levels}
-use Rattle.grid_board.specs.Copied.{AreCopies}
-use Rattle.grid_board.proofs.Copying.{copy_found, copies_with}
-use Rattle.grid_board.proofs.copies.Copies.level.Goals as goal
+use Rattle.grid_core.specs.Copied.{AreCopies}
+use Rattle.grid_core.proofs.Sharing.{copy_found, copies_with}
+use Rattle.grid_core.proofs.copies.Copies.level.Goals as goal
 
 pub returns-in-Some-clause-level : goal.returns-in-Some-clause-level
 returns-in-Some-clause-level c =

@@ -1,6 +1,6 @@
 -- Copies of levels by their places.
-use Rattle.std.proofs.Common.{◌≡◌, ◌≢◌, refl, sym, ap, ◌∙◌, subst, ℕ, arith, Bool, true, false, cond, [], ◌∷◌, Option, Some, None}
-use Rattle.std.specs.Prelude.{◌==◌, slice_get}
+use Rattle.std.proofs.Common.{◌≡◌, refl, sym, ap, ◌∙◌, subst, ℕ, arith, Bool, true, false, cond, List, [], ◌∷◌, Option, Some, None}
+use Rattle.std.specs.Prelude.{◌==◌, All, slice_get}
 use Rattle.std.specs.declared.cmp.Ordering.{Ordering}
 use Rattle.std.specs.declared.cmp.Ordering.TheVariants.{Less, Equal, Greater}
 use Rattle.std.specs.Ordering.{nat_cmp, is_eq, match_ordering}
@@ -9,15 +9,9 @@ use Rattle.std.proofs.lemmas.Bool.{eqb-true}
 use Rattle.std.proofs.lemmas.List.Elements.{All-nil, All-cons, All-head, All-tail}
 use Rattle.std.proofs.lemmas.Map.Lookups.{exact_unsigned}
 use Rattle.grid_level.specs.VoltageLevel.{VoltageLevel}
-use Rattle.grid_structure.specs.declared.Edit.{Edit}
 use Rattle.grid_structure.specs.Network.{Network}
 use Rattle.grid_structure.specs.Sites.{levels}
-use Rattle.grid_requests.specs.declared.request.Request.{Request}
-use Rattle.grid_requests.specs.declared.request.Request.TheVariants as requests
-use Rattle.grid_requests.specs.Changes.{structure_after}
-use Rattle.grid_board.specs.declared.tasks.Question.{Question}
-use Rattle.grid_board.specs.Questions.{asked_of}
-use Rattle.grid_board.specs.Copied.{Copied, copy_at, with_copy, AreCopies}
+use Rattle.grid_core.specs.Copied.{Copied, copy_at, with_copy, AreCopies}
 
 module _ (net : Network) where
   abbrev stands_there : ℕ × VoltageLevel → Type 0
@@ -45,33 +39,12 @@ module _ (net : Network) where
 pub no_copies : (net : Network) (copies : Copied) → copies ≡ [] → AreCopies net copies
 no_copies net copies none = subst (AreCopies net) (sym none) (All-nil (stands_there net))
 
--- what is no edit leaves the structure
-pub no_edit_stays : (net : Network) (request : Request) → ((edit : Edit) → request ≢ requests.Change edit) → structure_after net request ≡ net
-unfolding structure_after
-no_edit_stays net (requests.UseVariant name) apart = refl
-no_edit_stays net (requests.OpenSwitch id) apart = refl
-no_edit_stays net (requests.CloseSwitch id) apart = refl
-no_edit_stays net (requests.RetainSwitch id retained) apart = refl
-no_edit_stays net (requests.SetPower id watts) apart = refl
-no_edit_stays net requests.Totals apart = refl
-no_edit_stays net (requests.Connect id side) apart = refl
-no_edit_stays net (requests.Disconnect id side) apart = refl
-no_edit_stays net (requests.BusBreakerView level) apart = refl
-no_edit_stays net (requests.BusView level) apart = refl
-no_edit_stays net (requests.Components level) apart = refl
-no_edit_stays net (requests.CloneVariant from to overwrite) apart = refl
-no_edit_stays net (requests.RemoveVariant name) apart = refl
-no_edit_stays net (requests.Change edit) apart = absurd (apart edit refl)
-
--- an edit has no task
-pub asking_is_no_edit : (net : Network) (request : Request) (asked : Question) → asked_of net request ≡ Some asked → (edit : Edit) → request ≢ requests.Change edit
-unfolding asked_of
-asking_is_no_edit net request asked own edit is =
-    let nothing : ◌≡◌ {A = Option Question} None (Some asked) = sym (ap (asked_of net) is) ∙ own in
-    cc
-
 equal_test : (a b : ℕ) → is_eq (nat_cmp a b) ≡ (a == b)
 equal_test a b = grind arith
+
+-- what is of a network is of one with the same levels
+pub copies_same : (net next : Network) (copies : Copied) → levels next ≡ levels net → AreCopies net copies → AreCopies next copies
+copies_same net next copies same are = subst (λ (ls : List VoltageLevel). All (λ (copy : ℕ × VoltageLevel). slice_get ls copy.0 ≡ Some copy.1) copies) (sym same) are
 
 -- the test by which a place is found
 same_place : (place : ℕ) → ◌≡◌ {A = ℕ → Bool} (λ other. is_eq (nat_cmp place other)) (λ other. place == other)

@@ -1,0 +1,24 @@
+use Rattle.std.proofs.Common.{sym, ◌∙◌, ap}
+use Rattle.grid_structure.specs.Network.{Network}
+use Rattle.grid_structure.specs.Sites.{levels}
+use Rattle.grid_requests.specs.Changes.{structure_after}
+use Rattle.grid_core.proofs.BySlot.{forgotten_so}
+use Rattle.grid_core.proofs.Sharing.{copies_same}
+use Rattle.grid_core.proofs.Left.{left_so}
+use Rattle.grid_core.proofs.kept.follow.Goals as goal
+
+pub returns-then-leaves : goal.returns-then-leaves
+returns-then-leaves c net before after k stays refused =
+    let left = sym c.leaves.ensures ∙ c.if-leaves.true in
+    left_so net c.args.request.now before after c.args.all.now left k (stays left)
+
+pub returns-then-accepts : goal.returns-then-accepts
+returns-then-accepts c net before after k stays refused = c.none.ensures (structure_after net c.args.request.now) after
+
+pub returns-else-accepts : goal.returns-else-accepts
+returns-else-accepts c net before after k stays refused =
+    let same = refused (sym c.accepts.ensures ∙ c.if-accepts.false) in
+    record {
+      slots = forgotten_so net (structure_after net c.args.request.now) before after c.args.all.now.slots.items c.forget.new.all.items c.forget.ensures same k.slots;
+      copies = copies_same net (structure_after net c.args.request.now) c.args.all.now.copies (ap (λ (n : Network). levels n) same) k.copies;
+    }

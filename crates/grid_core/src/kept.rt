@@ -1,0 +1,150 @@
+// What is kept for the variant in each slot, for its next request, and what all slots share.
+ghost use Rattle.std.specs.Prelude.{◌≡◌, ◌<◌, IsTrue, IsFalse, OnOk, Bool, List, length, map};
+ghost use Rattle.grid_structure.specs.Network.{Network};
+ghost use Rattle.grid_slots.specs.declared.slots.Variant.{Variant};
+ghost use Rattle.grid_requests.specs.Changes.{structure_after};
+ghost use Rattle.grid_core.specs.Kept as kept;
+ghost use Rattle.grid_core.specs.Kept.{AreSlotBuses, AreBySlot, IsKept, forgotten};
+
+use crate::copies::Copies;
+use crate::kept_levels::KeptLevels;
+use crate::{Reply, Request};
+use grid_ids::Memory;
+use grid_islands::KeptBuses;
+use grid_structure::Edit;
+use std::alloc::Global;
+
+/// What is kept for the variant in a slot.
+#[derive(Drop)]
+pub(crate) struct SlotKept {
+    /// The buses of the levels, for the next request for components.
+    pub(crate) buses: KeptBuses,
+    /// All buses are kept under the flags that the variant has now. Where it does not say so they may be nevertheless.
+    pub(crate) known: bool,
+    /// Levels with the labels of their nodes, for the next view or plan.
+    pub(crate) levels: KeptLevels,
+}
+
+/// What is kept for the variant in each slot, and the copies of levels that the slots share.
+#[derive(Drop)]
+pub(crate) struct Kept {
+    pub(crate) slots: Vec<SlotKept>,
+    pub(crate) copies: Copies,
+}
+
+impl SlotKept {
+    // Nothing, which takes no memory.
+    fn empty(alloc: Global) -> SlotKept
+        ensures { (net : Network) (opened : List (List Bool)) → AreSlotBuses net opened result }
+    {
+        SlotKept {
+            buses: KeptBuses::empty(alloc),
+            known: false,
+            levels: KeptLevels::none(alloc),
+        }
+    }
+}
+
+impl Kept {
+    /// Nothing. It takes no memory.
+    pub(crate) fn none(alloc: Global) -> Kept
+        ensures { (net : Network) (variants : List Variant) → IsKept net variants result }
+    {
+        Kept {
+            slots: Vec::new(alloc),
+            copies: Copies::none(alloc),
+        }
+    }
+}
+
+/// Makes room for what is to be kept for a slot, where there is none yet.
+pub(crate) fn make_room(alloc: Global, all: &mut Vec<SlotKept>, slot: u32) -> Result<(), Memory>
+    ensures room { OnOk result (slot < length all.new.items) }
+    ensures kept { (net : Network) (variants : List Variant) → AreBySlot net variants all.old.items
+        → AreBySlot net variants all.new.items }
+{
+    while all.len() <= slot as usize {
+        all.push(SlotKept::empty(alloc))?;
+    }
+    Ok(())
+}
+
+// Whether a request leaves levels and branches, and in each slot its variant with the variant's flags, as they are.
+#[tactic(auto, unfolding(crate::specs::Kept::leaves, crate::specs::Kept::edit_leaves))]
+fn leaves(request: &Request) -> bool
+    ensures { result ≡ kept.leaves request.now }
+{
+    match request {
+        Request::UseVariant { .. }
+        | Request::Totals
+        | Request::BusBreakerView { .. }
+        | Request::BusView { .. }
+        | Request::Components { .. } => true,
+        Request::Change { edit } => edit_leaves(edit),
+        Request::OpenSwitch { .. }
+        | Request::CloseSwitch { .. }
+        | Request::RetainSwitch { .. }
+        | Request::SetPower { .. }
+        | Request::Connect { .. }
+        | Request::Disconnect { .. }
+        | Request::CloneVariant { .. }
+        | Request::RemoveVariant { .. } => false,
+    }
+}
+
+// Whether an edit leaves levels and branches as they are.
+#[tactic(auto, unfolding(crate::specs::Kept::edit_leaves))]
+fn edit_leaves(edit: &Edit) -> bool
+    ensures { result ≡ kept.edit_leaves edit.now }
+{
+    match edit {
+        Edit::AddSubstation { .. } => true,
+        Edit::AddLevel { .. }
+        | Edit::AddBusbar { .. }
+        | Edit::AddSwitch { .. }
+        | Edit::AddInjection { .. }
+        | Edit::AddBranch { .. }
+        | Edit::AddInternal { .. }
+        | Edit::RemoveSwitch { .. }
+        | Edit::RemoveEquipment { .. }
+        | Edit::RemoveInternal { .. } => false,
+    }
+}
+
+// Whether a request is an edit that was accepted.
+#[tactic(auto, unfolding(crate::specs::Kept::accepts))]
+fn accepts(request: &Request, reply: &Reply) -> bool
+    ensures { result ≡ kept.accepts request.now reply.now }
+{
+    match (request, reply) {
+        (Request::Change { .. }, Reply::Done) => true,
+        _ => false,
+    }
+}
+
+// That all buses are kept under the present flags is known of no slot any more.
+fn forget(all: &mut Vec<SlotKept>)
+    ensures { all.new.items ≡ map forgotten all.old.items }
+{
+    for slot in 0..all.len() {
+        all[slot].known = false;
+    }
+}
+
+/// Lets go what a request may have made wrong: after an accepted edit all that is kept, unless levels and branches are
+/// as before; and where flags may have changed, that all buses are kept under them.
+pub(crate) fn follow(alloc: Global, all: &mut Kept, request: &Request, reply: &Reply)
+    ensures { (net : Network) (before after : List Variant) → IsKept net before all.old
+        → (IsTrue (kept.leaves request.now) → after ≡ before)
+        → (IsFalse (kept.accepts request.now reply.now) → structure_after net request.now ≡ net)
+        → IsKept (structure_after net request.now) after all.new }
+{
+    if leaves(request) {
+        return;
+    }
+    if accepts(request, reply) {
+        *all = Kept::none(alloc);
+    } else {
+        forget(&mut all.slots);
+    }
+}
