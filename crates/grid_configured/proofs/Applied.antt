@@ -22,8 +22,8 @@ use Rattle.grid_paths.proofs.Least.{some_same, some_none}
 use Rattle.grid_json.specs.declared.fault.Fault.{Fault}
 use Rattle.grid_json.specs.Reading.{under}
 use Rattle.grid_json.proofs.Results.{bound, inside}
-use Rattle.grid_configured.specs.declared.network.BusSwitch.{BusSwitch}
-use Rattle.grid_configured.specs.declared.network.Item.{Item}
+use Rattle.grid_json.specs.declared.buses.BusSwitch.{BusSwitch}
+use Rattle.grid_json.specs.declared.buses.BusInjection.{BusInjection}
 use Rattle.grid_configured.specs.declared.network.ConfiguredLine.{ConfiguredLine}
 use Rattle.grid_configured.specs.declared.network.ConfiguredLevel.{ConfiguredLevel}
 use Rattle.grid_configured.specs.declared.network.ConfiguredNetwork.{ConfiguredNetwork}
@@ -112,7 +112,7 @@ switch_own : (s : BusSwitch) → switch_plain s ≡ true → Unmarked s.id
 unfolding switch_plain
 switch_own s h = unmarked_of s.id (and_parts (is_plain s.id) (is_plain s.bus1) (and_parts (is_plain s.id && is_plain s.bus1) (is_plain s.bus2) h).0).0
 
-item_own : (t : Item) → item_plain t ≡ true → Unmarked t.id
+item_own : (t : BusInjection) → item_plain t ≡ true → Unmarked t.id
 unfolding item_plain
 item_own t h = unmarked_of t.id (and_parts (is_plain t.id) (is_plain t.bus) h).0
 
@@ -130,7 +130,7 @@ level_own l h =
       own = unmarked_of l.id three.0;
       buses = each_plain l.buses three.1;
       switches = each_key switch_plain (λ (s : BusSwitch). s.id) switch_own l.switches two.1;
-      items = each_key item_plain (λ (t : Item). t.id) item_own l.items one.1;
+      items = each_key item_plain (λ (t : BusInjection). t.id) item_own l.items one.1;
     }
 
 levels_own : (ls : List ConfiguredLevel) → list_all level_plain ls ≡ true → Each PlainLevel ls
@@ -208,11 +208,11 @@ module _ (n : ConfiguredNetwork) (k : ℕ) (l : ConfiguredLevel) (h : LevelAt n 
       let total = checks.switch_total (take k n.levels) in
       check_each (switch_check ids l.buses total) (λ (s : BusSwitch). (has_id l.buses s.bus1 ≡ true) × (has_id l.buses s.bus2 ≡ true)) (λ earlier s e. let r = switch_right ids l.buses total earlier s e in (r.one, r.two)) [] 0 l.switches parts.switches
 
-  pub items_there : Each (λ (t : Item). has_id l.buses t.bus ≡ true) l.items
+  pub items_there : Each (λ (t : BusInjection). has_id l.buses t.bus ≡ true) l.items
   items_there =
       let ids = ids_of (take k n.levels) ++ l.id ∷ [] ++ (l.buses ++ map (λ s. s.id) l.switches) in
       let total = checks.switch_total (take k n.levels) + length l.switches in
-      check_each (item_check ids l.buses (length l.buses) (length l.switches) total) (λ (t : Item). has_id l.buses t.bus ≡ true) (λ earlier t e. (item_right ids l.buses (length l.buses) (length l.switches) total earlier t e).there) [] 0 l.items parts.items
+      check_each (item_check ids l.buses (length l.buses) (length l.switches) total) (λ (t : BusInjection). has_id l.buses t.bus ≡ true) (λ earlier t e. (item_right ids l.buses (length l.buses) (length l.switches) total earlier t e).there) [] 0 l.items parts.items
 
   abbrev JointFits : Joint → Type 0
   JointFits s = (s.place1 < length l.buses) × (s.place2 < length l.buses)
@@ -224,14 +224,14 @@ module _ (n : ConfiguredNetwork) (k : ℕ) (l : ConfiguredLevel) (h : LevelAt n 
       let P : List (List ℕ) → Type 0 = λ z. (bus_place z s.bus1 < length l.buses) × (bus_place z s.bus2 < length l.buses) in
       All-cons JointFits (joint_of part s) (map (joint_of part) ss) (subst P (sym same) (bus_there l.buses s.bus1 e.0.0, bus_there l.buses s.bus2 e.0.1)) (joints_fit part same ss e.1)
 
-  outlets_fit : (part : ConfiguredLevel) → part.buses ≡ l.buses → (ts : List Item) → Each (λ (t : Item). has_id l.buses t.bus ≡ true) ts → All (StandsWell (length l.buses)) (map (item_outlet part) ts)
+  outlets_fit : (part : ConfiguredLevel) → part.buses ≡ l.buses → (ts : List BusInjection) → Each (λ (t : BusInjection). has_id l.buses t.bus ≡ true) ts → All (StandsWell (length l.buses)) (map (item_outlet part) ts)
   unfolding item_outlet is_busbar
   outlets_fit part same [] e = All-nil (StandsWell (length l.buses))
   outlets_fit part same (t ∷ ts) e =
       let P : List (List ℕ) → Type 0 = λ z. (bus_place z t.bus < length l.buses) × (false ≡ false) in
       All-cons (StandsWell (length l.buses)) (item_outlet part t) (map (item_outlet part) ts) (subst P (sym same) (bus_there l.buses t.bus e.0, refl)) (outlets_fit part same ts e.1)
 
-  part_fits : (ss : List BusSwitch) (ts : List Item) → Each (λ (s : BusSwitch). (has_id l.buses s.bus1 ≡ true) × (has_id l.buses s.bus2 ≡ true)) ss → Each (λ (t : Item). has_id l.buses t.bus ≡ true) ts → PlacesFit (alone (record l { switches = ss; items = ts }))
+  part_fits : (ss : List BusSwitch) (ts : List BusInjection) → Each (λ (s : BusSwitch). (has_id l.buses s.bus1 ≡ true) × (has_id l.buses s.bus2 ≡ true)) ss → Each (λ (t : BusInjection). has_id l.buses t.bus ≡ true) ts → PlacesFit (alone (record l { switches = ss; items = ts }))
   part_fits ss ts e f = record { joints = joints_fit (record l { switches = ss; items = ts }) refl ss e; outlets = outlets_fit (record l { switches = ss; items = ts }) refl ts f }
 
   few_buses : length l.buses ≤ max_nodes
@@ -265,24 +265,24 @@ module _ (n : ConfiguredNetwork) (k : ℕ) (l : ConfiguredLevel) (h : LevelAt n 
       ∙ ap (λ z. translated (levels_only n (take k n.levels ++ record l { switches = z; items = [] } ∷ []))) (take_all (length l.switches) l.switches (omega arith))
       ∙ sym (part_is (λ level. first_items level 0) n k l h.at)
 
-  module _ (i : ℕ) (t : Item) (at : slice_get l.items i ≡ Some t) where
+  module _ (i : ℕ) (t : BusInjection) (at : slice_get l.items i ≡ Some t) where
     item_is : item_check (ids_of (take k n.levels) ++ l.id ∷ [] ++ (l.buses ++ map (λ s. s.id) l.switches)) l.buses (length l.buses) (length l.switches) (checks.switch_total (take k n.levels) + length l.switches) (take i l.items) t ≡ Ok tt
     item_is =
         check_at (item_check (ids_of (take k n.levels) ++ l.id ∷ [] ++ (l.buses ++ map (λ s. s.id) l.switches)) l.buses (length l.buses) (length l.switches) (checks.switch_total (take k n.levels) + length l.switches)) [] 0 l.items i t parts.items at
 
     item_marked : Unmarked t.id
-    item_marked = each_get Unmarked (map (λ (t : Item). t.id) l.items) i t.id plain_here.items (map_got (λ (t : Item). t.id) l.items i t at)
+    item_marked = each_get Unmarked (map (λ (t : BusInjection). t.id) l.items) i t.id plain_here.items (map_got (λ (t : BusInjection). t.id) l.items i t at)
 
     items_marked : PlainLevel (record l { items = take i l.items })
     items_marked = record {
       own = plain_here.own;
       buses = plain_here.buses;
       switches = plain_here.switches;
-      items = (let P : List (List ℕ) → Type 0 = λ z. Each Unmarked z in subst P (sym (take_ids (λ (t : Item). t.id) l.items i)) (each_take Unmarked (map (λ (t : Item). t.id) l.items) i plain_here.items));
+      items = (let P : List (List ℕ) → Type 0 = λ z. Each Unmarked z in subst P (sym (take_ids (λ (t : BusInjection). t.id) l.items i)) (each_take Unmarked (map (λ (t : BusInjection). t.id) l.items) i plain_here.items));
     }
 
     items_fit : PlacesFit (alone (record l { items = take i l.items }))
-    items_fit = part_fits l.switches (take i l.items) switches_there (each_take (λ (t : Item). has_id l.buses t.bus ≡ true) l.items i items_there)
+    items_fit = part_fits l.switches (take i l.items) switches_there (each_take (λ (t : BusInjection). has_id l.buses t.bus ≡ true) l.items i items_there)
 
     pub node_few : length l.buses + i < 1024
     node_few =

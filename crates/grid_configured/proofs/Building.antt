@@ -26,8 +26,8 @@ use Rattle.grid_structure.specs.Editing.{max_levels, max_switches, apply}
 use Rattle.grid_structure.proofs.Adding.{with_bare}
 use Rattle.grid_structure.proofs.Places.{position_none, position_found}
 use Rattle.grid_json.proofs.Results.{bound}
-use Rattle.grid_configured.specs.declared.network.BusSwitch.{BusSwitch}
-use Rattle.grid_configured.specs.declared.network.Item.{Item}
+use Rattle.grid_json.specs.declared.buses.BusSwitch.{BusSwitch}
+use Rattle.grid_json.specs.declared.buses.BusInjection.{BusInjection}
 use Rattle.grid_configured.specs.declared.network.ConfiguredLevel.{ConfiguredLevel}
 use Rattle.grid_configured.specs.declared.network.ConfiguredNetwork.{ConfiguredNetwork}
 use Rattle.grid_configured.specs.Checks as checks
@@ -137,13 +137,13 @@ part_counts ls v =
 -- ---- ids
 
 fresh_part : (ls : List ConfiguredLevel) (l : ConfiguredLevel) (id : List ℕ) → has_id (ids_of ls) id ≡ false → same_id id l.id ≡ false → has_id l.buses id ≡ false → has_id (map (λ (s : BusSwitch). s.id) l.switches) id ≡ false
-    → has_id (map (λ (t : Item). t.id) l.items) id ≡ false → has_id (ids_of (ls ++ l ∷ [])) id ≡ false
+    → has_id (map (λ (t : BusInjection). t.id) l.items) id ≡ false → has_id (ids_of (ls ++ l ∷ [])) id ≡ false
 unfolding level_ids has_id
 fresh_part ls l id a b c d e =
     ap (λ z. has_id z id) (flat_map-append level_ids ls (l ∷ []) ∙ ap (λ z. ids_of ls ++ z) (append-nil (level_ids l)))
-    ∙ join_free (ids_of ls) (l.id ∷ (l.buses ++ (map (λ (s : BusSwitch). s.id) l.switches ++ map (λ (t : Item). t.id) l.items))) id a
-    (join_free (l.id ∷ []) (l.buses ++ (map (λ (s : BusSwitch). s.id) l.switches ++ map (λ (t : Item). t.id) l.items)) id (ap (λ t. t || false) b)
-    (join_free l.buses (map (λ (s : BusSwitch). s.id) l.switches ++ map (λ (t : Item). t.id) l.items) id c (join_free (map (λ (s : BusSwitch). s.id) l.switches) (map (λ (t : Item). t.id) l.items) id d e)))
+    ∙ join_free (ids_of ls) (l.id ∷ (l.buses ++ (map (λ (s : BusSwitch). s.id) l.switches ++ map (λ (t : BusInjection). t.id) l.items))) id a
+    (join_free (l.id ∷ []) (l.buses ++ (map (λ (s : BusSwitch). s.id) l.switches ++ map (λ (t : BusInjection). t.id) l.items)) id (ap (λ t. t || false) b)
+    (join_free l.buses (map (λ (s : BusSwitch). s.id) l.switches ++ map (λ (t : BusInjection). t.id) l.items) id c (join_free (map (λ (s : BusSwitch). s.id) l.switches) (map (λ (t : BusInjection). t.id) l.items) id d e)))
 
 -- ---- what the checks say
 
@@ -208,12 +208,12 @@ terminal_right nodes edges switches h =
     }
 
 -- what is right with an injection
-pub record ItemRight (buses : List (List ℕ)) (nodes edges switches : ℕ) (t : Item) : Type 0 where
+pub record ItemRight (buses : List (List ℕ)) (nodes edges switches : ℕ) (t : BusInjection) : Type 0 where
   pub there : has_id buses t.bus ≡ true
   pub fault : injection_fault t.item ≡ None
   pub few : TerminalRight nodes edges switches
 
-pub item_right : (ids buses : List (List ℕ)) (nodes edges count : ℕ) (earlier : List Item) (t : Item) → item_check ids buses nodes edges count earlier t ≡ Ok tt → ItemRight buses (nodes + length earlier) (edges + length earlier) (count + length earlier) t
+pub item_right : (ids buses : List (List ℕ)) (nodes edges count : ℕ) (earlier : List BusInjection) (t : BusInjection) → item_check ids buses nodes edges count earlier t ≡ Ok tt → ItemRight buses (nodes + length earlier) (edges + length earlier) (count + length earlier) t
 unfolding item_check item_reasons
 item_right ids buses nodes edges count earlier t h =
     let one = bound (id_reasons _) _ tt h in
@@ -298,7 +298,7 @@ module _ (n : ConfiguredNetwork) (ls : List ConfiguredLevel) (l : ConfiguredLeve
     part_plain : PlainLevel part → PlainNetwork (levels_only n (ls ++ part ∷ []))
     part_plain p = record { levels = each_join PlainLevel ls (part ∷ []) plain (p, tt); lines = tt }
 
-    part_fresh : (id : List ℕ) → has_id (ids_of ls ++ l.id ∷ []) id ≡ false → has_id part.buses id ≡ false → has_id (map (λ (s : BusSwitch). s.id) part.switches) id ≡ false → has_id (map (λ (t : Item). t.id) part.items) id ≡ false
+    part_fresh : (id : List ℕ) → has_id (ids_of ls ++ l.id ∷ []) id ≡ false → has_id part.buses id ≡ false → has_id (map (λ (s : BusSwitch). s.id) part.switches) id ≡ false → has_id (map (λ (t : BusInjection). t.id) part.items) id ≡ false
         → Fresh (levels_only n (ls ++ part ∷ [])) id
     unfolding has_id
     part_fresh id a c d e =
@@ -369,13 +369,13 @@ module _ (n : ConfiguredNetwork) (ls : List ConfiguredLevel) (l : ConfiguredLeve
       ∙ ap Ok (sym (part_stack n ls more))
 
   -- the level with the breaker of one injection more
-  abbrev pub next_breaker : List Item → Item → Switch
+  abbrev pub next_breaker : List BusInjection → BusInjection → Switch
   next_breaker ts t = outlet_breaker (next_node (alone (record l { items = ts })), item_outlet l t)
 
-  abbrev pub half : List Item → Item → Network
+  abbrev pub half : List BusInjection → BusInjection → Network
   half ts t = stack n.id (alone_levels ls ++ switch_more (next_breaker ts t) (translated_level (alone (record l { items = ts }))) ∷ []) []
 
-  module _ (ts : List Item) (t : Item) (right : item_check (ids_of ls ++ l.id ∷ [] ++ (l.buses ++ map (λ s. s.id) l.switches)) l.buses (length l.buses) (length l.switches) (checks.switch_total ls + length l.switches) ts t ≡ Ok tt)
+  module _ (ts : List BusInjection) (t : BusInjection) (right : item_check (ids_of ls ++ l.id ∷ [] ++ (l.buses ++ map (λ s. s.id) l.switches)) l.buses (length l.buses) (length l.switches) (checks.switch_total ls + length l.switches) ts t ≡ Ok tt)
       (marked : Unmarked t.id) (part_marked : PlainLevel (record l { items = ts })) (fit : PlacesFit (alone (record l { items = ts }))) where
     abbrev part : ConfiguredLevel
     part = record l { items = ts }
@@ -401,7 +401,7 @@ module _ (n : ConfiguredNetwork) (ls : List ConfiguredLevel) (l : ConfiguredLeve
     item_fresh : Fresh (levels_only n (ls ++ record l { items = ts } ∷ [])) t.id
     item_fresh =
         let all = fresh_item ids l.buses (length l.buses) (length l.switches) (checks.switch_total ls + length l.switches) ts t right in
-        let one = join_parts ids (map (λ (t : Item). t.id) ts) t.id all in
+        let one = join_parts ids (map (λ (t : BusInjection). t.id) ts) t.id all in
         let two = join_parts (ids_of ls ++ l.id ∷ []) (l.buses ++ map (λ s. s.id) l.switches) t.id one.0 in
         let three = join_parts l.buses (map (λ (s : BusSwitch). s.id) l.switches) t.id two.1 in
         part_fresh part refl t.id two.0 three.0 three.1 one.1

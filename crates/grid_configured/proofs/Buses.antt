@@ -18,8 +18,8 @@ use Rattle.grid_core.specs.declared.reply.Refusal.TheVariants as refusals
 use Rattle.grid_core.specs.Solo as solo
 use Rattle.grid_core.specs.Solo.{State, side_of, site_of_side, connected, connected_from, connected_at, disconnected, disconnected_from, disconnected_at}
 use Rattle.grid_paths.proofs.Least.{some_same, some_none}
-use Rattle.grid_configured.specs.declared.network.Item.{Item}
-use Rattle.grid_configured.specs.declared.network.BusEnd.{BusEnd}
+use Rattle.grid_json.specs.declared.buses.BusInjection.{BusInjection}
+use Rattle.grid_json.specs.declared.buses.BusEnd.{BusEnd}
 use Rattle.grid_configured.specs.declared.network.ConfiguredLine.{ConfiguredLine}
 use Rattle.grid_configured.specs.declared.network.ConfiguredLevel.{ConfiguredLevel}
 use Rattle.grid_configured.specs.declared.network.ConfiguredNetwork.{ConfiguredNetwork}
@@ -38,7 +38,7 @@ use Rattle.grid_configured.proofs.Plugged.{fits_at, level_there, level_now}
 
 -- ---- no terminal of a level has an id that no injection and no line has
 
-no_item : (id : List ℕ) (side at : ℕ) (level : ConfiguredLevel) (items : List Item) (rest : List Outlet) → has_id (map (λ i. i.id) items) id ≡ false
+no_item : (id : List ℕ) (side at : ℕ) (level : ConfiguredLevel) (items : List BusInjection) (rest : List Outlet) → has_id (map (λ i. i.id) items) id ≡ false
     → ((from : ℕ) → find (placed_test id side) (map outlet_placed (enumerate_from from rest)) ≡ None) → find (placed_test id side) (map outlet_placed (enumerate_from at (map (item_outlet level) items ++ rest))) ≡ None
 unfolding placed_test outlet_placed item_outlet has_id
 no_item id side at level [] rest none more = more at

@@ -25,7 +25,7 @@ use Rattle.grid_structure.specs.Editing.{apply}
 use Rattle.grid_structure.proofs.Adding.{with_bare}
 use Rattle.grid_structure.proofs.ListOfLevels.{level_at}
 use Rattle.grid_paths.proofs.Least.{some_same, some_none}
-use Rattle.grid_configured.specs.declared.network.Item.{Item}
+use Rattle.grid_json.specs.declared.buses.BusInjection.{BusInjection}
 use Rattle.grid_configured.specs.declared.network.ConfiguredLine.{ConfiguredLine}
 use Rattle.grid_configured.specs.declared.network.ConfiguredLevel.{ConfiguredLevel}
 use Rattle.grid_configured.specs.declared.network.ConfiguredNetwork.{ConfiguredNetwork}
@@ -38,7 +38,7 @@ use Rattle.grid_configured.specs.Partial.{first_levels, with_buses, with_switche
 use Rattle.grid_configured.proofs.Applied.{made, LevelAt, home_law, level_law, bus_law, joint_law, breaker_law, between, item_law, all_buses, all_switches, all_items}
 use Rattle.grid_configured.proofs.Extended.{joint_sites, item_site, LineAt, LineSteps, line_steps}
 use Rattle.grid_structure.specs.Sites as sites
-use Rattle.grid_configured.specs.declared.network.BusSwitch.{BusSwitch}
+use Rattle.grid_json.specs.declared.buses.BusSwitch.{BusSwitch}
 
 -- ---- answers
 
@@ -73,7 +73,7 @@ pub own_is_plain : (l : ConfiguredLevel) → level_plain l ≡ true → is_plain
 unfolding level_plain
 own_is_plain l h = (and_parts (is_plain l.id) _ (and_parts (is_plain l.id && _) _ (and_parts (is_plain l.id && _ && _) _ h).0).0).0
 
-pub item_is_plain : (l : ConfiguredLevel) (k : ℕ) (t : Item) → level_plain l ≡ true → slice_get l.items k ≡ Some t → is_plain t.id ≡ true
+pub item_is_plain : (l : ConfiguredLevel) (k : ℕ) (t : BusInjection) → level_plain l ≡ true → slice_get l.items k ≡ Some t → is_plain t.id ≡ true
 unfolding level_plain item_plain
 item_is_plain l k t h at = (and_parts (is_plain t.id) (is_plain t.bus) (all_at item_plain l.items k t (and_parts _ (list_all item_plain l.items) h).1 at)).0
 
@@ -190,10 +190,10 @@ joint_there n k l h old i s is at =
 
 -- ---- injections
 
-pub item_there : (n : ConfiguredNetwork) (k : ℕ) (l : ConfiguredLevel) (h : LevelAt n k l) (old : Network) (i : ℕ) (t : Item) → old ≡ with_items n k i → slice_get l.items i ≡ Some t → IsSome (sites.site old t.bus 1)
+pub item_there : (n : ConfiguredNetwork) (k : ℕ) (l : ConfiguredLevel) (h : LevelAt n k l) (old : Network) (i : ℕ) (t : BusInjection) → old ≡ with_items n k i → slice_get l.items i ≡ Some t → IsSome (sites.site old t.bus 1)
 item_there n k l h old i t is at = site_there old t.bus _ (ap (λ z. sites.site z t.bus 1) is ∙ item_site n k l h i t at)
 
-pub item_first : (n : ConfiguredNetwork) (k : ℕ) (l : ConfiguredLevel) (h : LevelAt n k l) (old : Network) (i : ℕ) (t : Item) (at : slice_get l.items i ≡ Some t) (bus : ℕ) (breaker : List ℕ) (b z : ℤ) → old ≡ with_items n k i
+pub item_first : (n : ConfiguredNetwork) (k : ℕ) (l : ConfiguredLevel) (h : LevelAt n k l) (old : Network) (i : ℕ) (t : BusInjection) (at : slice_get l.items i ≡ Some t) (bus : ℕ) (breaker : List ℕ) (b z : ℤ) → old ≡ with_items n k i
     → IfSome (sites.site old t.bus 1) (λ at. bus ≡ at.1) → b ≡ pos bus → z ≡ pos (length l.buses + i) → breaker ≡ t.id ++ codes "!" ++ codes "1"
     → apply old (edits.AddSwitch breaker l.id Breaker b z (not t.connected) false false) ≡ Ok (between n k l h i t at)
 item_first n k l h old i t at bus breaker b z is found number next named =
@@ -204,7 +204,7 @@ item_first n k l h old i t at bus breaker b z is found number next named =
     ∙ ap (λ x. apply (with_items n k i) (edits.AddSwitch (breaker_id (record { equipment = t.id; side = 1 })) l.id Breaker (pos (bus_place l.buses t.bus)) x (not t.connected) false false)) next
     ∙ breaker_law n k l h i t at
 
-pub item_second : (n : ConfiguredNetwork) (k : ℕ) (l : ConfiguredLevel) (h : LevelAt n k l) (mid : Network) (i : ℕ) (t : Item) (at : slice_get l.items i ≡ Some t) (z : ℤ) → mid ≡ between n k l h i t at → z ≡ pos (length l.buses + i)
+pub item_second : (n : ConfiguredNetwork) (k : ℕ) (l : ConfiguredLevel) (h : LevelAt n k l) (mid : Network) (i : ℕ) (t : BusInjection) (at : slice_get l.items i ≡ Some t) (z : ℤ) → mid ≡ between n k l h i t at → z ≡ pos (length l.buses + i)
     → apply mid (edits.AddInjection t.id l.id z t.item) ≡ Ok (with_items n k (i + 1))
 item_second n k l h mid i t at z is next =
     let e : suc i ≡ i + 1 = omega arith in

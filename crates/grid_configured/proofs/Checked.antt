@@ -18,9 +18,9 @@ use Rattle.grid_paths.proofs.Least.{some_same, some_none}
 use Rattle.grid_json.specs.declared.fault.Fault.{Fault}
 use Rattle.grid_json.specs.Reading.{under}
 use Rattle.grid_json.proofs.Results.{bound, inside}
-use Rattle.grid_configured.specs.declared.network.BusSwitch.{BusSwitch}
-use Rattle.grid_configured.specs.declared.network.Item.{Item}
-use Rattle.grid_configured.specs.declared.network.BusEnd.{BusEnd}
+use Rattle.grid_json.specs.declared.buses.BusSwitch.{BusSwitch}
+use Rattle.grid_json.specs.declared.buses.BusInjection.{BusInjection}
+use Rattle.grid_json.specs.declared.buses.BusEnd.{BusEnd}
 use Rattle.grid_configured.specs.declared.network.ConfiguredLine.{ConfiguredLine}
 use Rattle.grid_configured.specs.declared.network.ConfiguredLevel.{ConfiguredLevel}
 use Rattle.grid_configured.specs.declared.network.ConfiguredNetwork.{ConfiguredNetwork}
@@ -93,7 +93,7 @@ pub fresh_switch : (ids buses : List (List ℕ)) (count : ℕ) (earlier : List B
 unfolding switch_check switch_reasons id_reasons
 fresh_switch ids buses count earlier s h = not_refused (has_id (ids ++ map (λ s. s.id) earlier) s.id) _ _ (bound (refuse_if (has_id (ids ++ map (λ s. s.id) earlier) s.id) _) _ tt h).1
 
-pub fresh_item : (ids buses : List (List ℕ)) (nodes edges count : ℕ) (earlier : List Item) (t : Item) → item_check ids buses nodes edges count earlier t ≡ Ok tt → has_id (ids ++ map (λ t. t.id) earlier) t.id ≡ false
+pub fresh_item : (ids buses : List (List ℕ)) (nodes edges count : ℕ) (earlier : List BusInjection) (t : BusInjection) → item_check ids buses nodes edges count earlier t ≡ Ok tt → has_id (ids ++ map (λ t. t.id) earlier) t.id ≡ false
 unfolding item_check item_reasons id_reasons
 fresh_item ids buses nodes edges count earlier t h = not_refused (has_id (ids ++ map (λ t. t.id) earlier) t.id) _ _ (bound (refuse_if (has_id (ids ++ map (λ t. t.id) earlier) t.id) _) _ tt h).1
 
@@ -241,10 +241,10 @@ switch_stands ids buses count earlier s h =
     let three = bound (refuse_if (not (has_id buses s.bus1 && has_id buses s.bus2)) _) _ tt two.1 in
     and_parts (has_id buses s.bus1) (has_id buses s.bus2) (not-false (has_id buses s.bus1 && has_id buses s.bus2) (not_refused (not (has_id buses s.bus1 && has_id buses s.bus2)) _ _ three.1))
 
-ItemStands : List (List ℕ) → Item → Type 0
+ItemStands : List (List ℕ) → BusInjection → Type 0
 ItemStands buses t = has_id buses t.bus ≡ true
 
-item_stands : (ids buses : List (List ℕ)) (nodes edges count : ℕ) (earlier : List Item) (t : Item) → item_check ids buses nodes edges count earlier t ≡ Ok tt → ItemStands buses t
+item_stands : (ids buses : List (List ℕ)) (nodes edges count : ℕ) (earlier : List BusInjection) (t : BusInjection) → item_check ids buses nodes edges count earlier t ≡ Ok tt → ItemStands buses t
 unfolding item_check item_reasons ItemStands
 item_stands ids buses nodes edges count earlier t h =
     let one = bound (id_reasons _) _ tt h in
@@ -340,7 +340,7 @@ joints_well l (s ∷ ss) h =
     let here = All-head (SwitchStands l.buses) s ss h in
     All-cons (λ (s : Joint). (s.place1 < length l.buses) × (s.place2 < length l.buses)) (joint_of l s) (map (joint_of l) ss) (bus_there l.buses s.bus1 here.0, bus_there l.buses s.bus2 here.1) (joints_well l ss (All-tail (SwitchStands l.buses) s ss h))
 
-items_well : (l : ConfiguredLevel) (ts : List Item) → All (ItemStands l.buses) ts → All (StandsWell (length l.buses)) (map (item_outlet l) ts)
+items_well : (l : ConfiguredLevel) (ts : List BusInjection) → All (ItemStands l.buses) ts → All (StandsWell (length l.buses)) (map (item_outlet l) ts)
 unfolding item_outlet ItemStands is_busbar
 items_well l [] h = All-nil (StandsWell (length l.buses))
 items_well l (t ∷ ts) h = All-cons (StandsWell (length l.buses)) (item_outlet l t) (map (item_outlet l) ts) (bus_there l.buses t.bus (All-head (ItemStands l.buses) t ts h), refl) (items_well l ts (All-tail (ItemStands l.buses) t ts h))

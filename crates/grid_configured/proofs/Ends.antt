@@ -9,7 +9,7 @@ use Rattle.grid_ids.specs.Refusing.{found_or}
 use Rattle.grid_structure.specs.declared.EditFault.TheVariants as refusals
 use Rattle.grid_json.specs.declared.fault.Reason.TheVariants.{Load}
 use Rattle.grid_json.specs.Reading.{◌>>=◌, here}
-use Rattle.grid_configured.specs.declared.network.BusEnd.{BusEnd}
+use Rattle.grid_json.specs.declared.buses.BusEnd.{BusEnd}
 use Rattle.grid_configured.specs.declared.network.ConfiguredLevel.{ConfiguredLevel}
 use Rattle.grid_configured.specs.declared.standing.Spot.{Spot}
 use Rattle.grid_configured.specs.declared.standing.Standing.{Standing}

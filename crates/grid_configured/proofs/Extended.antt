@@ -22,8 +22,8 @@ use Rattle.grid_paths.proofs.Least.{some_same, some_none}
 use Rattle.grid_json.specs.declared.fault.Fault.{Fault}
 use Rattle.grid_json.specs.Reading.{◌>>=◌, under}
 use Rattle.grid_json.proofs.Results.{bound, inside}
-use Rattle.grid_configured.specs.declared.network.BusSwitch.{BusSwitch}
-use Rattle.grid_configured.specs.declared.network.Item.{Item}
+use Rattle.grid_json.specs.declared.buses.BusSwitch.{BusSwitch}
+use Rattle.grid_json.specs.declared.buses.BusInjection.{BusInjection}
 use Rattle.grid_configured.specs.declared.network.ConfiguredLine.{ConfiguredLine}
 use Rattle.grid_configured.specs.declared.network.ConfiguredLevel.{ConfiguredLevel}
 use Rattle.grid_configured.specs.declared.network.ConfiguredNetwork.{ConfiguredNetwork}
@@ -101,7 +101,7 @@ module _ (n : ConfiguredNetwork) (k : ℕ) (l : ConfiguredLevel) (h : LevelAt n 
         bus_site m plain_m bus refl (translated m) k part (levels_translated m) few (last_at (take k n.levels) part k (sym (take_length n.levels k l h.at))) has_part
         ∙ ap (λ z. Some (k, bus_place z bus)) same
 
-  fewer_ids : (ss : List BusSwitch) (ts : List Item) → ((q : List ℕ) → times q (map (λ (s : BusSwitch). s.id) ss) ≤ times q (map (λ (s : BusSwitch). s.id) l.switches)) → ((q : List ℕ) → times q (map (λ (t : Item). t.id) ts) ≤ times q (map (λ (t : Item). t.id) l.items))
+  fewer_ids : (ss : List BusSwitch) (ts : List BusInjection) → ((q : List ℕ) → times q (map (λ (s : BusSwitch). s.id) ss) ≤ times q (map (λ (s : BusSwitch). s.id) l.switches)) → ((q : List ℕ) → times q (map (λ (t : BusInjection). t.id) ts) ≤ times q (map (λ (t : BusInjection). t.id) l.items))
       → (q : List ℕ) → times q (level_ids (record l { switches = ss; items = ts })) ≤ times q (level_ids l)
   fewer_ids ss ts f g q =
       let a = sighted.times_level q (record l { switches = ss; items = ts }) in
@@ -127,16 +127,16 @@ module _ (n : ConfiguredNetwork) (k : ℕ) (l : ConfiguredLevel) (h : LevelAt n 
   items_site i bus has =
       let own = plain_here n k l h in
       ap (λ z. sites.site z bus 1) (part_is (λ level. first_items level i) n k l h.at)
-      ∙ part_site (first_items l i) (fewer_ids l.switches (take i l.items) (λ q. omega arith) (first_ids (λ (t : Item). t.id) l.items i))
-      (record { own = own.own; buses = own.buses; switches = own.switches; items = first_marked (λ (t : Item). t.id) l.items i own.items }) refl bus has
+      ∙ part_site (first_items l i) (fewer_ids l.switches (take i l.items) (λ q. omega arith) (first_ids (λ (t : BusInjection). t.id) l.items i))
+      (record { own = own.own; buses = own.buses; switches = own.switches; items = first_marked (λ (t : BusInjection). t.id) l.items i own.items }) refl bus has
 
   pub joint_sites : (i : ℕ) (s : BusSwitch) → slice_get l.switches i ≡ Some s → (sites.site (with_switches n k i) s.bus1 1 ≡ Some (k, bus_place l.buses s.bus1)) × (sites.site (with_switches n k i) s.bus2 1 ≡ Some (k, bus_place l.buses s.bus2))
   joint_sites i s at =
       let has = each_get (λ (s : BusSwitch). (has_id l.buses s.bus1 ≡ true) × (has_id l.buses s.bus2 ≡ true)) l.switches i s (switches_there n k l h) at in
       (switches_site i s.bus1 has.0, switches_site i s.bus2 has.1)
 
-  pub item_site : (i : ℕ) (t : Item) → slice_get l.items i ≡ Some t → sites.site (with_items n k i) t.bus 1 ≡ Some (k, bus_place l.buses t.bus)
-  item_site i t at = items_site i t.bus (each_get (λ (t : Item). has_id l.buses t.bus ≡ true) l.items i t (items_there n k l h) at)
+  pub item_site : (i : ℕ) (t : BusInjection) → slice_get l.items i ≡ Some t → sites.site (with_items n k i) t.bus 1 ≡ Some (k, bus_place l.buses t.bus)
+  item_site i t at = items_site i t.bus (each_get (λ (t : BusInjection). has_id l.buses t.bus ≡ true) l.items i t (items_there n k l h) at)
 
 -- ---- a line of a network
 

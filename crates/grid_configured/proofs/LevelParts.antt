@@ -10,8 +10,8 @@ use Rattle.grid_json.specs.declared.fault.ReadError.{ReadError}
 use Rattle.grid_json.specs.declared.fault.ReadError.TheVariants as errors
 use Rattle.grid_json.specs.Reading.{Fails, Gives, under}
 use Rattle.grid_kinds.specs.Records.{injection_fault}
-use Rattle.grid_configured.specs.declared.network.BusSwitch.{BusSwitch}
-use Rattle.grid_configured.specs.declared.network.Item.{Item}
+use Rattle.grid_json.specs.declared.buses.BusSwitch.{BusSwitch}
+use Rattle.grid_json.specs.declared.buses.BusInjection.{BusInjection}
 use Rattle.grid_configured.specs.declared.network.ConfiguredLevel.{ConfiguredLevel}
 use Rattle.grid_configured.specs.Checks.{bus_check, bus_reasons, item_check, item_ids, item_reasons, list_check, part_ids, parts_check, switch_check, switch_ids, switch_reasons}
 use Rattle.grid_json.specs.Seen.{Knows}
@@ -45,7 +45,7 @@ module _ (ids seen : List (List ℕ)) where
 
   -- ---- injections
 
-  module _ (buses : List (List ℕ)) (nodes edges total : ℕ) (items : List Item) (i : ℕ) (t : Item) (lt : i < length items) (is : t ≡ get_or items i t) (known : Knows seen (ids ++ item_ids (take i items))) where
+  module _ (buses : List (List ℕ)) (nodes edges total : ℕ) (items : List BusInjection) (i : ℕ) (t : BusInjection) (lt : i < length items) (is : t ≡ get_or items i t) (known : Knows seen (ids ++ item_ids (take i items))) where
     pub item_as : item_check ids buses nodes edges total (take i items) t ≡ item_reasons (has_id seen t.id) (has_id buses t.bus) (injection_fault t.item) (nodes + i) (edges + i) (total + i)
     unfolding item_check
     item_as =
@@ -55,7 +55,7 @@ module _ (ids seen : List (List ℕ)) where
     pub items_known : (now : List (List ℕ)) → Knows now (seen ++ t.id ∷ []) → Knows now (ids ++ item_ids (take (i + 1) items))
     items_known now h q =
         knows_next seen now ids (item_ids (take i items)) t.id known h q
-        ∙ ap (λ z. has_id (ids ++ z) q) (sym (ap item_ids (take_next items i t lt is) ∙ map-append (λ (t : Item). t.id) (take i items) (t ∷ [])))
+        ∙ ap (λ z. has_id (ids ++ z) q) (sym (ap item_ids (take_next items i t lt is) ∙ map-append (λ (t : BusInjection). t.id) (take i items) (t ∷ [])))
 
 -- ---- what stands in a level, by sets that have its ids
 
@@ -79,7 +79,7 @@ module _ (ids seen own : List (List ℕ)) (total : ℕ) (l : ConfiguredLevel) (k
     unfolding item_check
     items_alike nodes edges switches = ap (under (codes "injections")) (each_alike (item_check more own nodes edges switches) (item_check (ids ++ (l.buses ++ switch_ids l.switches)) l.buses nodes edges switches) l.items same)
       where
-        same : (earlier : List Item) (t : Item) → item_check more own nodes edges switches earlier t ≡ item_check (ids ++ (l.buses ++ switch_ids l.switches)) l.buses nodes edges switches earlier t
+        same : (earlier : List BusInjection) (t : BusInjection) → item_check more own nodes edges switches earlier t ≡ item_check (ids ++ (l.buses ++ switch_ids l.switches)) l.buses nodes edges switches earlier t
         same earlier t =
             ap (λ b. item_reasons b (has_id own t.bus) (injection_fault t.item) (nodes + length earlier) (edges + length earlier) (switches + length earlier)) (knows-append more (ids ++ (l.buses ++ switch_ids l.switches)) (item_ids earlier) before_items t.id)
             ∙ ap (λ b. item_reasons (has_id ((ids ++ (l.buses ++ switch_ids l.switches)) ++ item_ids earlier) t.id) b (injection_fault t.item) (nodes + length earlier) (edges + length earlier) (switches + length earlier)) (has t.bus)

@@ -27,7 +27,7 @@ use Rattle.grid_structure.specs.Editing.{max_switches, apply}
 use Rattle.grid_structure.proofs.Counts.{times}
 use Rattle.grid_paths.proofs.Least.{some_same, some_none}
 use Rattle.grid_json.proofs.Results.{bound}
-use Rattle.grid_configured.specs.declared.network.BusEnd.{BusEnd}
+use Rattle.grid_json.specs.declared.buses.BusEnd.{BusEnd}
 use Rattle.grid_configured.specs.declared.network.ConfiguredLine.{ConfiguredLine}
 use Rattle.grid_configured.specs.declared.network.ConfiguredLevel.{ConfiguredLevel}
 use Rattle.grid_configured.specs.declared.network.ConfiguredNetwork.{ConfiguredNetwork}

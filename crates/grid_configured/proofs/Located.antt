@@ -22,8 +22,8 @@ use Rattle.grid_structure.specs.Sites as sites
 use Rattle.grid_structure.specs.Sites.{levels, first_found, branch_ends}
 use Rattle.grid_structure.proofs.Places.{none_position, position_found}
 use Rattle.grid_paths.proofs.Least.{some_same, some_none}
-use Rattle.grid_configured.specs.declared.network.Item.{Item}
-use Rattle.grid_configured.specs.declared.network.BusEnd.{BusEnd}
+use Rattle.grid_json.specs.declared.buses.BusInjection.{BusInjection}
+use Rattle.grid_json.specs.declared.buses.BusEnd.{BusEnd}
 use Rattle.grid_configured.specs.declared.network.ConfiguredLine.{ConfiguredLine}
 use Rattle.grid_configured.specs.declared.network.ConfiguredLevel.{ConfiguredLevel}
 use Rattle.grid_configured.specs.declared.network.ConfiguredNetwork.{ConfiguredNetwork}
@@ -132,7 +132,7 @@ singles_buses at [] = refl
 singles_buses at (b ∷ buses) = ap (λ z. b ∷ z) (singles_buses (at + 1) buses)
 
 -- the injections' terminals, then nothing of the lines
-singles_items : (level : ConfiguredLevel) (at : ℕ) (items : List Item) (rest : List Outlet) → ((from : ℕ) → singles (map outlet_placed (enumerate_from from rest)) ≡ [])
+singles_items : (level : ConfiguredLevel) (at : ℕ) (items : List BusInjection) (rest : List Outlet) → ((from : ℕ) → singles (map outlet_placed (enumerate_from from rest)) ≡ [])
     → singles (map outlet_placed (enumerate_from at (map (item_outlet level) items ++ rest))) ≡ map (λ i. i.id) items
 unfolding singles outlet_placed item_outlet is_branch_end
 singles_items level at [] rest none = none at

@@ -14,20 +14,20 @@ use Rattle.grid_json.specs.declared.fault.Reason.TheVariants.{Reserved, Schedule
 use Rattle.grid_json.specs.declared.format.Format.TheVariants.{Four}
 use Rattle.grid_json.specs.Job.{command_total, counted_scripts, few_at, is_order, max_commands, max_workers, natural_of, order_at, ordered}
 use Rattle.grid_json.specs.Kinds.{injection_kind_at}
-use Rattle.grid_json.specs.Network.{both, item_at, two_at, two_of}
+use Rattle.grid_json.specs.Network.{both, bus_injection_names, item_at, two_at, two_of}
 use Rattle.grid_value.specs.View.{items_len}
 use Rattle.grid_json.specs.Reading.{◌>>=◌, array_at, flag_at, here, id_at, items_at, member_at, member_or, object_at, only_at, optional_at, or_fault, present, some_of, under, whole_at, word_at}
 use Rattle.grid_json.proofs.Results.{all_counted, bound, either_read, inside, member_read, some_read}
 use Rattle.grid_configured.specs.declared.commands.Verb.{Verb}
 use Rattle.grid_configured.specs.declared.commands.Verb.TheVariants as verbs
-use Rattle.grid_configured.specs.declared.network.BusEnd.{BusEnd}
-use Rattle.grid_configured.specs.declared.network.BusSwitch.{BusSwitch}
+use Rattle.grid_configured.specs.declared.parts.PlainEnd.{PlainEnd}
+use Rattle.grid_json.specs.declared.buses.BusSwitch.{BusSwitch}
 use Rattle.grid_configured.specs.declared.network.ConfiguredLevel.{ConfiguredLevel}
 use Rattle.grid_configured.specs.declared.network.ConfiguredLine.{ConfiguredLine}
 use Rattle.grid_configured.specs.declared.network.ConfiguredNetwork.{ConfiguredNetwork}
-use Rattle.grid_configured.specs.declared.network.Item.{Item}
+use Rattle.grid_json.specs.declared.buses.BusInjection.{BusInjection}
 use Rattle.grid_configured.specs.Checks.{IsTranslatable, network_check}
-use Rattle.grid_configured.specs.Jobs.{IsOrdered, bus_switch_at, clone_at, command_at, command_names, end_at, injection_at, injection_names, level_at, level_names, line_at, named_at, network_at, plain_at, plain_or_reserved, request_at, sided_at, verb_words, workers_at}
+use Rattle.grid_configured.specs.Jobs.{IsOrdered, bus_switch_at, clone_at, command_at, command_names, end_at, injection_at, level_at, level_names, line_at, named_at, network_at, plain_at, plain_or_reserved, request_at, sided_at, verb_words, workers_at}
 use Rattle.grid_configured.specs.Names.{IsConfiguredRequest, end_plain, is_plain, item_plain, level_plain, line_plain, network_plain, request_plain, switch_plain}
 
 -- a value of a member keeps what each value that is read keeps
@@ -79,20 +79,20 @@ switch_read d s is =
     let kept : switch_plain made ≡ true = rw (plain_member (codes "id") d id.0 id.1, plain_member (codes "bus1") d bus1.0 bus1.1, plain_member (codes "bus2") d bus2.0 bus2.1) refl in
     subst (λ (z : BusSwitch). switch_plain z ≡ true) same kept
 
-item_read : (d : Data) (t : Item) → injection_at d ≡ Ok t → item_plain t ≡ true
+item_read : (d : Data) (t : BusInjection) → injection_at d ≡ Ok t → item_plain t ≡ true
 unfolding injection_at item_plain
 item_read d t is =
     let object = bound (object_at d) _ t is in
     let kind = bound (member_at (injection_kind_at Four) (codes "kind") d) _ t object.2 in
-    let known = bound (only_at (injection_names kind.0) d) _ t kind.2 in
+    let known = bound (only_at (bus_injection_names kind.0) d) _ t kind.2 in
     let id = bound (member_at plain_at (codes "id") d) _ t known.2 in
     let bus = bound (member_at plain_at (codes "bus") d) _ t id.2 in
     let connected = bound (member_at flag_at (codes "connected") d) _ t bus.2 in
     let injected = bound (item_at kind.0 d) _ t connected.2 in
-    let made : Item = record { id = id.0; bus = bus.0; connected = connected.0; item = injected.0 } in
+    let made : BusInjection = record { id = id.0; bus = bus.0; connected = connected.0; item = injected.0 } in
     let same : made ≡ t = cc in
     let kept : item_plain made ≡ true = rw (plain_member (codes "id") d id.0 id.1, plain_member (codes "bus") d bus.0 bus.1) refl in
-    subst (λ (z : Item). item_plain z ≡ true) same kept
+    subst (λ (z : BusInjection). item_plain z ≡ true) same kept
 
 list_member : {A : Type 0} (read : Data → Result A Fault) (keeps : A → Bool) → ((d : Data) (x : A) → read d ≡ Ok x → keeps x ≡ true) → (name : List ℕ) (d : Data) (xs : List A) → member_at (array_at read) name d ≡ Ok xs → list_all keeps xs ≡ true
 list_member read keeps all name d xs is = member_keeps (array_at read) (list_all keeps) (array_keeps read keeps all) name d xs is
@@ -117,36 +117,36 @@ level_read d l is =
     ) refl in
     subst (λ (z : ConfiguredLevel). level_plain z ≡ true) same kept
 
-end_read : (d : Data) (e : BusEnd) → end_at d ≡ Ok e → end_plain e ≡ true
+end_read : (d : Data) (e : PlainEnd) → end_at d ≡ Ok e → end_plain e.end ≡ true
 unfolding end_at end_plain
 end_read d e is =
     let known = bound (only_at (codes "level" ∷ codes "bus" ∷ codes "connected" ∷ []) d) _ e is in
     let level = bound (member_at plain_at (codes "level") d) _ e known.2 in
     let bus = bound (member_at plain_at (codes "bus") d) _ e level.2 in
     let connected = bound (member_at flag_at (codes "connected") d) _ e bus.2 in
-    let made : BusEnd = record { level = level.0; bus = bus.0; connected = connected.0 } in
+    let made : PlainEnd = record { end = record { level = level.0; bus = bus.0; connected = connected.0 } } in
     let same : made ≡ e = cc in
-    let kept : end_plain made ≡ true = rw (plain_member (codes "level") d level.0 level.1, plain_member (codes "bus") d bus.0 bus.1) refl in
-    subst (λ (z : BusEnd). end_plain z ≡ true) same kept
+    let kept : end_plain made.end ≡ true = rw (plain_member (codes "level") d level.0 level.1, plain_member (codes "bus") d bus.0 bus.1) refl in
+    subst (λ (z : PlainEnd). end_plain z.end ≡ true) same kept
 
-both_read : (first second : Data) (ends : Two BusEnd) → both end_at first second ≡ Ok ends → (end_plain ends.first ≡ true) × (end_plain ends.second ≡ true)
+both_read : (first second : Data) (ends : Two PlainEnd) → both end_at first second ≡ Ok ends → (end_plain ends.first.end ≡ true) × (end_plain ends.second.end ≡ true)
 unfolding both
 both_read first second ends is =
     let one = bound (under (decimal 0) (end_at first)) _ ends is in
     let other = bound (under (decimal 1) (end_at second)) _ ends one.2 in
-    let made : Two BusEnd = record { first = one.0; second = other.0 } in
+    let made : Two PlainEnd = record { first = one.0; second = other.0 } in
     let same : made ≡ ends = cc in
-    let kept : (end_plain one.0 ≡ true) × (end_plain other.0 ≡ true) = (end_read first one.0 (inside (decimal 0) (end_at first) one.0 one.1), end_read second other.0 (inside (decimal 1) (end_at second) other.0 other.1)) in
-    subst (λ (z : Two BusEnd). (end_plain z.first ≡ true) × (end_plain z.second ≡ true)) same kept
+    let kept : (end_plain one.0.end ≡ true) × (end_plain other.0.end ≡ true) = (end_read first one.0 (inside (decimal 0) (end_at first) one.0 one.1), end_read second other.0 (inside (decimal 1) (end_at second) other.0 other.1)) in
+    subst (λ (z : Two PlainEnd). (end_plain z.first.end ≡ true) × (end_plain z.second.end ≡ true)) same kept
 
-two_read : (ds : Items) (ends : Two BusEnd) → two_of end_at ds ≡ Ok ends → (end_plain ends.first ≡ true) × (end_plain ends.second ≡ true)
+two_read : (ds : Items) (ends : Two PlainEnd) → two_of end_at ds ≡ Ok ends → (end_plain ends.first.end ≡ true) × (end_plain ends.second.end ≡ true)
 unfolding two_of
 two_read no_items ends is = cc
 two_read (item a no_items) ends is = cc
 two_read (item a (item b no_items)) ends is = both_read a b ends is
 two_read (item a (item b (item c rest))) ends is = cc
 
-ends_read : (found : Option Data) (ends : Two BusEnd) → present (two_at end_at) (codes "ends") found ≡ Ok ends → (end_plain ends.first ≡ true) × (end_plain ends.second ≡ true)
+ends_read : (found : Option Data) (ends : Two PlainEnd) → present (two_at end_at) (codes "ends") found ≡ Ok ends → (end_plain ends.first.end ≡ true) × (end_plain ends.second.end ≡ true)
 ends_read found ends is =
     let there = member_read (two_at end_at) (codes "ends") found ends is in
     let listed = bound (or_fault WrongKind (as_array there.0)) (two_of end_at) ends there.1 in
@@ -159,7 +159,7 @@ line_read d l is =
     let id = bound (member_at plain_at (codes "id") d) _ l known.2 in
     let ends = bound (member_at (two_at end_at) (codes "ends") d) _ l id.2 in
     let both_ends = ends_read (get (codes "ends") d) ends.0 ends.1 in
-    let made : ConfiguredLine = record { id = id.0; end1 = ends.0.first; end2 = ends.0.second } in
+    let made : ConfiguredLine = record { id = id.0; end1 = ends.0.first.end; end2 = ends.0.second.end } in
     let same : made ≡ l = cc in
     let kept : line_plain made ≡ true = rw (plain_member (codes "id") d id.0 id.1, both_ends.0, both_ends.1) refl in
     subst (λ (z : ConfiguredLine). line_plain z ≡ true) same kept

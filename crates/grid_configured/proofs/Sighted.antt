@@ -20,8 +20,8 @@ use Rattle.grid_structure.proofs.Counts.{times, times-append, there}
 use Rattle.grid_structure.proofs.Places.{position_none, none_position}
 use Rattle.grid_structure.proofs.Homed.{none_there}
 use Rattle.grid_paths.proofs.Least.{some_same, some_none}
-use Rattle.grid_configured.specs.declared.network.BusSwitch.{BusSwitch}
-use Rattle.grid_configured.specs.declared.network.Item.{Item}
+use Rattle.grid_json.specs.declared.buses.BusSwitch.{BusSwitch}
+use Rattle.grid_json.specs.declared.buses.BusInjection.{BusInjection}
 use Rattle.grid_configured.specs.declared.network.ConfiguredLine.{ConfiguredLine}
 use Rattle.grid_configured.specs.declared.network.ConfiguredLevel.{ConfiguredLevel}
 use Rattle.grid_configured.specs.declared.network.ConfiguredNetwork.{ConfiguredNetwork}
@@ -88,7 +88,7 @@ place_absent buses id h = none_position (same_id id) buses h
 
 -- ---- in a network
 
-outlets_of : (n : ConfiguredNetwork) (l : ConfiguredLevel) (id : List ℕ) → PlainNetwork n → PlainLevel l → has_id (map (λ (i : Item). i.id) l.items) id ≡ false → has_id (map (λ (l : ConfiguredLine). l.id) n.lines) id ≡ false → Each (Other id) (placed_level n l).outlets
+outlets_of : (n : ConfiguredNetwork) (l : ConfiguredLevel) (id : List ℕ) → PlainNetwork n → PlainLevel l → has_id (map (λ (i : BusInjection). i.id) l.items) id ≡ false → has_id (map (λ (l : ConfiguredLine). l.id) n.lines) id ≡ false → Each (Other id) (placed_level n l).outlets
 unfolding placed_level outlets
 outlets_of n l id plain own items lines = each_join (Other id) (map (item_outlet l) l.items) (flat_map (line_outlets l) n.lines) (items_other l id l.items items own.items) (lines_other l id n.lines lines plain.lines)
 
@@ -96,11 +96,11 @@ buses_same : (n : ConfiguredNetwork) (l : ConfiguredLevel) → (placed_level n l
 unfolding placed_level
 buses_same n l = refl
 
-pub times_level : (id : List ℕ) (l : ConfiguredLevel) → times id (level_ids l) ≡ cond (same_id id l.id) 1 0 + (times id l.buses + (times id (map (λ (s : BusSwitch). s.id) l.switches) + times id (map (λ (t : Item). t.id) l.items)))
+pub times_level : (id : List ℕ) (l : ConfiguredLevel) → times id (level_ids l) ≡ cond (same_id id l.id) 1 0 + (times id l.buses + (times id (map (λ (s : BusSwitch). s.id) l.switches) + times id (map (λ (t : BusInjection). t.id) l.items)))
 unfolding level_ids
 times_level id l =
-    let a = times-append id l.buses (map (λ (s : BusSwitch). s.id) l.switches ++ map (λ (t : Item). t.id) l.items) in
-    let b = times-append id (map (λ (s : BusSwitch). s.id) l.switches) (map (λ (t : Item). t.id) l.items) in
+    let a = times-append id l.buses (map (λ (s : BusSwitch). s.id) l.switches ++ map (λ (t : BusInjection). t.id) l.items) in
+    let b = times-append id (map (λ (s : BusSwitch). s.id) l.switches) (map (λ (t : BusInjection). t.id) l.items) in
     omega (arith, a, b)
 
 module _ (n : ConfiguredNetwork) (plain : PlainNetwork n) (bus : List ℕ) (lines : has_id (map (λ (l : ConfiguredLine). l.id) n.lines) bus ≡ false) where
@@ -113,7 +113,7 @@ module _ (n : ConfiguredNetwork) (plain : PlainNetwork n) (bus : List ℕ) (line
       let all = times-append bus (level_ids m) (ids_of ls) in
       let own = times_level bus m in
       let one = there bus m.buses has_m in
-      let items = none_there bus (map (λ (t : Item). t.id) m.items) (omega (arith, few, all, own, one)) in
+      let items = none_there bus (map (λ (t : BusInjection). t.id) m.items) (omega (arith, few, all, own, one)) in
       let test : level_test bus 1 (placed_level n m) ≡ Some (bus_place l.buses bus) =
       tests_at bus (placed_level n m) (outlets_of n m bus plain p.0 items lines) ∙ ap (position (same_id bus)) (buses_same n m) ∙ place_found m.buses bus has_m ∙ ap (λ (z : ConfiguredLevel). Some (bus_place z.buses bus)) same in
       let zero_more : from ≡ from + 0 = omega arith in

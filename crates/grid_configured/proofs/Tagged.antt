@@ -15,9 +15,9 @@ use Rattle.grid_level.specs.declared.Stand.TheVariants.{BranchEnd}
 use Rattle.grid_level.specs.VoltageLevel.{VoltageLevel}
 use Rattle.grid_level.specs.Passing.{is_branch_end}
 use Rattle.grid_structure.specs.declared.NamedBranch.{NamedBranch}
-use Rattle.grid_configured.specs.declared.network.BusSwitch.{BusSwitch}
-use Rattle.grid_configured.specs.declared.network.Item.{Item}
-use Rattle.grid_configured.specs.declared.network.BusEnd.{BusEnd}
+use Rattle.grid_json.specs.declared.buses.BusSwitch.{BusSwitch}
+use Rattle.grid_json.specs.declared.buses.BusInjection.{BusInjection}
+use Rattle.grid_json.specs.declared.buses.BusEnd.{BusEnd}
 use Rattle.grid_configured.specs.declared.network.ConfiguredLine.{ConfiguredLine}
 use Rattle.grid_configured.specs.declared.network.ConfiguredLevel.{ConfiguredLevel}
 use Rattle.grid_configured.specs.declared.network.ConfiguredNetwork.{ConfiguredNetwork}
@@ -84,7 +84,7 @@ pub record PlainLevel (l : ConfiguredLevel) : Type 0 where
   pub own : Unmarked l.id
   pub buses : Each Unmarked l.buses
   pub switches : Each Unmarked (map (λ (s : BusSwitch). s.id) l.switches)
-  pub items : Each Unmarked (map (λ (i : Item). i.id) l.items)
+  pub items : Each Unmarked (map (λ (i : BusInjection). i.id) l.items)
 
 pub record PlainNetwork (n : ConfiguredNetwork) : Type 0 where
   pub levels : Each PlainLevel n.levels
@@ -100,7 +100,7 @@ pub record FreshIn (l : ConfiguredLevel) (id : List ℕ) : Type 0 where
   pub own : same_id id l.id ≡ false
   pub buses : has_id l.buses id ≡ false
   pub switches : has_id (map (λ (s : BusSwitch). s.id) l.switches) id ≡ false
-  pub items : has_id (map (λ (i : Item). i.id) l.items) id ≡ false
+  pub items : has_id (map (λ (i : BusInjection). i.id) l.items) id ≡ false
 
 pub join_parts : (xs ys : List (List ℕ)) (id : List ℕ) → has_id (xs ++ ys) id ≡ false → (has_id xs id ≡ false) × (has_id ys id ≡ false)
 join_parts xs ys id h = or_parts (has_id xs id) (has_id ys id) (sym (has_join xs ys id) ∙ h)
@@ -109,8 +109,8 @@ pub fresh_in : (l : ConfiguredLevel) (id : List ℕ) → has_id (level_ids l) id
 unfolding level_ids has_id
 fresh_in l id h =
     let one = or_parts (same_id id l.id) _ h in
-    let two = join_parts l.buses (map (λ (s : BusSwitch). s.id) l.switches ++ map (λ (i : Item). i.id) l.items) id one.1 in
-    let three = join_parts (map (λ (s : BusSwitch). s.id) l.switches) (map (λ (i : Item). i.id) l.items) id two.1 in
+    let two = join_parts l.buses (map (λ (s : BusSwitch). s.id) l.switches ++ map (λ (i : BusInjection). i.id) l.items) id one.1 in
+    let three = join_parts (map (λ (s : BusSwitch). s.id) l.switches) (map (λ (i : BusInjection). i.id) l.items) id two.1 in
     record { own = one.0; buses = two.0; switches = three.0; items = three.1 }
 
 pub fresh_each : (ls : List ConfiguredLevel) (id : List ℕ) → has_id (ids_of ls) id ≡ false → Each (λ l. FreshIn l id) ls
@@ -122,10 +122,10 @@ fresh_each (l ∷ ls) id h = let parts = join_parts (level_ids l) (ids_of ls) id
 abbrev pub Other : List ℕ → Outlet → Type 0
 Other id t = (same_id id t.terminal.equipment ≡ false) × Unmarked t.terminal.equipment
 
-pub items_other : (l : ConfiguredLevel) (id : List ℕ) (items : List Item) → has_id (map (λ (i : Item). i.id) items) id ≡ false → Each Unmarked (map (λ (i : Item). i.id) items) → Each (Other id) (map (item_outlet l) items)
+pub items_other : (l : ConfiguredLevel) (id : List ℕ) (items : List BusInjection) → has_id (map (λ (i : BusInjection). i.id) items) id ≡ false → Each Unmarked (map (λ (i : BusInjection). i.id) items) → Each (Other id) (map (item_outlet l) items)
 unfolding has_id item_outlet
 items_other l id [] h p = tt
-items_other l id (i ∷ items) h p = let parts = or_parts (same_id id i.id) (has_id (map (λ (i : Item). i.id) items) id) h in ((parts.0, p.0), items_other l id items parts.1 p.1)
+items_other l id (i ∷ items) h p = let parts = or_parts (same_id id i.id) (has_id (map (λ (i : BusInjection). i.id) items) id) h in ((parts.0, p.0), items_other l id items parts.1 p.1)
 
 ends_other : (l : ConfiguredLevel) (id line : List ℕ) (side : ℕ) (end : BusEnd) → same_id id line ≡ false → Unmarked line → Each (Other id) (end_outlets l line side end)
 unfolding end_outlets
@@ -176,10 +176,10 @@ level_switches n l q one two =
     ∙ join_free (map (λ (s : Switch). s.id) (map joint_breaker (map (joint_of l) l.switches))) (map (λ (s : Switch). s.id) (map outlet_breaker (enumerate_from (length l.buses) (outlets n l)))) q
     (ap (λ z. has_id z q) (joint_ids l l.switches) ∙ one) two
 
-own_free : (n : ConfiguredNetwork) (l : ConfiguredLevel) (q : List ℕ) → has_id l.buses q ≡ false → has_id (map (λ (i : Item). i.id) l.items) q ≡ false
+own_free : (n : ConfiguredNetwork) (l : ConfiguredLevel) (q : List ℕ) → has_id l.buses q ≡ false → has_id (map (λ (i : BusInjection). i.id) l.items) q ≡ false
     → has_id (map (λ (p : Placed). p.terminal.equipment) (filter (λ (p : Placed). not (is_branch_end p.stand)) (translated_level (placed_level n l)).placed)) q ≡ false
 unfolding singles own_ids
-own_free n l q one two = ap (λ z. has_id z q) (level_singles n l) ∙ join_free l.buses (map (λ (i : Item). i.id) l.items) q one two
+own_free n l q one two = ap (λ z. has_id z q) (level_singles n l) ∙ join_free l.buses (map (λ (i : BusInjection). i.id) l.items) q one two
 
 level_id : (n : ConfiguredNetwork) (l : ConfiguredLevel) → (translated_level (placed_level n l)).id ≡ l.id
 unfolding translated_level placed_level
@@ -200,7 +200,7 @@ lacks_tagged n l id text p f plain others =
       home = ap (λ z. same_id (tagged id text) (substation_id z)) (level_id n l) ∙ ap (same_id (tagged id text)) (home_tagged l.id) ∙ tagged_apart id l.id text (codes "S") p plain.own f.own;
       own = ap (same_id (tagged id text)) (level_id n l) ∙ same_back (tagged id text) l.id ∙ plain_apart l.id (tagged id text) plain.own marked;
       switches = level_switches n l (tagged id text) (none_marked (tagged id text) (map (λ (s : BusSwitch). s.id) l.switches) marked plain.switches) (breakers_other id text (length l.buses) (outlets n l) p others);
-      singles = own_free n l (tagged id text) (none_marked (tagged id text) l.buses marked plain.buses) (none_marked (tagged id text) (map (λ (i : Item). i.id) l.items) marked plain.items);
+      singles = own_free n l (tagged id text) (none_marked (tagged id text) l.buses marked plain.buses) (none_marked (tagged id text) (map (λ (i : BusInjection). i.id) l.items) marked plain.items);
     }
 
 -- ---- networks in node/breaker form

@@ -10,9 +10,9 @@ use Rattle.grid_structure.specs.Editing.{max_levels, max_switches}
 use Rattle.grid_json.specs.declared.fault.Fault.{Fault}
 use Rattle.grid_json.specs.declared.fault.Reason.TheVariants.{Load, NoBus, SameBus}
 use Rattle.grid_json.specs.Reading.{◌>>=◌, here, under}
-use Rattle.grid_configured.specs.declared.network.BusSwitch.{BusSwitch}
-use Rattle.grid_configured.specs.declared.network.Item.{Item}
-use Rattle.grid_configured.specs.declared.network.BusEnd.{BusEnd}
+use Rattle.grid_json.specs.declared.buses.BusSwitch.{BusSwitch}
+use Rattle.grid_json.specs.declared.buses.BusInjection.{BusInjection}
+use Rattle.grid_json.specs.declared.buses.BusEnd.{BusEnd}
 use Rattle.grid_configured.specs.declared.network.ConfiguredLine.{ConfiguredLine}
 use Rattle.grid_configured.specs.declared.network.ConfiguredLevel.{ConfiguredLevel}
 use Rattle.grid_configured.specs.declared.network.ConfiguredNetwork.{ConfiguredNetwork}
@@ -34,7 +34,7 @@ list_check check name xs = under name (each_check check [] 0 xs)
 abbrev pub switch_ids : List BusSwitch → List (List ℕ)
 switch_ids switches = map (λ s. s.id) switches
 
-abbrev pub item_ids : List Item → List (List ℕ)
+abbrev pub item_ids : List BusInjection → List (List ℕ)
 item_ids items = map (λ t. t.id) items
 
 abbrev pub line_ids : List ConfiguredLine → List (List ℕ)
@@ -132,7 +132,7 @@ switch_check ids buses switches earlier s =
     switch_reasons (has_id (ids ++ switch_ids earlier) s.id) (has_id buses s.bus1 && has_id buses s.bus2) (same_id s.bus1 s.bus2) (length earlier) (switches + length earlier)
 
 -- an injection of a level with these buses, where level and network have so many nodes, edges and switches before all injections
-unfoldable pub item_check : List (List ℕ) → List (List ℕ) → ℕ → ℕ → ℕ → List Item → Item → Result ⊤ Fault
+unfoldable pub item_check : List (List ℕ) → List (List ℕ) → ℕ → ℕ → ℕ → List BusInjection → BusInjection → Result ⊤ Fault
 item_check ids buses nodes edges switches earlier t =
     item_reasons (has_id (ids ++ item_ids earlier) t.id) (has_id buses t.bus) (injection_fault t.item) (nodes + length earlier) (edges + length earlier) (switches + length earlier)
 

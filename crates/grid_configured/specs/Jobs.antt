@@ -7,20 +7,19 @@ use Rattle.grid_requests.specs.declared.request.Request.TheVariants as requests
 use Rattle.grid_json.specs.declared.fault.Fault.{Fault}
 use Rattle.grid_json.specs.declared.fault.Reason.TheVariants.{Unknown, Reserved, TooManyWorkers}
 use Rattle.grid_json.specs.declared.format.Format.TheVariants.{Four}
-use Rattle.grid_json.specs.declared.kinds.InjectionKind.{InjectionKind}
 use Rattle.grid_json.specs.declared.whole.JobFault.{JobFault}
 use Rattle.grid_json.specs.declared.whole.JobFault.TheVariants.{BadJson}
 use Rattle.grid_value.specs.Bytes.{reading}
 use Rattle.grid_json.specs.Reading.{◌>>=◌, here, under, whole_at, flag_at, id_at, array_at, member_at, member_or, optional_at, only_at, object_at, word_at}
 use Rattle.grid_json.specs.Kinds.{injection_kind_at}
-use Rattle.grid_json.specs.Network.{two_at, item_names, item_at}
+use Rattle.grid_json.specs.Network.{two_at, bus_injection_names, item_at}
 use Rattle.grid_json.specs.Job.{max_workers, few_at, counted_scripts, is_order, natural_of, order_at}
 use Rattle.grid_json.specs.Whole.{or_bad_job}
 use Rattle.grid_configured.specs.declared.commands.Verb.{Verb}
 use Rattle.grid_configured.specs.declared.commands.Verb.TheVariants as verbs
-use Rattle.grid_configured.specs.declared.network.BusSwitch.{BusSwitch}
-use Rattle.grid_configured.specs.declared.network.Item.{Item}
-use Rattle.grid_configured.specs.declared.network.BusEnd.{BusEnd}
+use Rattle.grid_configured.specs.declared.parts.PlainEnd.{PlainEnd}
+use Rattle.grid_json.specs.declared.buses.BusSwitch.{BusSwitch}
+use Rattle.grid_json.specs.declared.buses.BusInjection.{BusInjection}
 use Rattle.grid_configured.specs.declared.network.ConfiguredLine.{ConfiguredLine}
 use Rattle.grid_configured.specs.declared.network.ConfiguredLevel.{ConfiguredLevel}
 use Rattle.grid_configured.specs.declared.network.ConfiguredNetwork.{ConfiguredNetwork}
@@ -48,15 +47,12 @@ bus_switch_at d = do
   opened ← member_at flag_at (codes "open") d
   Ok (record { id = id; bus1 = bus1; bus2 = bus2; opened = opened })
 
-abbrev pub injection_names : InjectionKind → List (List ℕ)
-injection_names kind = codes "kind" ∷ codes "id" ∷ codes "bus" ∷ codes "connected" ∷ item_names kind
-
 -- the kind chooses the other members, so it is read first; all kinds of the fourth format are known
-unfoldable pub injection_at : Data → Result Item Fault
+unfoldable pub injection_at : Data → Result BusInjection Fault
 injection_at d = do
   _ ← object_at d
   kind ← member_at (injection_kind_at Four) (codes "kind") d
-  _ ← only_at (injection_names kind) d
+  _ ← only_at (bus_injection_names kind) d
   id ← member_at plain_at (codes "id") d
   bus ← member_at plain_at (codes "bus") d
   connected ← member_at flag_at (codes "connected") d
@@ -78,20 +74,20 @@ level_at d = do
 
 -- ---- lines
 
-unfoldable pub end_at : Data → Result BusEnd Fault
+unfoldable pub end_at : Data → Result PlainEnd Fault
 end_at d = do
   _ ← only_at (codes "level" ∷ codes "bus" ∷ codes "connected" ∷ []) d
   level ← member_at plain_at (codes "level") d
   bus ← member_at plain_at (codes "bus") d
   connected ← member_at flag_at (codes "connected") d
-  Ok (record { level = level; bus = bus; connected = connected })
+  Ok (record { end = record { level = level; bus = bus; connected = connected } })
 
 unfoldable pub line_at : Data → Result ConfiguredLine Fault
 line_at d = do
   _ ← only_at (codes "id" ∷ codes "ends" ∷ []) d
   id ← member_at plain_at (codes "id") d
   ends ← member_at (two_at end_at) (codes "ends") d
-  Ok (record { id = id; end1 = ends.first; end2 = ends.second })
+  Ok (record { id = id; end1 = ends.first.end; end2 = ends.second.end })
 
 -- ---- the network
 

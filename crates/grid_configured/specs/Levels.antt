@@ -3,9 +3,9 @@ use Rattle.std.specs.Prelude.{ℕ, if◌then◌else◌, None, unwrap_or, List, [
 use Rattle.grid_ids.specs.Name.{same_id}
 use Rattle.grid_level.specs.declared.Terminal.{Terminal}
 use Rattle.grid_level.specs.declared.Stand.TheVariants.{Feeder, BranchEnd}
-use Rattle.grid_configured.specs.declared.network.BusSwitch.{BusSwitch}
-use Rattle.grid_configured.specs.declared.network.Item.{Item}
-use Rattle.grid_configured.specs.declared.network.BusEnd.{BusEnd}
+use Rattle.grid_json.specs.declared.buses.BusSwitch.{BusSwitch}
+use Rattle.grid_json.specs.declared.buses.BusInjection.{BusInjection}
+use Rattle.grid_json.specs.declared.buses.BusEnd.{BusEnd}
 use Rattle.grid_configured.specs.declared.network.ConfiguredLine.{ConfiguredLine}
 use Rattle.grid_configured.specs.declared.network.ConfiguredLevel.{ConfiguredLevel}
 use Rattle.grid_configured.specs.declared.network.ConfiguredNetwork.{ConfiguredNetwork}
@@ -23,7 +23,7 @@ abbrev pub terminal : List ℕ → ℕ → Terminal
 terminal id side = record { equipment = id; side = side }
 
 -- the terminal of an injection
-unfoldable pub item_outlet : ConfiguredLevel → Item → Outlet
+unfoldable pub item_outlet : ConfiguredLevel → BusInjection → Outlet
 item_outlet level i = record { terminal = terminal i.id 1; place = bus_place level.buses i.bus; connected = i.connected; stand = Feeder i.item }
 
 -- the terminal of a line's end, where it is in the level

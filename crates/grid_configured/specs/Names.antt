@@ -3,9 +3,9 @@ use Rattle.std.specs.Prelude.{ℕ, Bool, false, ◌&&◌, ◌==◌, not, nat_le,
 use Rattle.std.specs.List.{list_any, list_all}
 use Rattle.grid_requests.specs.declared.request.Request.{Request}
 use Rattle.grid_requests.specs.declared.request.Request.TheVariants as requests
-use Rattle.grid_configured.specs.declared.network.BusSwitch.{BusSwitch}
-use Rattle.grid_configured.specs.declared.network.Item.{Item}
-use Rattle.grid_configured.specs.declared.network.BusEnd.{BusEnd}
+use Rattle.grid_json.specs.declared.buses.BusSwitch.{BusSwitch}
+use Rattle.grid_json.specs.declared.buses.BusInjection.{BusInjection}
+use Rattle.grid_json.specs.declared.buses.BusEnd.{BusEnd}
 use Rattle.grid_configured.specs.declared.network.ConfiguredLine.{ConfiguredLine}
 use Rattle.grid_configured.specs.declared.network.ConfiguredLevel.{ConfiguredLevel}
 use Rattle.grid_configured.specs.declared.network.ConfiguredNetwork.{ConfiguredNetwork}
@@ -23,7 +23,7 @@ is_plain id = not (list_any is_mark id) && nat_le (length id) 100
 unfoldable pub switch_plain : BusSwitch → Bool
 switch_plain s = is_plain s.id && is_plain s.bus1 && is_plain s.bus2
 
-unfoldable pub item_plain : Item → Bool
+unfoldable pub item_plain : BusInjection → Bool
 item_plain t = is_plain t.id && is_plain t.bus
 
 unfoldable pub end_plain : BusEnd → Bool

@@ -4,7 +4,7 @@ use Rattle.std.specs.BTreeMap.{BTreeMap, get}
 use Rattle.std.specs.Cmp.Lexicographic.{slice_cmp}
 use Rattle.std.specs.Ordering.{nat_cmp}
 use Rattle.grid_ids.specs.Name.{has_id}
-use Rattle.grid_configured.specs.declared.network.BusEnd.{BusEnd}
+use Rattle.grid_json.specs.declared.buses.BusEnd.{BusEnd}
 use Rattle.grid_configured.specs.declared.network.ConfiguredLevel.{ConfiguredLevel}
 use Rattle.grid_configured.specs.declared.standing.Spot.{Spot}
 use Rattle.grid_configured.specs.declared.standing.Standing.{Standing}

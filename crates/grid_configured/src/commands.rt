@@ -4,8 +4,8 @@ ghost use Rattle.grid_value.specs.View.{view};
 ghost use Rattle.grid_json.specs.Reading.{Gives, texts};
 ghost use Rattle.grid_configured.specs.Jobs.{command_names, sided_at, clone_at, request_at};
 
-use crate::lists::{PlainId, Reader, read_array, read_member};
-use grid_core::{Request, Script};
+use crate::lists::{PlainId, Reader, read_member};
+use grid_core::Request;
 use grid_json::{Format, FromJson, ReadError, Reason, member, member_otherwise, object, only};
 use grid_value::Value;
 use std::alloc::Global;
@@ -120,7 +120,7 @@ fn request_of(alloc: Global, verb: Verb, value: &Value) -> Result<Request, ReadE
 }
 
 /// Reads a command.
-struct Command;
+pub(crate) struct Command;
 
 impl Reader for Command {
     ghost use Rattle.grid_configured.specs.Jobs.{command_at};
@@ -135,21 +135,5 @@ impl Reader for Command {
         let verb = member(alloc, Format::One, value, "do")?;
         only(alloc, value, names_of_command(verb))?;
         request_of(alloc, verb, value)
-    }
-}
-
-/// Reads the commands of one worker.
-pub(crate) struct Commands;
-
-impl Reader for Commands {
-    ghost use Rattle.grid_json.specs.Reading.{array_at};
-    ghost use Rattle.grid_configured.specs.Jobs.{command_at};
-
-    type Item = Script;
-
-    ghost reads = { array_at command_at };
-
-    fn read(alloc: Global, value: &Value) -> Result<Script, ReadError> {
-        read_array::<Command>(alloc, value)
     }
 }

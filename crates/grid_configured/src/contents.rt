@@ -4,10 +4,10 @@ ghost use Rattle.grid_json.specs.Reading.{Gives};
 ghost use Rattle.grid_configured.specs.Checks.{bus_check, each_check, item_check, item_ids, level_edges, level_nodes, list_check, part_ids, parts_check, switch_check, switch_ids};
 ghost use Rattle.grid_json.specs.Seen.{Knows};
 
-use crate::network::{BusSwitch, ConfiguredLevel, Item};
+use crate::network::ConfiguredLevel;
 use crate::reasons::{Counts, check_bus, check_item, check_switch};
 use grid_ids::Id;
-use grid_json::{ReadError, SeenIds};
+use grid_json::{BusInjection, BusSwitch, ReadError, SeenIds};
 use std::alloc::Global;
 
 // Each bus of a level, at its position; they are put into `own` too.
@@ -82,7 +82,7 @@ fn check_items(
     ids: &mut SeenIds,
     buses: &SeenIds,
     counts: Counts,
-    items: &[Item],
+    items: &[BusInjection],
 ) -> Result<(), ReadError>
     requires nodes { counts.nodes ≤ 1024 }
     requires edges { counts.edges ≤ 4096 }

@@ -26,10 +26,7 @@ mod translation;
 mod view;
 mod world;
 
-pub use network::{
-    BusEnd, BusSwitch, BusSwitches, ConfiguredJob, ConfiguredLevel, ConfiguredLevels,
-    ConfiguredLine, ConfiguredLines, ConfiguredNetwork, Item, Items,
-};
+pub use network::{ConfiguredJob, ConfiguredLevel, ConfiguredLine, ConfiguredNetwork};
 pub use outcome::{
     ConfiguredOutcome, ConfiguredReplies, ConfiguredVariant, ConfiguredVariants, ConfiguredViews,
 };

@@ -7,10 +7,11 @@ ghost use Rattle.grid_json.specs.Reading.{Gives, member_at, array_at, items_at};
 ghost use Rattle.grid_configured.specs.Jobs.{plain_at};
 
 use crate::plain::read_plain;
-use grid_ids::{Id, Ids, Seq};
+use grid_ids::{Id, Seq};
 use grid_json::{ReadError, Reason};
 use grid_value::{Items, Value};
 use std::alloc::Global;
+use std::marker::PhantomData;
 
 /// A way of reading a JSON value.
 pub(crate) trait Reader {
@@ -57,16 +58,6 @@ pub(crate) fn read_each<R: Reader>(alloc: Global, items: &Items) -> Result<Seq<R
     Ok(list)
 }
 
-/// The items of an array.
-pub(crate) fn read_array<R: Reader>(alloc: Global, value: &Value) -> Result<Seq<R::Item>, ReadError>
-    ensures { Gives result (array_at R.reads (view value.now)) }
-{
-    match value.as_array() {
-        None => Err(ReadError::here(alloc, Reason::WrongKind)),
-        Some(items) => read_each::<R>(alloc, &items),
-    }
-}
-
 /// Reads a plain id.
 pub(crate) struct PlainId;
 
@@ -80,15 +71,20 @@ impl Reader for PlainId {
     }
 }
 
-/// Reads an array of plain ids.
-pub(crate) struct PlainIds;
+/// Reads an array, each item as `R` reads it.
+pub(crate) struct Each<R> {
+    of: PhantomData<R>,
+}
 
-impl Reader for PlainIds {
-    type Item = Ids;
+impl<R: Reader> Reader for Each<R> {
+    type Item = Seq<R::Item>;
 
-    ghost reads = { array_at plain_at };
+    ghost reads = { array_at R.reads };
 
-    fn read(alloc: Global, value: &Value) -> Result<Ids, ReadError> {
-        read_array::<PlainId>(alloc, value)
+    fn read(alloc: Global, value: &Value) -> Result<Seq<R::Item>, ReadError> {
+        match value.as_array() {
+            None => Err(ReadError::here(alloc, Reason::WrongKind)),
+            Some(items) => read_each::<R>(alloc, &items),
+        }
     }
 }

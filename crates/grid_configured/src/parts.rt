@@ -1,26 +1,31 @@
 // The parts of a network with configured buses from JSON.
-ghost use Rattle.std.specs.Prelude.{◌≡◌};
-ghost use Rattle.grid_json.specs.Reading.{texts};
-ghost use Rattle.grid_configured.specs.Jobs.{injection_names};
 
-use crate::lists::{PlainId, PlainIds, read_member};
-use crate::network::{BusEnd, BusSwitch, ConfiguredLevel, ConfiguredLine, ConfiguredNetwork, Item};
-use grid_json::{Format, FromJson, InjectionKind, ReadError, Two, item_of, member, object, only};
+use crate::lists::{Each, PlainId, Reader, read_member};
+use crate::network::{ConfiguredLevel, ConfiguredLine, ConfiguredNetwork};
+use grid_json::{
+    BusEnd, BusInjection, BusSwitch, Format, FromJson, ReadError, Two, item_of, member,
+    names_of_bus_injection, object, only,
+};
 use grid_value::Value;
 use std::alloc::Global;
 
-impl FromJson for BusSwitch {
+/// Reads a switch, whose flag must be there.
+struct SwitchReader;
+
+impl Reader for SwitchReader {
     ghost use Rattle.grid_configured.specs.Jobs.{bus_switch_at};
 
-    ghost reads = { λ _. bus_switch_at };
+    type Item = BusSwitch;
+
+    ghost reads = { bus_switch_at };
 
     #[tactic(auto, unfolding(crate::specs::Jobs::bus_switch_at))]
-    fn from_json(alloc: Global, format: Format, value: &Value) -> Result<BusSwitch, ReadError> {
+    fn read(alloc: Global, value: &Value) -> Result<BusSwitch, ReadError> {
         only(alloc, value, &["id", "bus1", "bus2", "open"])?;
         let id = read_member::<PlainId>(alloc, value, "id")?;
         let bus1 = read_member::<PlainId>(alloc, value, "bus1")?;
         let bus2 = read_member::<PlainId>(alloc, value, "bus2")?;
-        let opened = member(alloc, format, value, "open")?;
+        let opened = member(alloc, Format::One, value, "open")?;
         Ok(BusSwitch {
             id,
             bus1,
@@ -30,61 +35,26 @@ impl FromJson for BusSwitch {
     }
 }
 
-// The members of an injection of a kind.
-fn names_of_injection(kind: InjectionKind) -> &'static [&'static str]
-    ensures { texts result.now ≡ injection_names kind }
-{
-    match kind {
-        InjectionKind::Load => &["kind", "id", "bus", "connected", "p0", "q0"],
-        InjectionKind::Generator => &[
-            "kind",
-            "id",
-            "bus",
-            "connected",
-            "target_p",
-            "target_v",
-            "min_p",
-            "max_p",
-        ],
-        InjectionKind::Battery => &[
-            "kind",
-            "id",
-            "bus",
-            "connected",
-            "target_p",
-            "target_q",
-            "min_p",
-            "max_p",
-        ],
-        InjectionKind::ShuntCompensator => &[
-            "kind",
-            "id",
-            "bus",
-            "connected",
-            "section_count",
-            "max_sections",
-        ],
-        InjectionKind::StaticVarCompensator | InjectionKind::ConverterStation => {
-            &["kind", "id", "bus", "connected", "target_q"]
-        }
-    }
-}
+/// Reads an injection, whose flag must be there. It may be of each kind of the fourth format.
+struct InjectionReader;
 
-impl FromJson for Item {
+impl Reader for InjectionReader {
     ghost use Rattle.grid_configured.specs.Jobs.{injection_at};
 
-    ghost reads = { λ _. injection_at };
+    type Item = BusInjection;
+
+    ghost reads = { injection_at };
 
     #[tactic(auto, unfolding(crate::specs::Jobs::injection_at))]
-    fn from_json(alloc: Global, format: Format, value: &Value) -> Result<Item, ReadError> {
+    fn read(alloc: Global, value: &Value) -> Result<BusInjection, ReadError> {
         object(alloc, value)?;
         let kind = member(alloc, Format::Four, value, "kind")?;
-        only(alloc, value, names_of_injection(kind))?;
+        only(alloc, value, names_of_bus_injection(kind))?;
         let id = read_member::<PlainId>(alloc, value, "id")?;
         let bus = read_member::<PlainId>(alloc, value, "bus")?;
-        let connected = member(alloc, format, value, "connected")?;
-        let item = item_of(alloc, format, kind, value)?;
-        Ok(Item {
+        let connected = member(alloc, Format::Four, value, "connected")?;
+        let item = item_of(alloc, Format::Four, kind, value)?;
+        Ok(BusInjection {
             id,
             bus,
             connected,
@@ -111,9 +81,9 @@ impl FromJson for ConfiguredLevel {
         )?;
         let id = read_member::<PlainId>(alloc, value, "id")?;
         let nominal_v = member(alloc, format, value, "nominal_v")?;
-        let buses = read_member::<PlainIds>(alloc, value, "buses")?;
-        let switches = member(alloc, format, value, "switches")?;
-        let items = member(alloc, format, value, "injections")?;
+        let buses = read_member::<Each<PlainId>>(alloc, value, "buses")?;
+        let switches = read_member::<Each<SwitchReader>>(alloc, value, "switches")?;
+        let items = read_member::<Each<InjectionReader>>(alloc, value, "injections")?;
         Ok(ConfiguredLevel {
             id,
             nominal_v,
@@ -124,22 +94,29 @@ impl FromJson for ConfiguredLevel {
     }
 }
 
-impl FromJson for BusEnd {
+/// An end whose ids are plain, and whose flag must be there.
+#[derive(Drop)]
+pub(crate) struct PlainEnd {
+    end: BusEnd,
+}
+
+impl FromJson for PlainEnd {
     ghost use Rattle.grid_configured.specs.Jobs.{end_at};
 
     ghost reads = { λ _. end_at };
 
     #[tactic(auto, unfolding(crate::specs::Jobs::end_at))]
-    fn from_json(alloc: Global, format: Format, value: &Value) -> Result<BusEnd, ReadError> {
+    fn from_json(alloc: Global, format: Format, value: &Value) -> Result<PlainEnd, ReadError> {
         only(alloc, value, &["level", "bus", "connected"])?;
         let level = read_member::<PlainId>(alloc, value, "level")?;
         let bus = read_member::<PlainId>(alloc, value, "bus")?;
         let connected = member(alloc, format, value, "connected")?;
-        Ok(BusEnd {
+        let end = BusEnd {
             level,
             bus,
             connected,
-        })
+        };
+        Ok(PlainEnd { end })
     }
 }
 
@@ -156,12 +133,11 @@ impl FromJson for ConfiguredLine {
     ) -> Result<ConfiguredLine, ReadError> {
         only(alloc, value, &["id", "ends"])?;
         let id = read_member::<PlainId>(alloc, value, "id")?;
-        let ends: Two<BusEnd> = member(alloc, format, value, "ends")?;
-        let Two { first, second } = ends;
+        let ends: Two<PlainEnd> = member(alloc, format, value, "ends")?;
         Ok(ConfiguredLine {
             id,
-            end1: first,
-            end2: second,
+            end1: ends.first.end,
+            end2: ends.second.end,
         })
     }
 }

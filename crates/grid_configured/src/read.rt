@@ -9,8 +9,8 @@ ghost use Rattle.grid_configured.specs.Jobs.{IsOrdered, command_at, format_at, w
 ghost use Rattle.grid_configured.specs.Names.{IsConfiguredRequest};
 
 use crate::checks::check_network;
-use crate::commands::Commands;
-use crate::lists::{Reader, read_each, read_member};
+use crate::commands::Command;
+use crate::lists::{Each, Reader, read_each, read_member};
 use crate::network::{ConfiguredJob, ConfiguredNetwork};
 use grid_core::Scripts;
 use grid_json::{
@@ -49,7 +49,7 @@ fn read_few(alloc: Global, value: &Value) -> Result<Scripts, ReadError>
     if items.are_above(MOST_WORKERS) {
         return Err(ReadError::here(alloc, Reason::TooManyWorkers));
     }
-    read_each::<Commands>(alloc, &items)
+    read_each::<Each<Command>>(alloc, &items)
 }
 
 // The scripts of all workers, which together have few commands.

@@ -7,9 +7,9 @@ ghost use Rattle.grid_json.specs.Reading.{Gives, here};
 ghost use Rattle.grid_configured.specs.Checks.{bus_reasons, buses_reasons, id_reasons, item_reasons, level_reasons, record_fault, switch_reasons, terminal_reasons};
 ghost use Rattle.grid_json.specs.Seen.{Knows};
 
-use crate::network::{BusSwitch, ConfiguredLevel, Item};
+use crate::network::ConfiguredLevel;
 use grid_ids::Id;
-use grid_json::{ReadError, Reason, SeenIds};
+use grid_json::{BusInjection, BusSwitch, ReadError, Reason, SeenIds};
 use grid_kinds::{Injection, check_injection, check_level};
 use grid_structure::EditFault;
 use std::alloc::Global;
@@ -190,7 +190,7 @@ pub(crate) fn check_item(
     ids: &mut SeenIds,
     buses: &SeenIds,
     counts: Counts,
-    item: &Item,
+    item: &BusInjection,
 ) -> Result<(), ReadError>
     ensures check { Gives result (item_reasons (has_id ids.old item.now.id)
         (has_id buses.now item.now.bus) (injection_fault item.now.item) counts.nodes counts.edges

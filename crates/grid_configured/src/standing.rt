@@ -3,16 +3,16 @@ ghost use Rattle.std.specs.Prelude.{◌≡◌, ◌+◌, ◌≤◌, ◌<◌, ◌�
 ghost use Rattle.std.specs.Option.{option_map};
 ghost use Rattle.std.specs.Str.{bytes_eq};
 ghost use Rattle.grid_json.specs.Reading.{Gives};
-ghost use Rattle.grid_configured.specs.declared.network.BusEnd.{BusEnd as EndAt};
+ghost use Rattle.grid_json.specs.declared.buses.BusEnd.{BusEnd as EndAt};
 ghost use Rattle.grid_configured.specs.declared.network.ConfiguredLevel.{ConfiguredLevel as LevelAt};
 ghost use Rattle.grid_configured.specs.Checks.{end_check, end_reasons, ids_of, level_check, level_edges, level_nodes};
 ghost use Rattle.grid_configured.specs.Standing.{Stands, count_at, spot_of, tally_at, tally_of};
 
 use crate::contents::check_contents;
-use crate::network::{BusEnd, ConfiguredLevel};
+use crate::network::ConfiguredLevel;
 use crate::reasons::{Counts, check_level_itself, check_terminal, refused};
 use grid_ids::{Duplicate, Id, Memory};
-use grid_json::{ReadError, Reason, SeenIds};
+use grid_json::{BusEnd, ReadError, Reason, SeenIds};
 use grid_structure::EditFault;
 use std::alloc::Global;
 use std::collections::BTreeMap;

@@ -11,8 +11,9 @@ ghost use Rattle.grid_configured.specs.Checks.{IsTranslatable};
 ghost use Rattle.grid_configured.specs.Translation.{translated};
 ghost use Rattle.grid_configured.specs.Partial.{first_levels, with_buses, with_switches, with_items, with_lines};
 
-use crate::{BusEnd, ConfiguredNetwork};
+use crate::ConfiguredNetwork;
 use grid_ids::{Duplicate, Id, IdFault, Memory, Same};
+use grid_json::BusEnd;
 use grid_kinds::SwitchKind;
 use grid_structure::{ApplyFault, Branch, Edit, End, Structure};
 use std::alloc::Global;
