@@ -15,7 +15,7 @@ use Rattle.grid_json.specs.declared.fault.Fault.{Fault}
 use Rattle.grid_json.specs.declared.fault.Reason.{Reason}
 use Rattle.grid_json.specs.declared.fault.Reason.TheVariants.{WrongKind, Schedule, TooManyWorkers}
 use Rattle.grid_json.specs.declared.format.Format.{Format}
-use Rattle.grid_json.specs.declared.format.Format.TheVariants.{One, Two, Three, Four}
+use Rattle.grid_json.specs.declared.format.Format.TheVariants.{One, Two, Three, Four, Five}
 use Rattle.grid_json.specs.declared.job.JobDraft.{JobDraft}
 use Rattle.grid_json.specs.declared.network.NetworkDraft.{NetworkDraft}
 use Rattle.grid_json.specs.declared.whole.Job.{Job}
@@ -352,6 +352,7 @@ root_read One d screened is = first_read d screened is
 root_read Two d screened is = second_read d screened is
 root_read Three d screened is = second_read d screened is
 root_read Four d screened is = second_read d screened is
+root_read Five d screened is = second_read d screened is
 
 in_format : Data → Format → Result ScreenJob Fault
 in_format d format = root_at format d

@@ -105,6 +105,7 @@ fn put_more(
         Format::Two => put_second(out, telling.structure, losses, tripped),
         Format::Three => put_second(out, telling.structure, losses, tripped),
         Format::Four => put_second(out, telling.structure, losses, tripped),
+        Format::Five => put_second(out, telling.structure, losses, tripped),
     }
 }
 

@@ -176,6 +176,7 @@ fn put_found(out: &mut Text, telling: &Telling<'_>, finding: &Finding) -> Result
         Format::Two => put_second(out, telling.structure, finding),
         Format::Three => put_second(out, telling.structure, finding),
         Format::Four => put_second(out, telling.structure, finding),
+        Format::Five => put_second(out, telling.structure, finding),
     }
 }
 

@@ -122,6 +122,7 @@ module _ (net : Network) (place : ℕ) (name : List ℕ) (small : IsUnsigned pla
   effect_readable formats.Two after losses tripped h = second_readable after losses tripped h
   effect_readable formats.Three after losses tripped h = second_readable after losses tripped h
   effect_readable formats.Four after losses tripped h = second_readable after losses tripped h
+  effect_readable formats.Five after losses tripped h = second_readable after losses tripped h
 
   readable : (format : Format) (finding : Finding) → IsFinding net finding → IsReadable 6 (contingency_object format net place name finding)
   readable format (findings.UnknownId id) h = unknown_readable format id h
@@ -191,6 +192,7 @@ module _ (net : Network) (place : ℕ) (name : List ℕ) where
   back formats.Two (findings.Effect after losses tripped) h = second_back after losses tripped h
   back formats.Three (findings.Effect after losses tripped) h = second_back after losses tripped h
   back formats.Four (findings.Effect after losses tripped) h = second_back after losses tripped h
+  back formats.Five (findings.Effect after losses tripped) h = second_back after losses tripped h
 
   place_back : (format : Format) (finding : Finding) → natural_of (at (codes "place") (contingency_object format net place name finding)) ≡ place
   unfolding contingency_object ordered
