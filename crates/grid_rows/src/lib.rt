@@ -1,5 +1,5 @@
-//! Worked examples of what no whole job by the top call shows: commits that come between, callers, gates, listeners,
-//! copies of lists, values read as jobs, and at what cost labels follow.
+//! Worked examples of what no whole job by the top call shows: commits that come between, callers, gates, listeners, and
+//! at what cost labels follow.
 #![tactic(auto)]
 
 #[cfg(test)]
@@ -9,13 +9,9 @@ mod callers;
 #[cfg(test)]
 mod cases;
 #[cfg(test)]
-mod copies;
-#[cfg(test)]
 mod gates;
 #[cfg(test)]
 mod networks;
-#[cfg(test)]
-mod readings;
 #[cfg(test)]
 mod stale;
 #[cfg(test)]

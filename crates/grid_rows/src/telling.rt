@@ -1,5 +1,5 @@
-// Worlds that tell listeners what happens, and copies of what a job is made of.
-use crate::networks::{DUO, FOUR, read, with_scripts};
+// Worlds that tell listeners what happens.
+use crate::networks::{DUO, read, with_scripts};
 use grid_core::{Journal, Request, Script, World};
 use grid_events::{Event, Events, Filter, Listener, Subscriptions};
 use grid_ids::{Duplicate, Id, Memory, Same};
@@ -90,7 +90,6 @@ fn a_recorder_hears_the_one_event(rt: HostRuntime) -> Result<(), Fail> {
     );
     let journal = tell(alloc, &job, script, &mut listeners)?;
     assert_eq!(rt; journal.len(), 6);
-    assert!(rt; journal.copy()?.same(&journal));
     let closed = Event::Updated {
         variant: Id::new(alloc, "VA")?,
         switch: Id::new(alloc, "BC")?,
@@ -116,23 +115,5 @@ fn a_boxed_recorder_is_told(rt: HostRuntime) -> Result<(), Fail> {
     )?;
     assert!(rt; boxed.subscribe(updates_of(alloc, "VA")?, recorder).is_ok());
     assert_eq!(rt; tell(alloc, &job, script, &mut boxed)?.len(), 6);
-    Ok(())
-}
-
-/// Whether each command of a script, each listener and the network are equal to their copies.
-fn copies_are_equal(job: &Job) -> Result<bool, Fail> {
-    let mut equal = job.network.copy()?.same(&job.network);
-    equal = equal && job.filters.copy()?.same(&job.filters);
-    for script in job.scripts.slice() {
-        equal = equal && script.copy()?.same(script);
-    }
-    Ok(equal)
-}
-
-#[test]
-fn copies(rt: HostRuntime) -> Result<(), Fail> {
-    let alloc = rt.alloc();
-    let job = read(alloc, FOUR.as_bytes())?;
-    assert!(rt; copies_are_equal(&job)?);
     Ok(())
 }
