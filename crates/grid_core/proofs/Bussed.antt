@@ -13,10 +13,12 @@ use Rattle.std.specs.Prelude.{Ok, Err, Result}
 use Rattle.grid_structure.specs.declared.Edit.{Edit}
 use Rattle.grid_structure.specs.declared.EditFault.{EditFault}
 use Rattle.grid_structure.specs.Editing.{apply}
-use Rattle.grid_slots.specs.declared.slots.Variant.{Variant}
+use Rattle.grid_slots.specs.Variant.{Variant}
 use Rattle.grid_core.specs.declared.kept.Kept.{Kept}
 use Rattle.grid_core.specs.declared.reply.Reply.{Reply}
 use Rattle.grid_core.specs.Replies.{reply, reply_to, change_reply}
+use Rattle.grid_core.specs.declared.touched.Touched.{Touched}
+use Rattle.grid_core.specs.Touched.{IsTouch}
 use Rattle.grid_core.specs.Kept.{IsKept, leaves, accepts}
 
 pub structure_next : (origin : Network) (before : List Command) (old new : Machine) (worker : ℕ) (request : Request) (made : Made) → Held origin before old → Makes origin before (command worker request) made new → new.structure ≡ structure_after old.structure request
@@ -50,9 +52,10 @@ not_accepted_same origin before worker (requests.CloneVariant from to overwrite)
 not_accepted_same origin before worker (requests.RemoveVariant name) r is h = refl
 
 -- what `follow` leaves is of the structure after the step
-pub followed_so : (origin : Network) (before : List Command) (old new : Machine) (worker : ℕ) (request : Request) (made : Made) (was now : Kept) → Held origin before old → Makes origin before (command worker request) made new
-    → ((net : Network) (olds news : List Variant) → IsKept net olds was → (leaves request ≡ true → news ≡ olds) → (accepts request made.reply ≡ false → structure_after net request ≡ net) → IsKept (structure_after net request) news now)
+pub followed_so : (origin : Network) (before : List Command) (old new : Machine) (worker : ℕ) (request : Request) (made : Made) (was now : Kept) (touched : Touched) → Held origin before old → Makes origin before (command worker request) made new
+    → IsTouch old.structure (structure_after old.structure request) touched
+    → ((net : Network) (olds news : List Variant) → IsKept net olds was → IsTouch net (structure_after net request) touched → (leaves request ≡ true → news ≡ olds) → (accepts request made.reply ≡ false → structure_after net request ≡ net) → IsKept (structure_after net request) news now)
     → (leaves request ≡ true → new.slots ≡ old.slots) → IsKept old.structure old.slots was → IsKept new.structure new.slots now
-followed_so origin before old new worker request made was now held makes follows stays k =
+followed_so origin before old new worker request made was now touched held makes touches follows stays k =
     subst (λ (n : Network). IsKept n new.slots now) (sym (structure_next origin before old new worker request made held makes))
-    (follows old.structure old.slots new.slots k stays (λ h. subst (λ (n : Network). structure_after n request ≡ n) (sym held.parts.structure_is) (not_accepted_same origin before worker request made.reply makes.replied h)))
+    (follows old.structure old.slots new.slots k touches stays (λ h. subst (λ (n : Network). structure_after n request ≡ n) (sym held.parts.structure_is) (not_accepted_same origin before worker request made.reply makes.replied h)))

@@ -1,5 +1,5 @@
 -- What is found in a state is what the machine of one variant makes of the request.
-use Rattle.std.proofs.Common.{◌≡◌, refl, sym, ap, ◌∙◌, ℕ, ℤ, Bool, true, false, List, Option, Some, None}
+use Rattle.std.proofs.Common.{◌≡◌, refl, sym, ap, ◌∙◌, subst, ℕ, ℤ, Bool, true, false, List, Option, Some, None}
 use Rattle.std.specs.Prelude.{Ok, Err}
 use Rattle.grid_level.specs.VoltageLevel.{VoltageLevel}
 use Rattle.grid_level.specs.Passing.{positioned, stood}
@@ -20,11 +20,12 @@ use Rattle.grid_core.specs.declared.reply.Reply.{Reply}
 use Rattle.grid_core.specs.declared.reply.Reply.TheVariants as replies
 use Rattle.grid_core.specs.declared.reply.Refusal.{Refusal}
 use Rattle.grid_core.specs.declared.reply.Refusal.TheVariants as refusals
+use Rattle.grid_core.specs.declared.verdict.Verdict.{Verdict}
 use Rattle.grid_core.specs.declared.verdict.Verdict.TheVariants as verdicts
 use Rattle.grid_core.specs.Solo.{State, solo, site_of_side, level_at, connected, disconnected, with_all_opened}
 use Rattle.grid_core.specs.Replies.{events_of}
 use Rattle.grid_core.specs.Fitting.{RowsFit}
-use Rattle.grid_core.specs.Verdicts.{asks, puts, step_of, put_reply, names_of, IsFound, operating, connect_verdict, disconnect_verdict}
+use Rattle.grid_core.specs.Verdicts.{asks, puts, step_of, put_reply, names_of, IsFound, operating, connect_verdict, disconnect_verdict, plan_verdict}
 use Rattle.grid_core.proofs.Asking.{connect_refused, disconnect_refused, connect_found, disconnect_found, bus_breaker_reply, bus_reply, components_reply, bus_breaker_nowhere, bus_nowhere, components_nowhere}
 use Rattle.grid_core.proofs.Planned.{connect_places, disconnect_places}
 use Rattle.grid_core.proofs.Flagging.{refused_events}
@@ -72,6 +73,10 @@ module _ (state : State) (id : List ℕ) (side : ℤ) (at : ℕ × ℕ) (level :
   }
   disconnect_is disconnects.AlreadyDisconnected planned v = record { asking = refl; made = disconnect_found state id side at level h k ∙ ap (disconnected state at.0 level) planned; fits = refl }
   disconnect_is (disconnects.NoBreaker terminal) planned v = record { asking = refl; made = disconnect_found state id side at level h k ∙ ap (disconnected state at.0 level) planned; fits = refl }
+
+  pub operate_is : (opens : Bool) (verdict : Verdict) → verdict ≡ plan_verdict opens at.0 (positioned level (row_at state.opened at.0)) at.1 → IsFound state (operating id side opens) verdict
+  operate_is true verdict is = subst (IsFound state (requests.Disconnect id side)) (sym is) (disconnect_is (disconnect_plan_of (positioned level (row_at state.opened at.0)) at.1) refl)
+  operate_is false verdict is = subst (IsFound state (requests.Connect id side)) (sym is) (connect_is (connect_plan_of (positioned level (row_at state.opened at.0)) at.1) refl)
 
 -- ---- views
 

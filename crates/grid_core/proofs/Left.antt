@@ -19,7 +19,7 @@ use Rattle.grid_structure.specs.Editing.{apply}
 use Rattle.grid_structure.specs.Sites.{levels, branches, branch_ends, find_level, taken}
 use Rattle.grid_states.specs.Rows.{row_at}
 use Rattle.grid_states.proofs.Lent.{same_functions}
-use Rattle.grid_slots.specs.declared.slots.Variant.{Variant}
+use Rattle.grid_slots.specs.Variant.{Variant}
 use Rattle.grid_islands.specs.declared.kept.KeptLevel.{KeptLevel}
 use Rattle.grid_islands.specs.declared.kept.KeptBuses.{KeptBuses}
 use Rattle.grid_islands.specs.declared.components.Numbers.{Numbers}

@@ -5,7 +5,7 @@ use Rattle.std.specs.List.{list_any, list_all, cons_option, filter_map, range_wi
 use Rattle.std.proofs.lemmas.Bool.{and_parts, true≢false, cases_lt}
 use Rattle.grid_ids.specs.Name.{same_id, has_id, id_below}
 use Rattle.grid_ids.proofs.Alike.{same_is, same_itself}
-use Rattle.grid_slots.specs.declared.slots.Variant.{Variant}
+use Rattle.grid_slots.specs.Variant.{Variant}
 use Rattle.grid_slots.specs.declared.slots.Cloned.{Cloned}
 use Rattle.grid_slots.specs.declared.slots.Cloned.TheVariants as clones
 use Rattle.grid_slots.specs.Names.{initial_state, names_rise}

@@ -10,7 +10,7 @@ use Rattle.grid_structure.specs.Sites.{levels, sides, site}
 use Rattle.grid_structure.specs.Soundness.{IsSound}
 use Rattle.grid_states.specs.declared.sums.Shift.{Shift}
 use Rattle.grid_states.specs.Rows.{Rows, HasRoom, pairs_at, shifted, with_watts}
-use Rattle.grid_slots.specs.declared.slots.Variant.{Variant}
+use Rattle.grid_slots.specs.Variant.{Variant}
 use Rattle.grid_slots.specs.Variants.{rows_at, changed, IsTable}
 use Rattle.grid_powers.specs.Listed.{with_value}
 use Rattle.grid_watts.specs.Watts.{watts, watts_at, powered}

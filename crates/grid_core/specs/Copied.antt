@@ -1,8 +1,6 @@
 -- Levels that are kept by their places, apart from the structure.
-use Rattle.std.specs.Prelude.{◌≡◌, ℕ, ◌==◌, Option, Some, List, All, slice_get}
-use Rattle.std.specs.Ordering.{nat_cmp}
+use Rattle.std.specs.Prelude.{◌≡◌, ℕ, ◌==◌, if◌then◌else◌, Option, Some, List, slice_get}
 use Rattle.std.specs.Map.{lookup}
-use Rattle.std.specs.BTreeMap.{insert_entry}
 use Rattle.grid_level.specs.VoltageLevel.{VoltageLevel}
 use Rattle.grid_structure.specs.Network.{Network}
 use Rattle.grid_structure.specs.Sites.{levels}
@@ -15,10 +13,10 @@ Copied = List (ℕ × VoltageLevel)
 abbrev pub copy_at : Copied → ℕ → Option VoltageLevel
 copy_at copies place = lookup (λ other. place == other) copies
 
--- with a level for a place: instead of the former one, or else where the place comes in order
-abbrev pub with_copy : ℕ → VoltageLevel → Copied → Copied
-with_copy place level copies = insert_entry nat_cmp copies place level
+-- with this for a place, a level or none, and for every other place what was there
+abbrev pub Puts : ℕ → Option VoltageLevel → Copied → Copied → Type 0
+Puts place copy old new = (other : ℕ) → copy_at new other ≡ if place == other then copy else copy_at old other
 
 -- each is the structure's level at its place
 abbrev pub AreCopies : Network → Copied → Type 0
-AreCopies net copies = All (λ copy. slice_get (levels net) copy.0 ≡ Some copy.1) copies
+AreCopies net copies = (place : ℕ) (level : VoltageLevel) → copy_at copies place ≡ Some level → slice_get (levels net) place ≡ Some level

@@ -8,7 +8,7 @@ use Rattle.grid_level.specs.VoltageLevel.{VoltageLevel}
 use Rattle.grid_states.specs.Rows.{Rows, row_at}
 use Rattle.grid_bench.specs.Contents.{content}
 use Rattle.grid_bench.specs.Stores.{Store, kept_for}
-use Rattle.grid_slots.specs.declared.slots.Variant.{Variant}
+use Rattle.grid_slots.specs.Variant.{Variant}
 use Rattle.grid_slots.specs.Variants.{rows_at}
 use Rattle.grid_islands.specs.Kept.{AreBusesOf, AreKept}
 use Rattle.grid_requests.specs.declared.request.Request.{Request}

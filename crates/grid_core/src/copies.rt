@@ -1,10 +1,13 @@
 // Levels of the present structure that benches and bases share.
-ghost use Rattle.std.specs.Prelude.{◌≡◌, ◌<◌, [], length, slice_get, Some, IfOk, OnOk, OnErr};
+ghost use Rattle.std.specs.Prelude.{◌≡◌, ◌<◌, [], length, slice_get, Some, None, IfOk, OnOk, OnErr};
 ghost use Rattle.std.specs.Option.{option_copied};
 ghost use Rattle.grid_structure.specs.Network.{Network};
 ghost use Rattle.grid_structure.specs.Sites.{levels};
-ghost use Rattle.grid_core.specs.Copied.{AreCopies, copy_at, with_copy};
+ghost use Rattle.grid_islands.specs.Kept.{LeavesOthers};
+ghost use Rattle.grid_core.specs.Copied.{AreCopies, Puts, copy_at};
+ghost use Rattle.grid_core.specs.Touched.{IsTouch};
 
+use crate::touched::Touched;
 use grid_ids::{Duplicate, Memory};
 use grid_level::Level;
 use grid_shared::Shared;
@@ -13,11 +16,20 @@ use std::alloc::Global;
 use std::collections::BTreeMap;
 use std::marker::Model;
 
+/// The most edges that the levels of all benches have together. A bench takes some 60 bytes for an edge, so that all of
+/// them take some 256 MB. The bound is this project's own: nothing that is asked depends on it but time and memory.
+const MOST_KEPT_EDGES: u32 = 4_000_000;
+
+/// The most edges of a level.
+const MOST_EDGES: u32 = 4096;
+
 /// Levels of a structure by their places, each copied when it was first asked for, so that it can be read while the
 /// structure is not. It is seen as the list of the pairs of a place and the level there, by rising place.
 #[derive(Drop)]
 pub(crate) struct Copies {
     levels: BTreeMap<u32, Shared<Level>>,
+    // How many edges the levels have that benches took since all benches were empty.
+    taken: u32,
 }
 
 impl Model for Copies {
@@ -35,7 +47,32 @@ impl Copies {
     {
         Copies {
             levels: BTreeMap::new(alloc),
+            taken: 0,
         }
+    }
+
+    /// Whether no level is kept.
+    pub(crate) fn is_empty(&self) -> bool {
+        self.levels.is_empty()
+    }
+
+    /// Counts edges of a level that a bench takes.
+    pub(crate) fn count(&mut self, edges: u32)
+        ensures { self.new ≡ self.old }
+    {
+        self.taken = self.taken.saturating_add(edges);
+    }
+
+    /// Begins the count anew, where all benches are empty.
+    pub(crate) fn count_anew(&mut self)
+        ensures { self.new ≡ self.old }
+    {
+        self.taken = 0;
+    }
+
+    /// Whether a bench may take one level more, whatever edges it has.
+    pub(crate) fn has_room(&self) -> bool {
+        self.taken <= MOST_KEPT_EDGES - MOST_EDGES
     }
 
     // The copy that is kept of a place; None exactly where none is.
@@ -47,12 +84,35 @@ impl Copies {
 
     // Keeps a level under its place.
     fn keep(&mut self, place: u32, level: Shared<Level>) -> Result<(), Memory>
-        ensures ok { OnOk result (self.new ≡ with_copy place level self.old) }
+        ensures ok { OnOk result (Puts place (Some level) self.old self.new) }
         ensures err { OnErr result (self.new ≡ self.old) }
     {
         match self.levels.insert(place, level) {
             Ok(_) => Ok(()),
             Err(_) => Err(Memory),
+        }
+    }
+
+    // Lets go the copy of a place.
+    fn remove(&mut self, place: u32)
+        ensures { Puts place None self.old self.new }
+    {
+        drop(self.levels.remove(&place));
+    }
+
+    /// Lets go the copies of the levels that an edit touches. It takes no memory.
+    pub(crate) fn follow(&mut self, alloc: Global, touched: Touched)
+        ensures { (net next : Network) → IsTouch net next touched → AreCopies net self.old
+            → AreCopies next self.new }
+    {
+        match touched {
+            Touched::Level(place) => self.remove(place),
+            Touched::Ends(first, second, third) => {
+                self.remove(first);
+                self.remove(second);
+                self.remove(third);
+            }
+            Touched::All => self.levels = BTreeMap::new(alloc),
         }
     }
 

@@ -1,17 +1,19 @@
 // What is kept for the variant in each slot, for its next request, and what all slots share.
 ghost use Rattle.std.specs.Prelude.{◌≡◌, ◌<◌, IsTrue, IsFalse, OnOk, Bool, List, length, map};
 ghost use Rattle.grid_structure.specs.Network.{Network};
-ghost use Rattle.grid_slots.specs.declared.slots.Variant.{Variant};
+ghost use Rattle.grid_slots.specs.Variant.{Variant};
 ghost use Rattle.grid_requests.specs.Changes.{structure_after};
 ghost use Rattle.grid_core.specs.Kept as kept;
 ghost use Rattle.grid_core.specs.Kept.{AreSlotBuses, AreBySlot, IsKept, forgotten};
+ghost use Rattle.grid_core.specs.Touched.{IsTouch};
 
 use crate::copies::Copies;
 use crate::kept_levels::KeptLevels;
+use crate::touched::{Touched, touched_by};
 use crate::{Reply, Request};
 use grid_ids::Memory;
 use grid_islands::KeptBuses;
-use grid_structure::Edit;
+use grid_structure::{Edit, Structure};
 use std::alloc::Global;
 
 /// What is kept for the variant in a slot.
@@ -43,6 +45,27 @@ impl SlotKept {
             levels: KeptLevels::none(alloc),
         }
     }
+
+    // Lets go the buses of the levels that an edit touches. The levels with the labels of their nodes stay, since each
+    // is compared with the present one before it is used.
+    fn follow(&mut self, alloc: Global, touched: Touched)
+        ensures { (net next : Network) (was opened : List (List Bool)) → IsTouch net next touched
+            → AreSlotBuses net was self.old → AreSlotBuses next opened self.new }
+    {
+        self.known = false;
+        match touched {
+            Touched::Level(place) => self.buses.let_go(alloc, place),
+            Touched::Ends(first, second, third) => {
+                self.buses.let_go(alloc, first);
+                self.buses.let_go(alloc, second);
+                self.buses.let_go(alloc, third);
+            }
+            Touched::All => {
+                self.buses = KeptBuses::empty(alloc);
+                self.levels.forget_places(alloc);
+            }
+        }
+    }
 }
 
 impl Kept {
@@ -54,6 +77,16 @@ impl Kept {
             slots: Vec::new(alloc),
             copies: Copies::none(alloc),
         }
+    }
+
+    /// The levels that a request touches, if it is an edit; where nothing is kept none is looked for. It takes no memory.
+    pub(crate) fn touched_by(&self, structure: &Structure, request: &Request) -> Touched
+        ensures { IsTouch structure.now (structure_after structure.now request.now) result }
+    {
+        if self.slots.is_empty() && self.copies.is_empty() {
+            return Touched::All;
+        }
+        touched_by(structure, request)
     }
 }
 
@@ -67,6 +100,28 @@ pub(crate) fn make_room(alloc: Global, all: &mut Vec<SlotKept>, slot: u32) -> Re
         all.push(SlotKept::empty(alloc))?;
     }
     Ok(())
+}
+
+// Empties each slot's bench.
+fn empty_benches(alloc: Global, all: &mut Vec<SlotKept>)
+    ensures { (net : Network) (variants : List Variant) → AreBySlot net variants all.old.items
+        → AreBySlot net variants all.new.items }
+{
+    for slot in 0..all.len() {
+        all[slot].levels = KeptLevels::none(alloc);
+    }
+}
+
+/// Empties all benches, where they could not take one level more within the bound on what they have together.
+pub(crate) fn bound_benches(alloc: Global, all: &mut Kept)
+    ensures { (net : Network) (variants : List Variant) → IsKept net variants all.old
+        → IsKept net variants all.new }
+{
+    if all.copies.has_room() {
+        return;
+    }
+    empty_benches(alloc, &mut all.slots);
+    all.copies.count_anew();
 }
 
 // Whether a request leaves levels and branches, and in each slot its variant with the variant's flags, as they are.
@@ -131,10 +186,27 @@ fn forget(all: &mut Vec<SlotKept>)
     }
 }
 
-/// Lets go what a request may have made wrong: after an accepted edit all that is kept, unless levels and branches are
-/// as before; and where flags may have changed, that all buses are kept under them.
-pub(crate) fn follow(alloc: Global, all: &mut Kept, request: &Request, reply: &Reply)
+// Lets go, for each slot, the buses of the levels that an edit touches.
+fn follow_slots(alloc: Global, all: &mut Vec<SlotKept>, touched: Touched)
+    ensures { (net next : Network) (before after : List Variant) → IsTouch net next touched
+        → AreBySlot net before all.old.items → AreBySlot next after all.new.items }
+{
+    for slot in 0..all.len() {
+        all[slot].follow(alloc, touched);
+    }
+}
+
+/// Lets go what a request may have made wrong: after an accepted edit what is kept of the levels that it touches, unless
+/// levels and branches are as before; and where flags may have changed, that all buses are kept under them.
+pub(crate) fn follow(
+    alloc: Global,
+    all: &mut Kept,
+    request: &Request,
+    reply: &Reply,
+    touched: Touched,
+)
     ensures { (net : Network) (before after : List Variant) → IsKept net before all.old
+        → IsTouch net (structure_after net request.now) touched
         → (IsTrue (kept.leaves request.now) → after ≡ before)
         → (IsFalse (kept.accepts request.now reply.now) → structure_after net request.now ≡ net)
         → IsKept (structure_after net request.now) after all.new }
@@ -143,7 +215,8 @@ pub(crate) fn follow(alloc: Global, all: &mut Kept, request: &Request, reply: &R
         return;
     }
     if accepts(request, reply) {
-        *all = Kept::none(alloc);
+        all.copies.follow(alloc, touched);
+        follow_slots(alloc, &mut all.slots, touched);
     } else {
         forget(&mut all.slots);
     }

@@ -13,25 +13,33 @@ use grid_shared::Shared;
 use grid_states::States;
 use grid_structure::Structure;
 use std::alloc::Global;
-use std::collections::BTreeSet;
+use std::collections::BTreeMap;
 
 /// A level with fewer switches and internal connections is looked at from nothing as soon as by what is kept of it.
 const FEW: u32 = 64;
 
-/// A bench, and the places of the levels that were asked for.
+/// A bench, and the places of the levels that were asked for, each with how many edges of its level were counted.
 #[derive(Drop)]
 pub(crate) struct KeptLevels {
     pub(crate) bench: Bench,
-    asked: BTreeSet<u32>,
+    asked: BTreeMap<u32, u32>,
 }
 
-// Whether a level is worth keeping: it has many edges, and was asked for before. From now on it was.
-fn is_worth(asked: &mut BTreeSet<u32>, level: &Level, place: u32) -> Result<bool, Memory> {
-    if level.edge_count() < FEW {
-        return Ok(false);
+// How many edges of a level that is worth keeping were not counted yet, as they are from now on; None where it is not:
+// it has few edges, or was not asked for before. From now on it was.
+fn count_worth(
+    asked: &mut BTreeMap<u32, u32>,
+    level: &Level,
+    place: u32,
+) -> Result<Option<u32>, Memory> {
+    let edges = level.edge_count();
+    if edges < FEW {
+        return Ok(None);
     }
-    match asked.insert(place) {
-        Ok(is_first) => Ok(!is_first),
+    let counted = asked.get(&place).copied();
+    let next = if counted.is_some() { edges } else { 0 };
+    match asked.insert(place, next) {
+        Ok(_) => Ok(counted.map(|counted| edges.saturating_sub(counted))),
         Err(_) => Err(Memory),
     }
 }
@@ -41,8 +49,15 @@ impl KeptLevels {
     pub(crate) fn none(alloc: Global) -> KeptLevels {
         KeptLevels {
             bench: Bench::empty(alloc),
-            asked: BTreeSet::new(alloc),
+            asked: BTreeMap::new(alloc),
         }
+    }
+
+    /// Forgets which levels were asked for, where they have other places from now on.
+    pub(crate) fn forget_places(&mut self, alloc: Global)
+        ensures { self.new.bench ≡ self.old.bench }
+    {
+        self.asked = BTreeMap::new(alloc);
     }
 
     /// Keeps the level at a place with the flags that a variant has now, where that is worth while: it has many edges,
@@ -62,8 +77,9 @@ impl KeptLevels {
             (IsKeptLevel structure.now states.now place self.new.bench)) }
         ensures copies { AreCopies structure.now copies.new }
     {
-        if !is_worth(&mut self.asked, structure.level(place), place)? {
-            return Ok(None);
+        match count_worth(&mut self.asked, structure.level(place), place)? {
+            Some(edges) => copies.count(edges),
+            None => return Ok(None),
         }
         let level = copies.level(self.bench.alloc(), structure, place)?;
         self.bench.keep(&level, states.opened_row(place), states.retained_row(place))?;

@@ -24,11 +24,11 @@ module _ (net : Network) (old new : KeptBuses) (place : ℕ) (level : VoltageLev
   made_anew : new.spots ≡ old.spots → new.numbers ≡ None → AreBusesOf net old → AreBusesOf net new
   unfolding kept_of
   made_anew spots none is = record {
-    made = λ k l kept there at_new.
+    made = λ k l kept there at_new valid.
         elim (eqb_tells k place) [
           | inl e ↦ (let same : kept ≡ kept_of level row = same_Some kept (kept_of level row) (sym at_new ∙ ap (slice_get new.levels) e.1 ∙ own) in
               same ∙ ap (kept_of level) (sym (ap (λ (z : KeptLevel). z.opened) same)) ∙ ap (λ z. kept_of z kept.opened) (sym (level_there k l e.1 there)))
-          | inr n ↦ is.made k l kept there (sym (others k n.1) ∙ at_new)
+          | inr n ↦ is.made k l kept there (sym (others k n.1) ∙ at_new) valid
         ];
     spotted = λ some. spots ∙ is.spotted (omega (arith, some, ap length spots));
     numbered = subst (λ (z : Option Numbers). IfSome z (AreNumbersOf net new)) (sym none) tt;

@@ -1,5 +1,5 @@
 -- The buses of levels, kept with the flags that they were made of, and the spots of branches.
-use Rattle.std.specs.Prelude.{◌≡◌, ◌⊎◌, ℕ, ◌<◌, Bool, Some, None, IfSome, List, length, slice_get}
+use Rattle.std.specs.Prelude.{◌≡◌, ◌≢◌, ◌⊎◌, ℕ, ◌<◌, Bool, true, IsTrue, Some, None, IfSome, List, length, slice_get}
 use Rattle.grid_level.specs.VoltageLevel.{VoltageLevel}
 use Rattle.grid_level.specs.Passing.{positioned}
 use Rattle.grid_structure.specs.Network.{Network}
@@ -14,15 +14,19 @@ use Rattle.grid_islands.specs.Spots.{network_spots}
 
 -- what is kept of a level under these flags
 unfoldable pub kept_of : VoltageLevel → List Bool → KeptLevel
-kept_of level opened = record { opened = opened; buses = node_buses_of (positioned level opened) }
+kept_of level opened = record { opened = opened; buses = node_buses_of (positioned level opened); valid = true }
 
 -- something is kept of the level at a place
 abbrev pub IsKeptAt : KeptBuses → ℕ → KeptLevel → Type 0
 IsKeptAt kept place own = slice_get kept.levels place ≡ Some own
 
--- it is what its own flags make of the level
+-- it is what its own flags make of the level, where it was not let go
 abbrev pub IsMadeOf : VoltageLevel → KeptLevel → Type 0
-IsMadeOf level own = own ≡ kept_of level own.opened
+IsMadeOf level own = IsTrue own.valid → own ≡ kept_of level own.opened
+
+-- every level but the one at a place is as before
+abbrev pub LeavesOthers : Network → Network → ℕ → Type 0
+LeavesOthers net next place = (other : ℕ) → other ≢ place → slice_get (levels next) other ≡ slice_get (levels net) other
 
 -- nothing has changed, or there are no components any more
 abbrev pub IsLeftOrNone : KeptBuses → KeptBuses → Type 0
@@ -43,8 +47,8 @@ pub record AreNumbersOf (net : Network) (kept : KeptBuses) (numbers : Numbers) :
   pub every : AreKept net opened kept
   pub numbered : AreNumbers net opened numbers
 
--- what is kept of each level of a network, where something is, is of that level; the spots, where some are kept, are those
--- of the network's branches; and so are the numbers, where they are kept
+-- what is kept of each level of a network, where something is, is of that level, unless it was let go; the spots, where some are
+-- kept, are those of the network's branches; and so are the numbers, where they are kept
 pub record AreBusesOf (net : Network) (kept : KeptBuses) : Type 0 where
   pub made : (place : ℕ) (level : VoltageLevel) (own : KeptLevel) → slice_get (levels net) place ≡ Some level → IsKeptAt kept place own → IsMadeOf level own
   pub spotted : 0 < length kept.spots → kept.spots ≡ network_spots net

@@ -1,11 +1,11 @@
 // The buses of levels, kept for the next call with the flags that they were made of, and the spots of branches.
-ghost use Rattle.std.specs.Prelude.{◌≡◌, ◌≢◌, ℕ, ◌<◌, ◌≤◌, ◌^◌, Bool, IsTrue, IsSome, IfOk, OnOk, OnErr, List, length, flat_map, slice_get};
+ghost use Rattle.std.specs.Prelude.{◌≡◌, ◌≢◌, ℕ, ◌<◌, ◌≤◌, ◌^◌, Bool, IsTrue, IsFalse, IsSome, IfOk, OnOk, OnErr, List, length, flat_map, slice_get};
 ghost use Rattle.grid_structure.specs.Network.{Network};
 ghost use Rattle.grid_structure.specs.Sites.{levels};
 ghost use Rattle.grid_islands.specs.declared.kept.KeptLevel.{KeptLevel};
 ghost use Rattle.grid_islands.specs.Numbering.{FlagsFit, counts_before};
 ghost use Rattle.grid_islands.specs.Islands as islands;
-ghost use Rattle.grid_islands.specs.Kept.{kept_of, IsKeptAt, IsMadeOf, IsLeftOrNone, AreBusesOf, AreKept};
+ghost use Rattle.grid_islands.specs.Kept.{kept_of, IsKeptAt, IsMadeOf, IsLeftOrNone, LeavesOthers, AreBusesOf, AreKept};
 ghost use Rattle.grid_islands.specs.Spots as spots;
 ghost use Rattle.grid_islands.specs.Spots.{NumbersFit};
 
@@ -26,11 +26,41 @@ use std::alloc::Global;
 pub(crate) struct KeptLevel {
     opened: Seq<bool>,
     pub(crate) buses: NodeBuses,
+    // The level is as it was then. Where it may be another one by now, nothing is to be read from here.
+    valid: bool,
+}
+
+impl KeptLevel {
+    // What is left where a level was let go. It takes no memory.
+    fn gone(alloc: Global) -> KeptLevel
+        ensures { IsFalse result.valid }
+    {
+        KeptLevel {
+            opened: Seq::empty(alloc),
+            buses: NodeBuses {
+                leasts: Seq::empty(alloc),
+                places: Seq::empty(alloc),
+            },
+            valid: false,
+        }
+    }
+
+    // Whether these are the buses of the level under these flags.
+    fn is_of(&self, opened: &[bool]) -> bool
+        ensures { IsTrue result → IsTrue self.now.valid × (self.now.opened ≡ opened.now) }
+    {
+        if self.valid {
+            same_items(self.opened.slice(), opened)
+        } else {
+            false
+        }
+    }
 }
 
 /// The buses of the levels of a network that were looked at, from the first level on, each with the flags that it had
-/// then. A call that is given them makes anew only the buses of levels whose flags are others. Where the ends of the
-/// network's branches stand is kept, too, once it is found, and so are the components, until a level is made anew.
+/// then. A call that is given them makes anew only the buses of levels whose flags are others, and of those that were
+/// let go. Where the ends of the network's branches stand is kept, too, once it is found, until a level is let go, and
+/// so are the components, until a level is made anew.
 #[derive(Drop)]
 pub struct KeptBuses {
     levels: Seq<KeptLevel>,
@@ -54,12 +84,25 @@ impl KeptBuses {
 
     // Whether the level at a place is kept under these flags.
     fn has(&self, place: u32, opened: &[bool]) -> bool
-        ensures { IsTrue result
-            → (own : KeptLevel) × IsKeptAt self.now place own × (own.opened ≡ opened.now) }
+        ensures { IsTrue result → (own : KeptLevel) × IsKeptAt self.now place own
+            × IsTrue own.valid × (own.opened ≡ opened.now) }
     {
         match self.levels.get(place as usize) {
-            Some(own) => same_items(own.opened.slice(), opened),
+            Some(own) => own.is_of(opened),
             None => false,
+        }
+    }
+
+    /// Lets go what is kept of the level at a place, which is not to be the same any more: its buses, the spots of
+    /// branches, since nodes may have other places among its nodes, and the components. It takes no memory.
+    pub fn let_go(&mut self, alloc: Global, place: u32)
+        ensures { (net next : Network) → LeavesOthers net next place → AreBusesOf net self.old
+            → AreBusesOf next self.new }
+    {
+        self.spots = Spots::empty(alloc);
+        self.numbers = None;
+        if (place as usize) < self.levels.len() {
+            self.levels.set(place as usize, KeptLevel::gone(alloc));
         }
     }
 
@@ -105,7 +148,12 @@ impl KeptBuses {
         }
         let buses = node_buses(alloc, level, opened)?;
         let opened = Seq::from_vec(Vec::from_slice(alloc, opened)?);
-        self.put(place, KeptLevel { opened, buses })?;
+        let own = KeptLevel {
+            opened,
+            buses,
+            valid: true,
+        };
+        self.put(place, own)?;
         self.numbers = None;
         Ok(())
     }

@@ -1,6 +1,6 @@
 -- Sums and pairs of all variants changed together.
-use Rattle.std.proofs.Common.{◌≡◌, refl, sym, ap, ◌∙◌, ℕ, ℤ, zero, suc, ◌+◌, ◌<◌, Bool, true, false, List, [], ◌∷◌, ◌++◌, length, map, take, drop, get_or, set, arith, add-one, Option, Some, None}
-use Rattle.std.specs.Prelude.{is_some, ◌||◌, unwrap_or}
+use Rattle.std.proofs.Common.{◌≡◌, refl, sym, ap, ◌∙◌, ℕ, ℤ, zero, suc, ◌+◌, ◌<◌, false, List, [], ◌∷◌, ◌++◌, length, map, take, drop, get_or, set, arith, add-one, Option, Some, None}
+use Rattle.std.specs.Prelude.{is_some, unwrap_or}
 use Rattle.std.specs.List.{list_any}
 use Rattle.grid_lemmas.proofs.Bools.{not_either}
 use Rattle.grid_states.specs.declared.sums.Counted.{Counted}
@@ -8,7 +8,7 @@ use Rattle.grid_states.specs.Pairs.{value_at}
 use Rattle.grid_states.specs.Sums.{taken}
 use Rattle.grid_states.specs.Rows.{Rows, pairs_at, shifted, with_watts, without_terminal, HasRoom}
 use Rattle.grid_states.proofs.Ordered.{unlisted_kept}
-use Rattle.grid_slots.specs.declared.slots.Variant.{Variant}
+use Rattle.grid_slots.specs.Variant.{Variant}
 use Rattle.grid_slots.specs.Variants.{with_rows, all_changed, any_lists}
 
 -- ---- the first of a list changed
@@ -36,11 +36,6 @@ module _ {X : Type 0} (f : X → X) where
   one_more k old now x y same is made lt =
       let was = still_there k old now x same is in
       rw add-one (ap (λ z. set z k y) same ∙ ap (set (first k old) k) (made ∙ ap f was) ∙ first_more k old x lt)
-
-  pub first_long : (k : ℕ) (xs : List X) → length (first k xs) ≡ length xs
-  first_long zero xs = refl
-  first_long (suc k) [] = refl
-  first_long (suc k) (x ∷ xs) = ap suc (first_long k xs)
 
   pub first_all : (k : ℕ) (xs : List X) → (k < length xs → ⊥) → first k xs ≡ map f xs
   first_all zero [] past = refl
@@ -76,39 +71,3 @@ lose_none (v ∷ vs) level node counted none =
     let both = not_either (is_some (value_at node (pairs_at v.rows.watts level))) (list_any (λ u. is_some (value_at node (pairs_at u.rows.watts level))) vs) none in
     ap (λ rows. with_rows v rows ∷ map (λ u. with_rows u (shifted (taken counted.sum counted.watts) u.rows)) vs) (lose_unlisted v.rows level node counted (not_listed _ both.0))
     ∙ ap (λ rest. with_rows v (without_terminal v.rows level node counted) ∷ rest) (lose_none vs level node counted both.1)
-
-pub listed_alone : (vs self : List Variant) (v : Variant) (level node : ℕ) → vs ≡ self → v ≡ get_or vs 0 v → length vs ≡ 1 → is_some (value_at node (pairs_at v.rows.watts level)) ≡ true → any_lists self level node ≡ true
-unfolding any_lists
-listed_alone [] self v level node same is one here = absurd (omega (arith, one))
-listed_alone (w ∷ ws) self v level node same is one here =
-    let first : is_some (value_at node (pairs_at w.rows.watts level)) ≡ true = ap (λ (u : Variant). is_some (value_at node (pairs_at u.rows.watts level))) (sym is) ∙ here in
-    ap (λ us. list_any (λ u. is_some (value_at node (pairs_at u.rows.watts level))) us) (sym same) ∙ rw first refl
-
--- ---- a search over the variants
-
-pub none_yet : (level node : ℕ) → any_lists [] level node ≡ false
-unfolding any_lists
-none_yet level node = refl
-
-pub none_more : (vs : List Variant) (k : ℕ) (v : Variant) (level node : ℕ) → any_lists (take k vs) level node ≡ false → k < length vs → v ≡ get_or vs k v
-    → is_some (value_at node (pairs_at v.rows.watts level)) ≡ false → any_lists (take (k + 1) vs) level node ≡ false
-unfolding any_lists
-none_more [] k v level node none lt is here = absurd (omega arith)
-none_more (w ∷ ws) zero v level node none lt is here = rw (ap (λ (u : Variant). is_some (value_at node (pairs_at u.rows.watts level))) (sym is) ∙ here) refl
-none_more (w ∷ ws) (suc k) v level node none lt is here =
-    let both = not_either (is_some (value_at node (pairs_at w.rows.watts level))) (list_any (λ u. is_some (value_at node (pairs_at u.rows.watts level))) (take k ws)) none in
-    let e : suc k + 1 ≡ suc (k + 1) = omega arith in
-    rw (e, both.0) (none_more ws k v level node both.1 (omega arith) is here)
-
-pub some_there : (vs : List Variant) (k : ℕ) (v : Variant) (level node : ℕ) → k < length vs → v ≡ get_or vs k v → is_some (value_at node (pairs_at v.rows.watts level)) ≡ true → any_lists vs level node ≡ true
-unfolding any_lists
-some_there [] k v level node lt is here = absurd (omega arith)
-some_there (w ∷ ws) zero v level node lt is here = rw (ap (λ (u : Variant). is_some (value_at node (pairs_at u.rows.watts level))) (sym is) ∙ here) refl
-some_there (w ∷ ws) (suc k) v level node lt is here = by (is_some (value_at node (pairs_at w.rows.watts level))) (some_there ws k v level node (omega arith) is here)
-  where
-    open_rest : Bool
-    open_rest = list_any (λ u. is_some (value_at node (pairs_at u.rows.watts level))) ws
-
-    by : (t : Bool) → any_lists ws level node ≡ true → ◌≡◌ {A = Bool} (t || open_rest) true
-    by true again = refl
-    by false again = again

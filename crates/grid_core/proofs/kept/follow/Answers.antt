@@ -8,15 +8,20 @@ use Rattle.grid_core.proofs.Left.{left_so}
 use Rattle.grid_core.proofs.kept.follow.Goals as goal
 
 pub returns-then-leaves : goal.returns-then-leaves
-returns-then-leaves c net before after k stays refused =
+returns-then-leaves c net before after k touch stays refused =
     let left = sym c.leaves.ensures ∙ c.if-leaves.true in
     left_so net c.args.request.now before after c.args.all.now left k (stays left)
 
 pub returns-then-accepts : goal.returns-then-accepts
-returns-then-accepts c net before after k stays refused = c.none.ensures (structure_after net c.args.request.now) after
+returns-then-accepts c net before after k touch stays refused =
+    let next = structure_after net c.args.request.now in
+    record {
+      slots = c.follow_slots.ensures net next before after touch k.slots;
+      copies = c.follow.ensures net next touch k.copies;
+    }
 
 pub returns-else-accepts : goal.returns-else-accepts
-returns-else-accepts c net before after k stays refused =
+returns-else-accepts c net before after k touch stays refused =
     let same = refused (sym c.accepts.ensures ∙ c.if-accepts.false) in
     record {
       slots = forgotten_so net (structure_after net c.args.request.now) before after c.args.all.now.slots.items c.forget.new.all.items c.forget.ensures same k.slots;

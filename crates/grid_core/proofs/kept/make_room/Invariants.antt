@@ -1,6 +1,6 @@
 use Rattle.std.proofs.Common.{◌+◌, ◌-◌, List, length}
 use Rattle.grid_structure.specs.Network.{Network}
-use Rattle.grid_slots.specs.declared.slots.Variant.{Variant}
+use Rattle.grid_slots.specs.Variant.{Variant}
 use Rattle.grid_core.specs.Kept.{AreBySlot}
 use Rattle.grid_core.proofs.kept.make_room.Given as goal
 

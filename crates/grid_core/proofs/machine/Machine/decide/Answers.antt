@@ -22,22 +22,22 @@ returns-clause-decided c = found_decides c.args.self.now c.in-Some.slot c.args.v
 pub find_verdict-requires-clause-buses : goal.find_verdict-requires-clause-buses
 find_verdict-requires-clause-buses c =
     lent_so c.args.self.now.structure c.args.self.now.slots c.in-Some.slot c.states-states.result.now c.states-states.ensures c.make_room.new.all.items c.index_mut-own.result.now
-    (c.in_ok-make_room.ensures.kept c.args.self.now.structure c.args.self.now.slots c.requires.kept.slots) c.in_ok-make_room.ensures.room c.index_mut-own.ensures.value
+    (c.in_ok-make_room.ensures.kept c.args.self.now.structure c.args.self.now.slots (c.bound_benches.ensures c.args.self.now.structure c.args.self.now.slots c.requires.kept).slots) c.in_ok-make_room.ensures.room c.index_mut-own.ensures.value
 
 pub find_verdict-requires-clause-copies : goal.find_verdict-requires-clause-copies
-find_verdict-requires-clause-copies c = c.requires.kept.copies
+find_verdict-requires-clause-copies c = (c.bound_benches.ensures c.args.self.now.structure c.args.self.now.slots c.requires.kept).copies
 
 pub returns-in_err-make_room-clause-kept : goal.returns-in_err-make_room-clause-kept
 returns-in_err-make_room-clause-kept c = record {
-  slots = c.in_err-make_room.ensures.kept c.args.self.now.structure c.args.self.now.slots c.requires.kept.slots;
-  copies = c.requires.kept.copies;
+  slots = c.in_err-make_room.ensures.kept c.args.self.now.structure c.args.self.now.slots (c.bound_benches.ensures c.args.self.now.structure c.args.self.now.slots c.requires.kept).slots;
+  copies = (c.bound_benches.ensures c.args.self.now.structure c.args.self.now.slots c.requires.kept).copies;
 }
 
 pub returns-in_err-verdict-clause-kept : goal.returns-in_err-verdict-clause-kept
 returns-in_err-verdict-clause-kept c = record {
   slots =
       given_back_so c.args.self.now.structure c.args.self.now.slots c.in-Some.slot c.states-states.result.now c.states-states.ensures c.make_room.new.all.items _ c.find_verdict.new.own refl
-      c.in_err-verdict.ensures.buses (c.in_ok-make_room.ensures.kept c.args.self.now.structure c.args.self.now.slots c.requires.kept.slots);
+      c.in_err-verdict.ensures.buses (c.in_ok-make_room.ensures.kept c.args.self.now.structure c.args.self.now.slots (c.bound_benches.ensures c.args.self.now.structure c.args.self.now.slots c.requires.kept).slots);
   copies = c.in_err-verdict.ensures.copies;
 }
 
@@ -45,6 +45,6 @@ pub returns-clause-kept : goal.returns-clause-kept
 returns-clause-kept c = record {
   slots =
       given_back_so c.args.self.now.structure c.args.self.now.slots c.in-Some.slot c.states-states.result.now c.states-states.ensures c.make_room.new.all.items _ c.find_verdict.new.own refl
-      c.in_ok-verdict.ensures.buses (c.in_ok-make_room.ensures.kept c.args.self.now.structure c.args.self.now.slots c.requires.kept.slots);
+      c.in_ok-verdict.ensures.buses (c.in_ok-make_room.ensures.kept c.args.self.now.structure c.args.self.now.slots (c.bound_benches.ensures c.args.self.now.structure c.args.self.now.slots c.requires.kept).slots);
   copies = c.in_ok-verdict.ensures.copies;
 }

@@ -1,11 +1,10 @@
-use Rattle.std.proofs.Common.{◌≡◌, sym, ap, ◌∙◌, ◌<◌, Bool, List, length, get_or, arith}
+use Rattle.std.proofs.Common.{ap, ◌∙◌, length, get_or, arith}
 use Rattle.std.specs.Prelude.{count_by}
 use Rattle.grid_graph.specs.Components.{component_numbers}
 use Rattle.grid_components.specs.Ranks.{is_key}
-use Rattle.grid_structure.specs.Network.{Network}
 use Rattle.grid_islands.specs.declared.numbering.Counts.{Counts}
 use Rattle.grid_structure.specs.Sites.{levels}
-use Rattle.grid_islands.specs.Numbering.{buses_before, counts_before, IsCounted, AreNumbers}
+use Rattle.grid_islands.specs.Numbering.{buses_before, counts_before}
 use Rattle.grid_islands.proofs.Assembling.{numbers_long, numbers_below, counts_total, ends_counted, numbers_counted}
 use Rattle.grid_islands.proofs.components.Numbers.make.Goals as goal
 

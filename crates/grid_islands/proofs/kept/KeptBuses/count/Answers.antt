@@ -1,6 +1,5 @@
 use Rattle.std.proofs.Common.{◌≡◌, ap, ◌∙◌, ◌<◌, length, arith, rules}
 use Rattle.std.proofs.lemmas.Option.{slice_get_within}
-use Rattle.grid_level.specs.Passing.{positioned}
 use Rattle.grid_states.specs.Rows.{row_at}
 use Rattle.grid_structure.specs.Sites.{levels}
 use Rattle.grid_busview.specs.Views.{bus_leasts, node_buses_of}

@@ -1,7 +1,6 @@
-use Rattle.std.proofs.Common.{◌≡◌, arith, length, subst}
+use Rattle.std.proofs.Common.{arith}
 use Rattle.std.proofs.lemmas.Option.{slice_get_within}
-use Rattle.grid_structure.specs.Sites.{levels}
-use Rattle.grid_islands.specs.Kept.{kept_of, AreKeptBefore}
+use Rattle.grid_islands.specs.Kept.{kept_of}
 use Rattle.grid_islands.proofs.Following.{still_made, more_kept}
 use Rattle.grid_islands.proofs.kept.KeptBuses.keep_all.Goals as goal
 

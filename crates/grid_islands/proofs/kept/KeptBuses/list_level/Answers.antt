@@ -1,7 +1,6 @@
-use Rattle.std.proofs.Common.{◌≡◌, ap, ◌∙◌, ◌<◌, Bool, List, length}
+use Rattle.std.proofs.Common.{◌≡◌, ap, ◌∙◌, Bool, List, length}
 use Rattle.std.proofs.lemmas.Option.{slice_get_within}
 use Rattle.std.proofs.lemmas.Result.{IfOk-weaker}
-use Rattle.grid_level.specs.Passing.{positioned}
 use Rattle.grid_states.specs.Rows.{row_at}
 use Rattle.grid_structure.specs.Network.{Network}
 use Rattle.grid_structure.specs.Sites.{levels}

@@ -1,8 +1,13 @@
+use Rattle.std.proofs.Common.{◌≤◌, sym, ◌∙◌, length}
 use Rattle.grid_states.specs.Rows.{with_empty}
-use Rattle.grid_slots.proofs.Versioned.{made_versions}
+use Rattle.grid_slots.proofs.Showing.{all_shown, rows_mapped}
 use Rattle.grid_slots.proofs.slots.Slots.wider.Goals as goal
 
-pub invariant_of-result : goal.invariant_of-result
-invariant_of-result c =
-    made_versions (λ rows. with_empty rows c.args.level) c.self.inside.variants.items c.in_ok-changed_states.field-0.items c.self.inside.versions c.in_ok-again.field-0 c.self.invariant.1
-    c.in_ok-changed_states.ensures c.in_ok-again.ensures
+pub wider-requires : goal.wider-requires
+wider-requires c = all_shown c.self.inside.variants.items c.self.inside.kept c.args.self.now c.self.view_is
+    c.self.invariant.1 (λ rows. c.args.level ≤ length rows.opened) c.requires
+
+pub returns : goal.returns
+returns c = c.in_ok-wider.ensures
+    ∙ sym (rows_mapped c.self.inside.variants.items c.self.inside.kept c.args.self.now c.self.view_is
+    c.self.invariant.1 (λ rows. with_empty rows c.args.level))
