@@ -13,5 +13,8 @@ pub mod Results
 pub mod IdSets
 pub mod Streams
 pub mod Filling
+pub mod Both
+pub mod Absent
+pub mod Pairs
 pub mod Limits
 pub mod Lengths

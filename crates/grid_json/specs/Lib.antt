@@ -4,6 +4,7 @@ pub mod Kinds
 pub mod Network
 pub mod Streams
 pub mod Slots
+pub mod Kept
 pub mod Command
 pub mod Job
 pub mod Loading

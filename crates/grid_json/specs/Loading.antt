@@ -1,11 +1,12 @@
 -- The second pass: the network's loading edits, one after the other, and the first that is refused at the place of its object.
-use Rattle.std.specs.Prelude.{◌≡◌, ℕ, ℤ, pos, suc, ◌+◌, Bool, true, false, not, ◌&&◌, ◌||◌, nat_lt, if◌then◌else◌, List, [], ◌∷◌, ◌++◌, length, find, Option, Some, None, Result, Ok, Err, decimal, codes, ⊤}
+use Rattle.std.specs.Prelude.{◌≡◌, ℕ, ℤ, pos, suc, ◌+◌, Bool, true, false, not, ◌&&◌, ◌||◌, nat_lt, if◌then◌else◌, List, [], ◌∷◌, length, find, Option, Some, None, Result, Ok, Err, decimal, codes, ⊤}
 use Rattle.std.specs.Option.{option_map}
 use Rattle.grid_ids.specs.Name.{same_id, has_id}
 use Rattle.grid_kinds.specs.declared.SwitchKind.TheVariants.{Breaker}
 use Rattle.grid_level.specs.declared.Placed.{Placed}
 use Rattle.grid_level.specs.VoltageLevel.{VoltageLevel}
 use Rattle.grid_level.specs.Passing.{nodes, is_busbar}
+use Rattle.grid_placed.specs.Translation.{breaker_id}
 use Rattle.grid_structure.specs.declared.End.{End}
 use Rattle.grid_structure.specs.declared.Branch.{Branch}
 use Rattle.grid_structure.specs.declared.Edit.{Edit}
@@ -172,10 +173,6 @@ most_at_bus = 126
 abbrev pub short_id : List ℕ → Result ⊤ Fault
 short_id id = if nat_lt most_at_bus (length id) then Err (here LongAtBus) else Ok tt
 
--- the id, `!` and the side
-abbrev pub breaker_id : List ℕ → ℕ → List ℕ
-breaker_id id side = id ++ (codes "!" ++ decimal side)
-
 -- what the edit that adds a breaker answered
 abbrev pub breaker_told : {S : Type 0} → ℕ → Result S EditFault → Result S Fault
 breaker_told side (Ok s) = Ok s
@@ -184,7 +181,7 @@ breaker_told side (Err fault) = Err (here (breaker_reason side fault))
 -- A terminal's breaker stands between the bus and the terminal's node. It is open where the terminal is not connected.
 unfoldable pub breaker_load : List ℕ → ℕ → List ℕ → ℕ → ℤ → Bool → Network → Result Network Fault
 breaker_load id side level bus node connected net =
-    breaker_told side (apply net (edits.AddSwitch (breaker_id id side) level Breaker (pos bus) node (not connected) false false))
+    breaker_told side (apply net (edits.AddSwitch (breaker_id (record { equipment = id; side = side })) level Breaker (pos bus) node (not connected) false false))
 
 -- ---- injections at buses
 

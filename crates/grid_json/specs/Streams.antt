@@ -1,12 +1,15 @@
 -- What is read from tokens, value by value and member by member.
-use Rattle.std.specs.Prelude.{◌≡◌, ℕ, List, Option, Some, None, Result, Ok}
+use Rattle.std.specs.Prelude.{◌≡◌, ◌<◌, ℕ, List, Bool, true, false, not, Option, Some, None, Result, Ok, length}
+use Rattle.std.specs.List.{list_all}
 use Rattle.json.specs.Token.{Token}
 use Rattle.json.specs.Json.{value}
 use Rattle.serde_json.specs.Data.{Data, object, Members, put}
 use Rattle.serde_json.specs.Read.{of_json, converted}
 use Rattle.serde_json.specs.Find.{get_member}
 use Rattle.grid_json.specs.declared.fault.Fault.{Fault}
-use Rattle.grid_json.specs.Reading.{present_or, some_of}
+use Rattle.grid_json.specs.declared.tokens.Offer.{Offer}
+use Rattle.grid_json.specs.declared.tokens.Offer.TheVariants.{Taken, Unknown, Fault as Refused}
+use Rattle.grid_json.specs.Reading.{present_or, some_of, knows, all_known}
 
 -- the next value of the tokens is read as x, and the new tokens are those behind it
 abbrev pub Streams : {A : Type 0} → (Data → Result A Fault) → ℕ → List Token → List Token → A → Type 0
@@ -23,7 +26,31 @@ pub record Holds {A : Type 0} (read : Data → Result A Fault) (name : List ℕ)
 -- what held of the members that were found holds with the next value of the tokens put at a name
 abbrev pub Takes : {S : Type 0} → (S → Members → Type 0) → List ℕ → ℕ → List Token → List Token → S → S → Type 0
 Takes holds name depth old new before after =
-    (d : Data) × (converted of_json (value depth old) ≡ Some (d, new)) × ((found : Members) → holds before found → holds after (put name d found))
+    (d : Data) × (converted of_json (value depth old) ≡ Some (d, new))
+    × ((found : Members) → holds before found → holds after (put name d found))
+
+-- what a member that was taken came with; it had a slot
+abbrev pub WhereTaken : Offer → Type 0 → Type 0
+WhereTaken Taken P = P
+WhereTaken Unknown P = ⊥
+WhereTaken Refused P = Unit {0}
+
+-- the members that were found have these names, and this holds of them
+abbrev pub Among : {S : Type 0} → List (List ℕ) → (S → Members → Type 0) → S → Members → Type 0
+Among names holds slots found = (all_known names found ≡ true) × holds slots found
+
+-- what came of a member of this name, where these names have slots
+abbrev pub Offered : {S : Type 0} → List (List ℕ) → (S → Members → Type 0) → List ℕ → ℕ
+    → List Token → List Token → S → S → Offer → Type 0
+Offered names holds name depth old new before after Taken =
+    (knows names name ≡ true) × Takes holds name depth old new before after × (length new < length old)
+Offered names holds name depth old new before after Unknown =
+    (knows names name ≡ false) × (new ≡ old) × (after ≡ before)
+Offered names holds name depth old new before after Refused = Unit {0}
+
+-- none of these names is among the others
+abbrev pub disjoint : List (List ℕ) → List (List ℕ) → Bool
+disjoint names others = list_all (λ name. not (knows others name)) names
 
 -- the next value of the tokens is an object, and this holds of its members
 abbrev pub IsObject : (Members → Type 0) → ℕ → List Token → List Token → Type 0

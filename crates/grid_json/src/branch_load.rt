@@ -195,12 +195,12 @@ fn three_nodes(placed: &Three<End>) -> Three<i64>
 fn add_branch(
     alloc: Global,
     id: &Id,
-    shape: &Branch,
+    shape: Branch,
     structure: &mut Structure,
 ) -> Result<(), ReadError>
-    ensures { Leads structure.new result (edited (Edit.AddBranch id.now shape.now) structure.old) }
+    ensures { Leads structure.new result (edited (Edit.AddBranch id.now shape) structure.old) }
 {
-    told(alloc, structure.add_branch(id, shape))
+    told(alloc, structure.add_branch(id, &shape))
 }
 
 /// A transformer of two windings.
@@ -218,10 +218,11 @@ fn load_two(
 {
     let (ends, rated_u) = windings;
     loader.check_two(alloc, id, ends)?;
+    let home = substation.copy()?;
     let placed = two_placed(&loader.structure, ends)?;
     let nodes = two_nodes(&placed);
-    let shape = two_windings(substation.copy()?, placed, rated_u);
-    add_branch(alloc, id, &shape, &mut loader.structure)?;
+    let shape = two_windings(home, placed, rated_u);
+    add_branch(alloc, id, shape, &mut loader.structure)?;
     add_two_breakers(alloc, id, ends, nodes, &mut loader.structure)
 }
 
@@ -240,10 +241,11 @@ fn load_three(
 {
     let (ends, rated_u) = windings;
     loader.check_three(alloc, id, ends)?;
+    let home = substation.copy()?;
     let placed = three_placed(&loader.structure, ends)?;
     let nodes = three_nodes(&placed);
-    let shape = three_windings(substation.copy()?, placed, rated_u);
-    add_branch(alloc, id, &shape, &mut loader.structure)?;
+    let shape = three_windings(home, placed, rated_u);
+    add_branch(alloc, id, shape, &mut loader.structure)?;
     add_three_breakers(alloc, id, ends, nodes, &mut loader.structure)
 }
 
@@ -288,7 +290,7 @@ impl Load for LineDraft {
         let placed = two_placed(&loader.structure, &self.ends)?;
         let nodes = two_nodes(&placed);
         let shape = line(placed);
-        add_branch(alloc, &self.id, &shape, &mut loader.structure)?;
+        add_branch(alloc, &self.id, shape, &mut loader.structure)?;
         add_two_breakers(alloc, &self.id, &self.ends, nodes, &mut loader.structure)
     }
 }

@@ -2,6 +2,7 @@
 // bus stands at a node of its own behind a breaker of its own.
 ghost use Rattle.std.specs.Prelude.{◌≡◌, ◌<◌, ◌≤◌, pos, length, slice_get, IfOk, codes};
 ghost use Rattle.grid_level.specs.Passing.{placed_at};
+ghost use Rattle.grid_placed.specs.Translation as translation;
 ghost use Rattle.grid_structure.specs.Network.{Network};
 ghost use Rattle.grid_structure.specs.Sites.{level_named, levels};
 ghost use Rattle.grid_json.specs.Reading.{Gives, under};
@@ -109,8 +110,10 @@ pub fn next_node(structure: &Structure, level: &Id) -> u32
 }
 
 /// The id of the breaker of a side.
+#[tactic(auto, unfolding(grid_placed::specs::Translation::breaker_id))]
 fn breaker_id(alloc: Global, id: &Id, side: u8) -> Result<Id, Memory>
-    ensures { IfOk result (λ breaker. breaker ≡ loading.breaker_id id.now side) }
+    ensures { IfOk result (λ breaker. breaker ≡ translation.breaker_id
+        (record { equipment = id.now; side = side })) }
 {
     let text = id.text();
     let Ok(name) = format!(in alloc; "{text}!{side}") else {

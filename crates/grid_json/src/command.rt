@@ -352,11 +352,7 @@ pub fn two_windings(substation: Id, ends: Two<End>, rated: &Two<i64>) -> Branch
 pub fn three_windings(substation: Id, ends: Three<End>, rated: &Three<i64>) -> Branch
     ensures { result ≡ three_windings_of substation ends rated.now }
 {
-    let Three {
-        first,
-        second,
-        third,
-    } = ends;
+    let (first, second, third) = ends.into_parts();
     Branch::ThreeWindings {
         substation,
         end1: first,

@@ -19,11 +19,36 @@ pub struct Two<T> {
 }
 
 /// Three values of one kind.
-#[derive(Clone, Debug, Drop)]
+#[derive(Clone, Debug)]
 pub struct Three<T> {
     pub first: T,
     pub second: T,
     pub third: T,
+}
+
+// Written out, so that where three values are dropped a proof sees one call.
+impl<T: Drop> Drop for Three<T> {
+    fn drop(self) {
+        let Three {
+            first: _,
+            second: _,
+            third: _,
+        } = self;
+    }
+}
+
+impl<T> Three<T> {
+    /// The first value, the second and the third.
+    pub fn into_parts(self) -> (T, T, T)
+        ensures { (result.0 ≡ self.first) × (result.1 ≡ self.second) × (result.2 ≡ self.third) }
+    {
+        let Three {
+            first,
+            second,
+            third,
+        } = self;
+        (first, second, third)
+    }
 }
 
 /// An item of an array, under its position.

@@ -8,6 +8,7 @@ mod command;
 mod ends;
 mod fault;
 mod format;
+mod injections;
 mod job;
 mod kinds;
 mod laws;

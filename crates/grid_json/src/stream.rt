@@ -1,16 +1,17 @@
 // The first pass over a job straight from its tokens, where it has no fault.
-ghost use Rattle.std.specs.Prelude.{◌≡◌, ◌<◌, ◌≤◌, length, unwrap_or, codes, None, Ok, IfOk, IfSome, OnSome, IsTrue};
+ghost use Rattle.std.specs.Prelude.{◌≡◌, ◌<◌, ◌≤◌, length, unwrap_or, codes, None, Ok, IfOk, IfSome, IsTrue, true};
 ghost use Rattle.grid_json.specs.declared.format.Format.TheVariants.{One};
 ghost use Rattle.grid_json.specs.Job.{command_total, max_commands, draft_at};
-ghost use Rattle.grid_json.specs.Streams.{Streams, Fills, Takes};
-ghost use Rattle.grid_json.specs.Slots.{JobHolds};
+ghost use Rattle.grid_json.specs.Streams.{Streams, Fills, Takes, WhereTaken};
+ghost use Rattle.grid_json.specs.Slots.{JobHolds, job_names};
+ghost use Rattle.grid_json.specs.Kept.{job_kept};
 ghost use Rattle.grid_json.specs.Whole.{draft_of};
 
 use crate::format::Format;
 use crate::job::{JobDraft, Listeners, Workers, filters_or_none, scripts_or_none, workers_of};
 use crate::network::NetworkDraft;
 use crate::order::order_of_some;
-use crate::tokens::{FromTokens, Slots, fill, leaf, object_of, small};
+use crate::tokens::{FromTokens, Offer, Slots, fill, is_named, leaf, object_of, small};
 use grid_ids::Seq;
 use grid_requests::{Request, Scripts};
 use grid_value::{MAX_DEPTH, Scratch};
@@ -71,14 +72,14 @@ fn fill_by<T: FromTokens>(
     slot: &mut Option<T>,
     reader: &mut Reader<'_>,
     depth: usize,
-) -> Option<()>
-    ensures filled { OnSome result
-        (Fills (T.reads (unwrap_or format One)) depth reader.old reader.new slot.new) }
-    ensures shorter { OnSome result (length reader.new < length reader.old) }
+) -> Offer
+    ensures { WhereTaken result
+        (Fills (T.reads (unwrap_or format One)) depth reader.old reader.new slot.new
+        × (length reader.new < length reader.old)) }
 {
     match format {
         Some(format) => fill(alloc, format, slot, reader, depth),
-        None => None,
+        None => Offer::Fault,
     }
 }
 
@@ -108,20 +109,26 @@ impl JobSlots {
         format: Format,
         reader: &mut Reader<'_>,
         depth: usize,
-    ) -> Option<()>
-        ensures taken { OnSome result (Takes (JobHolds format) (codes "format") depth reader.old
-            reader.new self.old self.new) }
-        ensures shorter { OnSome result (length reader.new < length reader.old) }
+    ) -> Offer
+        ensures { WhereTaken result
+            (Takes (JobHolds format) (codes "format") depth reader.old reader.new self.old self.new
+            × (length reader.new < length reader.old)) }
     {
         if !self.awaits_format() {
-            return None;
+            return Offer::Fault;
         }
         fill(alloc, format, &mut self.format, reader, depth)
     }
 }
 
 impl Slots for JobSlots {
+    ghost names = { job_names };
+
+    ghost apart = { true };
+
     ghost holds = { JobHolds };
+
+    ghost kept = { job_kept };
 
     fn empty() -> JobSlots {
         JobSlots {
@@ -140,14 +147,19 @@ impl Slots for JobSlots {
         name: &str,
         reader: &mut Reader<'_>,
         depth: usize,
-    ) -> Option<()> {
-        match name {
-            "format" => self.take_format(alloc, format, reader, depth),
-            "network" => fill_by(alloc, self.format, &mut self.network, reader, depth),
-            "listeners" => fill_by(alloc, self.format, &mut self.listeners, reader, depth),
-            "workers" => fill_by(alloc, self.format, &mut self.workers, reader, depth),
-            "order" => fill(alloc, format, &mut self.order, reader, depth),
-            _ => None,
+    ) -> Offer {
+        if is_named(name, "format") {
+            self.take_format(alloc, format, reader, depth)
+        } else if is_named(name, "network") {
+            fill_by(alloc, self.format, &mut self.network, reader, depth)
+        } else if is_named(name, "listeners") {
+            fill_by(alloc, self.format, &mut self.listeners, reader, depth)
+        } else if is_named(name, "workers") {
+            fill_by(alloc, self.format, &mut self.workers, reader, depth)
+        } else if is_named(name, "order") {
+            fill(alloc, format, &mut self.order, reader, depth)
+        } else {
+            Offer::Unknown
         }
     }
 }

@@ -1,11 +1,15 @@
 // Reading straight from tokens, where there is no fault: None promises nothing.
-ghost use Rattle.std.specs.Prelude.{◌≡◌, ◌<◌, ℕ, [], length, unwrap_or, IfSome, OnSome};
-ghost use Rattle.serde_json.specs.Data.{Members as MembersData, no_members};
+ghost use Rattle.std.specs.Prelude.{◌≡◌, ◌<◌, ◌++◌, ◌&&◌, ℕ, List, [], Bool, true, false, length, unwrap_or, IfSome, OnSome};
+ghost use Rattle.std.specs.Str.{bytes_eq};
+ghost use Rattle.serde_json.specs.Data.{Data, Members as MembersData, no_members, put};
 ghost use Rattle.grid_json.specs.declared.format.Format.{Format as FormatAt};
-ghost use Rattle.grid_json.specs.Streams.{Streams, Fills, Takes, IsObject};
+ghost use Rattle.grid_json.specs.Reading.{knows};
+ghost use Rattle.grid_json.specs.Kept.{first_unknown, second_unknown};
+ghost use Rattle.grid_json.specs.Streams.{Streams, Among, Fills, Offered, WhereTaken, IsObject, disjoint};
 
 use crate::format::Format;
-use crate::network::{BusbarDraft, InjectionDraft, LineDraft, TransformerDraft};
+use crate::kinds::InjectionKind;
+use crate::network::TransformerDraft;
 use crate::read::FromJson;
 use grid_ids::{Id, Seq};
 use grid_kinds::SwitchKind;
@@ -94,25 +98,14 @@ impl FromTokens for SwitchKind {
     }
 }
 
-impl FromTokens for BusbarDraft {
+impl FromTokens for InjectionKind {
     fn from_tokens(
         alloc: Global,
         format: Format,
         reader: &mut Reader<'_>,
-        depth: usize,
-    ) -> Option<BusbarDraft> {
-        small(alloc, format, reader, depth)
-    }
-}
-
-impl FromTokens for InjectionDraft {
-    fn from_tokens(
-        alloc: Global,
-        format: Format,
-        reader: &mut Reader<'_>,
-        depth: usize,
-    ) -> Option<InjectionDraft> {
-        small(alloc, format, reader, depth)
+        _depth: usize,
+    ) -> Option<InjectionKind> {
+        leaf(alloc, format, reader)
     }
 }
 
@@ -123,17 +116,6 @@ impl FromTokens for TransformerDraft {
         reader: &mut Reader<'_>,
         depth: usize,
     ) -> Option<TransformerDraft> {
-        small(alloc, format, reader, depth)
-    }
-}
-
-impl FromTokens for LineDraft {
-    fn from_tokens(
-        alloc: Global,
-        format: Format,
-        reader: &mut Reader<'_>,
-        depth: usize,
-    ) -> Option<LineDraft> {
         small(alloc, format, reader, depth)
     }
 }
@@ -160,8 +142,31 @@ impl<T: FromTokens> FromTokens for Seq<T> {
     }
 }
 
+/// What came of a member that slots were offered.
+#[derive(Drop)]
+pub enum Offer {
+    /// Its value is in the slot of its name.
+    Taken,
+    /// There is no slot of its name.
+    Unknown,
+    /// Its value has a fault, or memory is wanting.
+    Fault,
+}
+
+/// Whether the name is the known one. Where it is inlined, a name of another length is told by its length.
+#[inline(always)]
+pub fn is_named(name: &str, known: &str) -> bool
+    ensures { result ≡ bytes_eq known.now name.now }
+{
+    known.len() == name.len() && known == name
+}
+
 /// The members of an object that were found so far, each in a slot of its own.
 pub trait Slots: Sized + Drop {
+    // The names that have a slot.
+    ghost names: { List (List ℕ) };
+    // Whether no name has two slots.
+    ghost apart: { Bool };
     // What the slots hold of the members that were found.
     ghost holds: { FormatAt → Self → MembersData → Type 0 };
 
@@ -169,7 +174,7 @@ pub trait Slots: Sized + Drop {
     fn empty() -> Self
         ensures { (format : FormatAt) → holds format result no_members };
 
-    /// Takes the next value of the reader as the member of a name, where it has that name and no fault.
+    /// Takes the next value of the reader as the member of a name, where that name has a slot and there is no fault.
     fn take(
         &mut self,
         alloc: Global,
@@ -177,10 +182,57 @@ pub trait Slots: Sized + Drop {
         name: &str,
         reader: &mut Reader<'_>,
         depth: usize,
-    ) -> Option<()>
-        ensures taken { OnSome result
-            (Takes (holds format) name.now depth reader.old reader.new self.old self.new) }
-        ensures shorter { OnSome result (length reader.new < length reader.old) };
+    ) -> Offer
+        requires { apart ≡ true }
+        ensures { Offered names (holds format) name.now depth reader.old reader.new self.old self.new
+            result };
+
+    // A member of another name leaves the slots as they are.
+    ghost kept: { (format : FormatAt) (slots : Self) (name : List ℕ) (d : Data) (found : MembersData)
+        → knows names name ≡ false → holds format slots found → holds format slots (put name d found) };
+}
+
+/// Two groups of slots, as one.
+#[derive(Drop)]
+pub struct Both<A, B> {
+    pub first: A,
+    pub second: B,
+}
+
+impl<A: Slots, B: Slots> Slots for Both<A, B> {
+    ghost names = { A.names ++ B.names };
+
+    ghost apart = { A.apart && (B.apart && disjoint A.names B.names) };
+
+    ghost holds = { λ format both found. A.holds format both.first found
+        × B.holds format both.second found };
+
+    ghost kept = { λ format both name d found other held. (
+      A.kept format both.first name d found (first_unknown A.names B.names name other) held.0,
+      B.kept format both.second name d found (second_unknown A.names B.names name other) held.1,
+    ) };
+
+    fn empty() -> Both<A, B> {
+        Both {
+            first: A::empty(),
+            second: B::empty(),
+        }
+    }
+
+    fn take(
+        &mut self,
+        alloc: Global,
+        format: Format,
+        name: &str,
+        reader: &mut Reader<'_>,
+        depth: usize,
+    ) -> Offer {
+        match self.first.take(alloc, format, name, reader, depth) {
+            Offer::Taken => Offer::Taken,
+            Offer::Unknown => self.second.take(alloc, format, name, reader, depth),
+            Offer::Fault => Offer::Fault,
+        }
+    }
 }
 
 /// Takes the next value of the reader into a slot.
@@ -190,13 +242,18 @@ pub fn fill<T: FromTokens>(
     slot: &mut Option<T>,
     reader: &mut Reader<'_>,
     depth: usize,
-) -> Option<()>
-    ensures filled { OnSome result
-        (Fills (T.reads format) depth reader.old reader.new slot.new) }
-    ensures shorter { OnSome result (length reader.new < length reader.old) }
+) -> Offer
+    ensures { WhereTaken result
+        (Fills (T.reads format) depth reader.old reader.new slot.new
+        × (length reader.new < length reader.old)) }
 {
-    *slot = Some(T::from_tokens(alloc, format, reader, depth)?);
-    Some(())
+    match T::from_tokens(alloc, format, reader, depth) {
+        Some(value) => {
+            *slot = Some(value);
+            Offer::Taken
+        }
+        None => Offer::Fault,
+    }
 }
 
 /// The next value of the reader as an object.
@@ -206,8 +263,9 @@ pub fn object_of<S: Slots>(
     reader: &mut Reader<'_>,
     depth: usize,
 ) -> Option<S>
+    requires { S.apart ≡ true }
     ensures object { IfSome result
-        (λ slots. IsObject (S.holds format slots) depth reader.old reader.new) }
+        (λ slots. IsObject (Among S.names (S.holds format) slots) depth reader.old reader.new) }
     ensures shorter { OnSome result (length reader.new < length reader.old) }
 {
     if depth == 0 {
@@ -218,7 +276,9 @@ pub fn object_of<S: Slots>(
     };
     let mut slots = S::empty();
     'members: while let Some(name) = reader.next_key().ok()? {
-        slots.take(alloc, format, name, reader, depth - 1)?;
+        let Offer::Taken = slots.take(alloc, format, name, reader, depth - 1) else {
+            return None;
+        };
     }
     Some(slots)
 }

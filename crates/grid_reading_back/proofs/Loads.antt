@@ -14,6 +14,7 @@ use Rattle.grid_structure.specs.Soundness.{IsSound}
 use Rattle.grid_structure.specs.Editing.{apply}
 use Rattle.grid_structure.proofs.Sound.{empty_sound}
 use Rattle.grid_structure.proofs.Soundly.{apply_sound}
+use Rattle.grid_placed.specs.Translation.{breaker_id}
 use Rattle.grid_json.specs.declared.fault.Fault.{Fault}
 use Rattle.grid_json.specs.declared.buses.BusSwitch.{BusSwitch}
 use Rattle.grid_json.specs.declared.buses.BusInjection.{BusInjection}
@@ -37,7 +38,7 @@ use Rattle.grid_json.specs.declared.network.SubstationDraft.{SubstationDraft}
 use Rattle.grid_json.specs.declared.network.NetworkDraft.{NetworkDraft}
 use Rattle.grid_json.specs.Reading.{under}
 use Rattle.grid_json.specs.Command.{line_of, two_windings_of, three_windings_of}
-use Rattle.grid_json.specs.Loading.{load_items, load_member, refused, edited, busbar_load, switch_load, internal_load, injection_load, level_load, buses_load, bus_at, next_node, differing, bus_switch_load, short_id, breaker_id, breaker_told, breaker_load, bus_injection_load, bus_level_load}
+use Rattle.grid_json.specs.Loading.{load_items, load_member, refused, edited, busbar_load, switch_load, internal_load, injection_load, level_load, buses_load, bus_at, next_node, differing, bus_switch_load, short_id, breaker_told, breaker_load, bus_injection_load, bus_level_load}
 use Rattle.grid_json.specs.Loading.{Loaded, nothing_of, with_network, with_bus_level, any_level_load, level_of, end_check, is_by_bus, short_where, two_check, three_check, placed_end, two_placed, three_placed, two_nodes, three_nodes, end_breaker, two_breakers, three_breakers, two_load, three_load, transformer_load, line_load, substation_load, parts_load, network_load}
 use Rattle.grid_json.proofs.Results.{bound, inside}
 use Rattle.grid_reading_back.specs.Requests.{item_numbers, shape_ids}
@@ -148,7 +149,7 @@ module _ (P : List ℕ → Type 0) (Q : ℤ → Type 0) where
 
 -- the id of the breaker of each side of a short id keeps the rule too
 abbrev pub BreakersKeep : (List ℕ → Type 0) → Type 0
-BreakersKeep P = (id : List ℕ) (side : ℕ) → side ≤ 3 → short_id id ≡ Ok tt → P id → P (breaker_id id side)
+BreakersKeep P = (id : List ℕ) (side : ℕ) → side ≤ 3 → short_id id ≡ Ok tt → P id → P (breaker_id (record { equipment = id; side = side }))
 
 -- ---- loading
 
@@ -241,8 +242,8 @@ module _ (P : List ℕ → Type 0) (Q : ℤ → Type 0) (low : (n : ℕ) → n �
       → side ≤ 3 → short_id id ≡ Ok tt → P id → Fine net → Fine new
   unfolding breaker_load
   breaker_loaded id side level bus node connected net new is few short valid fine =
-      let h = breaker_applied side (apply net (edits.AddSwitch (breaker_id id side) level Breaker (pos bus) node (not connected) false false)) new is in
-      (switch_added P Q low net new fine.0 (breaker_id id side) level Breaker (pos bus) node (not connected) false false h (breakers id side few short valid), apply_sound net new _ h fine.1)
+      let h = breaker_applied side (apply net (edits.AddSwitch (breaker_id (record { equipment = id; side = side })) level Breaker (pos bus) node (not connected) false false)) new is in
+      (switch_added P Q low net new fine.0 (breaker_id (record { equipment = id; side = side })) level Breaker (pos bus) node (not connected) false false h (breakers id side few short valid), apply_sound net new _ h fine.1)
 
   bus_injection_loaded : IsLoaded Fine (BusInjectionKeeps P Q) bus_injection_load
   unfolding bus_injection_load

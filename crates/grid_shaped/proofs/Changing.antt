@@ -23,24 +23,12 @@ use Rattle.grid_structure.specs.Network.{Network}
 use Rattle.grid_structure.specs.Sites.{levels, level_named, taken, switches}
 use Rattle.grid_structure.specs.Editing.{apply, edit_fault, in_home, max_switches, place_end, with_level}
 use Rattle.grid_structure.proofs.Found.{any-map}
-use Rattle.grid_structure.proofs.Framing.{frame, framed, frame-with_levels, is_same, put, put_keeps, stands}
+use Rattle.grid_structure.proofs.Framing.{frame, framed, frame-with_levels, put, put_keeps, stands}
 use Rattle.grid_structure.proofs.Levels.{levels-with_levels}
 use Rattle.grid_structure.proofs.OneLevel.{fits, found}
+use Rattle.grid_json.proofs.BusSections.{put_named}
 
 -- ---- a level in the place of one
-
-put_named : (id : List ℕ) (old new : VoltageLevel) (ls : List VoltageLevel) → find (λ (l : VoltageLevel). same_id id l.id) ls ≡ Some old → new.id ≡ id → find (λ (l : VoltageLevel). same_id id l.id) (map (put new) ls) ≡ Some new
-put_named id old new [] e own = cc
-put_named id old new (l ∷ ls) e own = by (same_id id l.id) refl e (put_named id old new ls)
-  where
-    test : same_id new.id l.id ≡ same_id id l.id
-    test = ap (λ z. same_id z l.id) own
-
-    by : (t : Bool) → same_id id l.id ≡ t → ◌≡◌ {A = Option VoltageLevel} (cond t (Some l) (find (λ (l : VoltageLevel). same_id id l.id) ls)) (Some old)
-        → (find (λ (l : VoltageLevel). same_id id l.id) ls ≡ Some old → new.id ≡ id → find (λ (l : VoltageLevel). same_id id l.id) (map (put new) ls) ≡ Some new)
-        → find (λ (l : VoltageLevel). same_id id l.id) (map (put new) (l ∷ ls)) ≡ Some new
-    by true is h again = rw (test ∙ is, is_same id new.id (sym own)) refl
-    by false is h again = rw (test ∙ is, is) (again h own)
 
 put_other : (id : List ℕ) (new : VoltageLevel) (ls : List VoltageLevel) → same_id id new.id ≡ false → find (λ (l : VoltageLevel). same_id id l.id) (map (put new) ls) ≡ find (λ (l : VoltageLevel). same_id id l.id) ls
 put_other id new [] other = refl

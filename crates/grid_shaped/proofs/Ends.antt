@@ -18,11 +18,12 @@ use Rattle.grid_structure.specs.Network.{Network}
 use Rattle.grid_structure.specs.Sites.{level_named}
 use Rattle.grid_structure.specs.Editing.{apply, in_home, place_end}
 use Rattle.grid_placed.specs.Places.{Joint, Outlet}
+use Rattle.grid_placed.specs.Translation.{breaker_id}
 use Rattle.grid_placed.proofs.Nodes.{StandsWell}
 use Rattle.grid_json.specs.declared.buses.BusLevelDraft.{BusLevelDraft}
 use Rattle.grid_json.specs.declared.buses.EndDraft.{EndDraft}
 use Rattle.grid_json.specs.declared.buses.EndDraft.TheVariants as ends
-use Rattle.grid_json.specs.Loading.{bus_at, breaker_id, breaker_load, breaker_told, end_breaker, is_by_bus, level_of}
+use Rattle.grid_json.specs.Loading.{bus_at, breaker_load, breaker_told, end_breaker, is_by_bus, level_of}
 use Rattle.grid_json.proofs.Results.{bound}
 use Rattle.grid_shaped.specs.Drafts.{end_outlet, end_outlets}
 use Rattle.grid_shaped.proofs.Changing.{Changed, Stays, changed_homes, changed_stays, end_changed, stays_itself, switch_changed}
@@ -40,15 +41,15 @@ abbrev pub end_edit : List ℕ → ℕ → ℤ → VoltageLevel → Result Volta
 end_edit id side node v = level_with_terminal v node (record { equipment = id; side = side }) BranchEnd
 
 abbrev pub switch_edit : List ℕ → ℕ → ℕ → ℤ → Bool → VoltageLevel → Result VoltageLevel Unfit
-switch_edit id side bus node connected v = level_with_switch v (breaker_id id side) Breaker (pos bus) node (not connected) false false
+switch_edit id side bus node connected v = level_with_switch v (breaker_id (record { equipment = id; side = side })) Breaker (pos bus) node (not connected) false false
 
 -- a breaker was added between these nodes
 pub breaker_changed : (id : List ℕ) (side : ℕ) (level : List ℕ) (bus : ℕ) (node : ℤ) (connected : Bool) (net new : Network) → breaker_load id side level bus node connected net ≡ Ok new
     → Changed net new level (switch_edit id side bus node connected)
 unfolding breaker_load
 breaker_changed id side level bus node connected net new h =
-    switch_changed net new (breaker_id id side) level Breaker (pos bus) node (not connected) false false
-    (told side (apply net (edits.AddSwitch (breaker_id id side) level Breaker (pos bus) node (not connected) false false)) new h)
+    switch_changed net new (breaker_id (record { equipment = id; side = side })) level Breaker (pos bus) node (not connected) false false
+    (told side (apply net (edits.AddSwitch (breaker_id (record { equipment = id; side = side })) level Breaker (pos bus) node (not connected) false false)) new h)
 
 -- ---- a level in its substation, while it loads
 

@@ -30,7 +30,6 @@ use Rattle.grid_json.specs.declared.buses.BusInjection.{BusInjection}
 use Rattle.grid_json.specs.declared.buses.BusLevelDraft.{BusLevelDraft}
 use Rattle.grid_json.specs.declared.fault.Fault.{Fault}
 use Rattle.grid_json.specs.Reading.{under}
-use Rattle.grid_json.specs.BusPositions.{sections_from}
 use Rattle.grid_json.specs.Loading.{bus_at, bus_injection_load, bus_level_load, bus_switch_load, busbar_load, buses_load, differing, edited, injection_load, internal_load, level_load, load_items, load_member, next_node, short_id, switch_load}
 use Rattle.grid_json.proofs.BusLoading.{accepted}
 use Rattle.grid_json.proofs.BusSections.{buses_are_sections}
@@ -39,7 +38,7 @@ use Rattle.grid_shaped.specs.Drafts.{injection_outlet, joint_of, place_among, pl
 use Rattle.grid_shaped.proofs.Changing.{Changed, SameHomes, Stays, busbar_changed, changed_homes, changed_stays, injection_changed, internal_changed, stays_then, switch_changed}
 use Rattle.grid_shaped.proofs.Adding.{home_stays, level_opened}
 use Rattle.grid_shaped.proofs.Items.{items_add, items_keep}
-use Rattle.grid_shaped.proofs.Parts.{IsAt, breaker_edit, breaker_more, bus_is_at, joint_edit, joint_more, next_is, part, plain_of, sections_are, terminal_more}
+use Rattle.grid_shaped.proofs.Parts.{IsAt, breaker_edit, breaker_more, bus_is_at, joint_edit, joint_more, next_is, part, plain_of, terminal_more}
 use Rattle.grid_shaped.proofs.Ends.{PartAt, breaker_changed, switch_edit}
 use Rattle.grid_shaped.proofs.Branches.{joints_of}
 
@@ -238,7 +237,7 @@ bus_level_loaded l substation net new h =
     let c = member_within bus_injection_load l.id (bus_injection_within l.id) (codes "injections") l.injections switches.0 new switches.2 in
     let all = within_then l.id made.0 buses.0 new a (within_then l.id buses.0 switches.0 new b c) in
     let bare = bare_level l.id l.nominal_v l.low_v l.high_v in
-    let sections : sections_from 0 l.buses ≡ map bus_section (enumerate_from 0 l.buses) ++ [] = sections_are 0 l.buses ∙ sym (append-nil (map bus_section (enumerate_from 0 l.buses))) in
+    let sections : map bus_section (enumerate_from 0 l.buses) ≡ map bus_section (enumerate_from 0 l.buses) ++ [] = sym (append-nil (map bus_section (enumerate_from 0 l.buses))) in
     let first : Growing l substation [] [] buses.0 = record {
       whole = record {
         named = buses_are_sections made.0 buses.0 l.id bare l.buses opened.named refl listed ∙ ap (λ z. Some (record bare { placed = z })) sections;

@@ -1,6 +1,6 @@
 -- A level with configured buses while it loads: its switches, terminals and their breakers, each added last.
-use Rattle.std.proofs.Common.{◌≡◌, refl, sym, ap, ◌∙◌, subst, ℕ, pos, suc, ◌+◌, ◌<◌, ◌≤◌, Bool, true, false, cond, not, List, [], ◌∷◌, ◌++◌, length, Option, Some, None, Result, Ok, Err, arith, append_assoc, add-one}
-use Rattle.std.specs.Prelude.{map, nat_le, nat_lt, position, unwrap_or, codes, decimal, All}
+use Rattle.std.proofs.Common.{◌≡◌, refl, sym, ap, ◌∙◌, subst, ℕ, pos, suc, ◌+◌, ◌<◌, ◌≤◌, Bool, true, false, not, List, [], ◌∷◌, ◌++◌, length, Option, Some, None, Result, Ok, arith, append_assoc}
+use Rattle.std.specs.Prelude.{map, nat_lt, position, unwrap_or, All}
 use Rattle.std.specs.List.{enumerate_from, list_all}
 use Rattle.std.proofs.lemmas.Bool.{and_from, and_parts, lt-ltb}
 use Rattle.std.proofs.lemmas.List.{append-nil, map-append}
@@ -17,7 +17,7 @@ use Rattle.grid_level.specs.declared.Terminal.{Terminal}
 use Rattle.grid_level.specs.declared.Stand.{Stand}
 use Rattle.grid_level.specs.declared.Switch.{Switch}
 use Rattle.grid_level.specs.VoltageLevel.{VoltageLevel}
-use Rattle.grid_level.specs.LevelEdits.{Unfit, edge_fits, level_with_switch, level_with_terminal, max_node, node_of, node_range, with_placed}
+use Rattle.grid_level.specs.LevelEdits.{Unfit, edge_fits, level_with_switch, level_with_terminal, with_placed}
 use Rattle.grid_level.specs.Passing.{is_busbar, nodes}
 use Rattle.grid_level.proofs.Editing.{fitting, went}
 use Rattle.grid_level.proofs.Placing.{placed_in, placing}
@@ -31,8 +31,8 @@ use Rattle.grid_json.specs.declared.buses.BusLevelDraft.{BusLevelDraft}
 use Rattle.grid_json.specs.declared.fault.Reason.TheVariants.{NoBus}
 use Rattle.grid_json.specs.Reading.{or_fault}
 use Rattle.grid_json.specs.Loading.{bus_at, bus_place, next_node, place_in}
-use Rattle.grid_json.specs.BusPositions.{sections_from}
 use Rattle.grid_json.proofs.BusPositions.{places_are_positions}
+use Rattle.grid_json.proofs.BusSections.{node_is}
 use Rattle.grid_shaped.specs.Drafts.{place_among, placed_with}
 use Rattle.grid_shaped.proofs.Changing.{Changed, changed_named}
 
@@ -54,11 +54,6 @@ pub part_is : (l : BusLevelDraft) (joints : List Joint) (outlets : List Outlet) 
 unfolding translated_level outlets_at
 part_is l joints outlets = refl
 
-pub sections_are : (at : ℕ) (buses : List (List ℕ)) → sections_from at buses ≡ map bus_section (enumerate_from at buses)
-unfolding sections_from bus_section
-sections_are at [] = refl
-sections_are at (bus ∷ buses) = ap (λ z. bus_section (at, bus) ∷ z) (rw (← add-one at) (sections_are (at + 1) buses))
-
 pub numbered_last : {X : Type 0} (at : ℕ) (xs : List X) (x : X) → enumerate_from at (xs ++ x ∷ []) ≡ enumerate_from at xs ++ (at + length xs, x) ∷ []
 numbered_last {X} at [] x = let one : ℕ → List (ℕ × X) = λ n. (n, x) ∷ [] in let e : at ≡ at + 0 = omega arith in ap one e
 numbered_last {X} at (y ∷ xs) x =
@@ -78,14 +73,6 @@ last_breaker js at ts t =
     append_assoc (map joint_breaker js) (map outlet_breaker (enumerate_from at ts)) (outlet_breaker (at + length ts, t) ∷ [])
     ∙ ap (λ z. map joint_breaker js ++ z) (sym (map-append outlet_breaker (enumerate_from at ts) ((at + length ts, t) ∷ [])))
     ∙ ap (λ z. map joint_breaker js ++ map outlet_breaker z) (sym (numbered_last at ts t))
-
-node_is : (n m : ℕ) → node_of (pos n) ≡ Ok m → n ≡ m
-unfolding node_of
-node_is n m h = by (nat_le n max_node) h
-  where
-    by : (t : Bool) → ◌≡◌ {A = Result ℕ Unfit} (cond t (Ok n) (Err (node_range (pos n)))) (Ok m) → n ≡ m
-    by true e = cc
-    by false e = cc
 
 abbrev with_last : VoltageLevel → Switch → VoltageLevel
 with_last level s = record level { switches = level.switches ++ s ∷ [] }
@@ -143,7 +130,7 @@ abbrev pub terminal_edit : ℕ → Outlet → VoltageLevel → Result VoltageLev
 terminal_edit n t v = level_with_terminal v (pos n) t.terminal t.stand
 
 abbrev pub breaker_edit : ℕ → Outlet → VoltageLevel → Result VoltageLevel Unfit
-breaker_edit n t v = level_with_switch v (t.terminal.equipment ++ (codes "!" ++ decimal t.terminal.side)) Breaker (pos t.place) (pos n) (not t.connected) false false
+breaker_edit n t v = level_with_switch v (breaker_id t.terminal) Breaker (pos t.place) (pos n) (not t.connected) false false
 
 abbrev pub joint_edit : Joint → VoltageLevel → Result VoltageLevel Unfit
 joint_edit j v = level_with_switch v j.id Breaker (pos j.place1) (pos j.place2) j.opened true false
@@ -162,15 +149,12 @@ module _ (l : BusLevelDraft) (net new : Network) (js : List Joint) (ds ps : List
       ∙ ap (λ (z : VoltageLevel). placed_in z (outlet_placed (n, t))) (old_is (terminal_edit n t) c) ∙ more)
 
   pub breaker_more : (n : ℕ) (t : Outlet) → n ≡ length l.buses + length ds → Changed net new l.id (breaker_edit n t) → level_named new l.id ≡ Some (part l js (ds ++ t ∷ []) ps)
-  unfolding outlet_breaker breaker_id
+  unfolding outlet_breaker
   breaker_more n t is c =
-      let id : t.terminal.equipment ++ (codes "!" ++ decimal t.terminal.side) ≡ t.terminal.equipment ++ codes "!" ++ decimal t.terminal.side = sym (append_assoc t.terminal.equipment (codes "!") (decimal t.terminal.side)) in
-      let one : ◌≡◌ {A = Switch} (record { id = t.terminal.equipment ++ (codes "!" ++ decimal t.terminal.side); kind = Breaker; node1 = t.place; node2 = n; opened = not t.connected; retained = false; fictitious = false }) (outlet_breaker (n, t)) =
-      ap (λ z. record { id = z; kind = Breaker; node1 = t.place; node2 = n; opened = not t.connected; retained = false; fictitious = false }) id in
       let more : with_last (part l js ds ps) (outlet_breaker (n, t)) ≡ part l js (ds ++ t ∷ []) ps = rw is (ap (λ z. record (part l js ds ps) { switches = z }) (last_breaker js (length l.buses) ds t)) in
       changed_named net new l.id (breaker_edit n t) c
-      ∙ ap (λ (z : VoltageLevel). Some z) (switch_last c.old c.made (t.terminal.equipment ++ (codes "!" ++ decimal t.terminal.side)) Breaker t.place n (not t.connected) false false c.did
-      ∙ ap (with_last c.old) one ∙ ap (λ (z : VoltageLevel). with_last z (outlet_breaker (n, t))) (old_is (breaker_edit n t) c) ∙ more)
+      ∙ ap (λ (z : VoltageLevel). Some z) (switch_last c.old c.made (breaker_id t.terminal) Breaker t.place n (not t.connected) false false c.did
+      ∙ ap (λ (z : VoltageLevel). with_last z (outlet_breaker (n, t))) (old_is (breaker_edit n t) c) ∙ more)
 
 pub joint_more : (l : BusLevelDraft) (net new : Network) (js : List Joint) (j : Joint) → level_named net l.id ≡ Some (part l js [] []) → Changed net new l.id (joint_edit j)
     → level_named new l.id ≡ Some (part l (js ++ j ∷ []) [] [])
@@ -210,7 +194,7 @@ unfolding bus_at place_among
 bus_is_at l net js ds ps bus place named plain h =
     let spot : position (same_id bus) l.buses ≡ Some place =
     sym (places_are_positions (part l js ds ps) l.buses (map outlet_placed (enumerate_from (length l.buses) ps)) bus
-    (ap (λ z. z ++ map outlet_placed (enumerate_from (length l.buses) ps)) (sym (sections_are 0 l.buses))) (plain_placed (length l.buses) ps plain))
+    refl (plain_placed (length l.buses) ps plain))
     ∙ found (bus_place (part l js ds ps) bus) (ap (λ z. or_fault NoBus (place_in z bus)) (sym named) ∙ h) in
     let is : place_among l.buses bus ≡ place = ap (λ z. unwrap_or z (length l.buses)) spot in
     record { place_is = is; below = subst (λ (z : ℕ). z < length l.buses) (sym is) (position_found (same_id bus) l.buses place spot).0 }

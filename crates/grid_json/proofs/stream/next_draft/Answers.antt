@@ -15,7 +15,7 @@ returns-clause-draft c =
     let slots = c.in_ok-slots.slots in
     let read = c.in_ok-slots.ensures.object in
     let found = read.0 in
-    let held = read.2 in
+    let held = read.2.1 in
     let one = c.in_ok-_format._format in
     let scripts = c.scripts_or_none-scripts.result in
     let format : Holds (format_at One) (codes "format") found (Some one) = rw c.in_ok-_format.was at held.format in
@@ -26,7 +26,7 @@ returns-clause-draft c =
       object found,
       read.1,
       rw (
-        held.known,
+        read.2.0,
         member_is (format_at One) (codes "format") found one format,
         member_is (network_at one) (codes "network") found c.in_ok-network.network network,
         member_or_is (listeners_at one) (codes "listeners") [] found slots.listeners listeners,

@@ -1,10 +1,11 @@
 use Rattle.std.proofs.Common.{◌≤◌, ◌-◌, length}
+use Rattle.grid_json.specs.Streams.{Among}
 use Rattle.grid_json.proofs.Streams.{MembersRead}
 use Rattle.grid_json.proofs.tokens.object_of.Given as goal
 
 abbrev pub invariant-members : goal.invariant-members
 invariant-members g l = record {
-  read : MembersRead (g.S.Slots.holds l.format l.slots) (l.depth - 1) l.initial.reader l.reader;
+  read : MembersRead (Among g.S.Slots.names (g.S.Slots.holds l.format) l.slots) (l.depth - 1) l.initial.reader l.reader;
   shorter : length l.reader ≤ length l.initial.reader;
 }
 

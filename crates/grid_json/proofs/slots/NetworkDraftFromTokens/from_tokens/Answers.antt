@@ -13,12 +13,12 @@ returns-clause-read c =
     let slots = c.in_ok-slots.slots in
     let read = c.in_ok-slots.ensures.object in
     let found = read.0 in
-    let held = read.2 in
+    let held = read.2.1 in
     let id : Holds id_at (codes "id") found (Some c.in_ok-slots-2.field-0) = rw c.in_ok-slots-2.was at held.id in (
       object found,
       read.1,
       rw (
-        held.known,
+        read.2.0,
         member_is id_at (codes "id") found c.in_ok-slots-2.field-0 id,
         member_or_is (array_at (substation_at c.args.format)) (codes "substations") [] found slots.substations held.substations,
         ← c.or_none.ensures,

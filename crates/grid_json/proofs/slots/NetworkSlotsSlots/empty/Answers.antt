@@ -1,6 +1,5 @@
-use Rattle.std.proofs.Common.{refl}
 use Rattle.grid_json.proofs.Filling.{vacant}
 use Rattle.grid_json.proofs.slots.NetworkSlotsSlots.empty.Goals as goal
 
 pub returns : goal.returns
-returns c = λ format. record { known = refl; id = vacant; substations = vacant; lines = vacant }
+returns c = λ format. record { id = vacant; substations = vacant; lines = vacant }

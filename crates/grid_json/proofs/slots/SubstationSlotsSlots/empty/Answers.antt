@@ -1,6 +1,5 @@
-use Rattle.std.proofs.Common.{refl}
 use Rattle.grid_json.proofs.Filling.{vacant}
 use Rattle.grid_json.proofs.slots.SubstationSlotsSlots.empty.Goals as goal
 
 pub returns : goal.returns
-returns c = λ format. record { known = refl; id = vacant; levels = vacant; transformers = vacant }
+returns c = λ format. record { id = vacant; levels = vacant; transformers = vacant }

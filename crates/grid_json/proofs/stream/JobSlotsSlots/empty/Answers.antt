@@ -1,6 +1,5 @@
-use Rattle.std.proofs.Common.{refl}
 use Rattle.grid_json.proofs.Filling.{vacant}
 use Rattle.grid_json.proofs.stream.JobSlotsSlots.empty.Goals as goal
 
 pub returns : goal.returns
-returns c = λ format. record { known = refl; format = vacant; network = vacant; listeners = vacant; workers = vacant; order = vacant }
+returns c = λ format. record { format = vacant; network = vacant; listeners = vacant; workers = vacant; order = vacant }

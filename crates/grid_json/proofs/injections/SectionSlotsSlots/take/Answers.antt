@@ -1,0 +1,29 @@
+use Rattle.std.proofs.Common.{refl, sym, ◌∙◌}
+use Rattle.std.specs.Prelude.{codes}
+use Rattle.grid_json.specs.Reading.{whole_at}
+use Rattle.grid_json.specs.Kept.{kept}
+use Rattle.grid_json.specs.Slots.{SectionHolds, section_names}
+use Rattle.grid_json.proofs.Filling.{offered}
+use Rattle.grid_json.proofs.injections.SectionSlotsSlots.take.Goals as goal
+
+pub returns-then-is_named : goal.returns-then-is_named
+returns-then-is_named c =
+    let name = codes "section_count" in
+    let went = c.fill in
+    offered whole_at name section_names (SectionHolds c.args.format)
+    c.args.name.now c.args.depth c.args.reader.now went.new.reader c.args.self.now _ went.new.slot went.result
+    (λ d found held now. record {
+      section_count = now;
+      max_sections = kept name d held.max_sections refl;
+    }) refl (sym c.is_named.ensures ∙ c.if-is_named.true) went.ensures
+
+pub returns-then-is_named-2 : goal.returns-then-is_named-2
+returns-then-is_named-2 c =
+    let name = codes "max_sections" in
+    let went = c.fill-then-is_named-2 in
+    offered whole_at name section_names (SectionHolds c.args.format)
+    c.args.name.now c.args.depth c.args.reader.now went.new.reader c.args.self.now _ went.new.slot went.result
+    (λ d found held now. record {
+      section_count = kept name d held.section_count refl;
+      max_sections = now;
+    }) refl (sym c.is_named-else-is_named.ensures ∙ c.if-is_named-2.true) went.ensures

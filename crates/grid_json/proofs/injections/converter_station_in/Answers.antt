@@ -1,0 +1,20 @@
+use Rattle.std.proofs.Common.{refl, rules}
+use Rattle.grid_json.specs.Network.{item_at}
+use Rattle.grid_json.proofs.Filling.{filled_is, empty_is}
+use Rattle.grid_json.proofs.injections.converter_station_in.Goals as goal
+
+pub returns : goal.returns
+unfolding item_at
+returns c = λ format found held. (
+  rw (filled_is held.target_q c.in_ok-found.was) (search rules),
+  rw (
+    empty_is held.p0 c.in_ok-absent.ensures,
+    empty_is held.q0 c.in_ok-absent-2.ensures,
+    empty_is held.target_p c.in_ok-absent-3.ensures,
+    empty_is held.target_v c.in_ok-absent-4.ensures,
+    empty_is held.min_p c.in_ok-absent-5.ensures,
+    empty_is held.max_p c.in_ok-absent-6.ensures,
+    empty_is held.section_count c.in_ok-absent-7.ensures,
+    empty_is held.max_sections c.in_ok-absent-8.ensures,
+  ) refl,
+)
