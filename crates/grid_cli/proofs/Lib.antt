@@ -6,5 +6,6 @@ pub mod Exact
 pub mod Numbering
 pub mod Trialled
 pub mod Threading
+pub mod Warnings
 pub mod Screening
 pub mod Shown

@@ -1,6 +1,6 @@
 -- The order of a job that was read: each worker as often as its script has commands, and nobody else.
 use Rattle.std.proofs.Common.{◌≡◌, refl, sym, ap, ◌∙◌, ℕ, ℤ, pos, negsuc, zero, suc, ◌+◌, ◌<◌, ◌≤◌, Bool, true, false, cond, not, List, [], ◌∷◌, length, map, get_or, subst, inl, inr, arith, Option, Some, None, Result, Ok, Err}
-use Rattle.std.specs.Prelude.{◌==◌, count_by, int_lt, nat_lt, codes, decimal, if◌then◌else◌, ⊤, All}
+use Rattle.std.specs.Prelude.{◌==◌, count_by, int_lt, nat_lt, codes, decimal, if◌then◌else◌, ⊤, All, IfOk}
 use Rattle.std.specs.List.{list_all}
 use Rattle.std.proofs.lemmas.Bool.{false≢true, and_parts, cases_lt, cases_eq, eqb-true, eq-eqb, ne_eqb, ltb-true, ltb-false}
 use Rattle.std.proofs.lemmas.Bool.Decides.{Decides-int_eq}
@@ -27,7 +27,7 @@ use Rattle.grid_json.specs.Network.{network_at}
 use Rattle.grid_json.specs.Command.{command_at}
 use Rattle.grid_json.specs.Loading.{network_load}
 use Rattle.grid_json.specs.Job.{max_workers, max_commands, command_total, few_at, counted_scripts, workers_at, listeners_at, format_at, stands_for, is_worker, counts_from, is_order, natural_of, ordered, order_at, draft_at}
-use Rattle.grid_json.specs.Whole.{loaded, whole_job_at, or_bad_job, draft_in, draft_of, job_in, job_of}
+use Rattle.grid_json.specs.Whole.{JobGives, loaded, whole_job_at, or_bad_job, draft_in, draft_of, job_in, job_of}
 use Rattle.grid_json.proofs.Results.{all_counted, bound, either_read, inside, some_read}
 use Rattle.grid_report.specs.Histories.{IsOrder, chosen_order}
 use Rattle.grid_report.proofs.Turns.{turns_are_order}
@@ -47,7 +47,7 @@ use Rattle.grid_configured.specs.Checks.{IsTranslatable}
 use Rattle.grid_configured.specs.Names.{IsConfiguredRequest}
 use Rattle.grid_configured.specs.Jobs.{IsOrdered}
 use Rattle.grid_cli.specs.Configured.{IsRunnable}
-use Rattle.grid_cli.specs.Orders.{order_of, IsScheduled}
+use Rattle.grid_cli.specs.Orders.{order_of, IsScheduled, IsCounted}
 use Rattle.grid_report.proofs.Stepping.{script_at}
 
 -- how often a worker stands
@@ -242,7 +242,7 @@ of_loaded draft job is kept =
     let scheduled_made : IsScheduled made = record { few = kept.few; ordered = kept.ordered } in
     subst IsScheduled same scheduled_made
 
-pub scheduled : (bytes : List ℕ) (job : Job) → job_of bytes ≡ Ok job → IsScheduled job
+scheduled : (bytes : List ℕ) (job : Job) → job_of bytes ≡ Ok job → IsScheduled job
 unfolding job_of draft_of
 scheduled bytes job is =
     let a = of_draft (draft_in (reading bytes)) job is in
@@ -287,7 +287,7 @@ hvdc_of_data : (data_read : Option Data) (hvdc : HvdcJob) → hvdc_job_in data_r
 hvdc_of_data None hvdc is = cc
 hvdc_of_data (Some d) hvdc is = hvdc_read d hvdc (no_fault (hvdc_at d) hvdc is)
 
-pub hvdc_scheduled : (bytes : List ℕ) (hvdc : HvdcJob) → hvdc_job_of bytes ≡ Ok hvdc → IsScheduled hvdc.job
+hvdc_scheduled : (bytes : List ℕ) (hvdc : HvdcJob) → hvdc_job_of bytes ≡ Ok hvdc → IsScheduled hvdc.job
 unfolding hvdc_job_of
 hvdc_scheduled bytes hvdc is = hvdc_of_data (reading bytes) hvdc is
 
@@ -371,7 +371,7 @@ screen_of_data : (data_read : Option Data) (screened : ScreenJob) → screen_job
 screen_of_data None screened is = cc
 screen_of_data (Some d) screened is = screen_read d screened (no_fault (screen_at d) screened is)
 
-pub screen_scheduled : (bytes : List ℕ) (screened : ScreenJob) → screen_job_of bytes ≡ Ok screened → IsScheduled screened.job
+screen_scheduled : (bytes : List ℕ) (screened : ScreenJob) → screen_job_of bytes ≡ Ok screened → IsScheduled screened.job
 unfolding screen_job_of
 screen_scheduled bytes screened is = screen_of_data (reading bytes) screened is
 
@@ -382,5 +382,26 @@ unfolding chosen_order
 given_or_turns scripts None is = turns_are_order scripts
 given_or_turns scripts (Some order) is = subst (IsOrder scripts) (sym is.2) (given_orders scripts is.0 is.1)
 
-pub runnable : (job : ConfiguredJob) → IsTranslatable job.network → All (All IsConfiguredRequest) job.scripts → length job.scripts ≤ max_workers → IsOrdered job.scripts job.order → IsRunnable job
+runnable : (job : ConfiguredJob) → IsTranslatable job.network → All (All IsConfiguredRequest) job.scripts → length job.scripts ≤ max_workers → IsOrdered job.scripts job.order → IsRunnable job
 runnable job network plain few order = record { network = network; plain = plain; few = few; ordered = given_or_turns job.scripts job.order order }
+
+-- ---- what is known of a job that was read
+
+known_of : {J : Type 0} (of : List ℕ → Result J JobFault) (P : J → Type 0) (bytes : List ℕ) (read : Result J JobFault) → ((job : J) → of bytes ≡ Ok job → P job) → JobGives read (of bytes) → IfOk read P
+known_of of P bytes (Ok job) all gives = all job gives
+known_of of P bytes (Err fault) all gives = tt
+
+pub job_counted : (bytes : List ℕ) (read : Result Job JobFault) → JobGives read (job_of bytes) → IfOk read (λ job. command_total job.scripts ≤ max_commands) → IfOk read IsCounted
+job_counted bytes (Ok job) gives few = record { scheduled = scheduled bytes job gives; few = few }
+job_counted bytes (Err fault) gives few = tt
+
+pub hvdc_known_scheduled : (bytes : List ℕ) (read : Result HvdcJob JobFault) → JobGives read (hvdc_job_of bytes) → IfOk read (λ hvdc. IsScheduled hvdc.job)
+hvdc_known_scheduled bytes read gives = known_of hvdc_job_of (λ hvdc. IsScheduled hvdc.job) bytes read (hvdc_scheduled bytes) gives
+
+pub screen_known_scheduled : (bytes : List ℕ) (read : Result ScreenJob JobFault) → JobGives read (screen_job_of bytes) → IfOk read (λ screened. IsScheduled screened.job)
+screen_known_scheduled bytes read gives = known_of screen_job_of (λ screened. IsScheduled screened.job) bytes read (screen_scheduled bytes) gives
+
+pub configured_runnable : (read : Result ConfiguredJob JobFault) → IfOk read (λ job. IsTranslatable job.network) → IfOk read (λ job. All (All IsConfiguredRequest) job.scripts) → IfOk read (λ job. length job.scripts ≤ max_workers)
+    → IfOk read (λ job. IsOrdered job.scripts job.order) → IfOk read IsRunnable
+configured_runnable (Ok job) network plain few order = runnable job network plain few order
+configured_runnable (Err fault) network plain few order = tt

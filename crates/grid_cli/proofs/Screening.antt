@@ -1,6 +1,6 @@
 -- The initial variant is always live, what is told of a list of contingencies, and of the parts in which it is written.
-use Rattle.std.proofs.Common.{◌≡◌, refl, sym, ap, ◌∙◌, subst, ℕ, zero, suc, ◌+◌, ◌<◌, Bool, true, false, cond, List, [], ◌∷◌, ◌++◌, map, length, get_or, take, Some, None, Option, arith, append_assoc, append-nil, length-append}
-use Rattle.std.specs.Prelude.{not, ◌&&◌, ◌||◌, filter, codes}
+use Rattle.std.proofs.Common.{◌≡◌, refl, sym, ap, ◌∙◌, ℕ, suc, ◌+◌, ◌<◌, Bool, true, false, cond, List, [], ◌∷◌, ◌++◌, map, length, get_or, Some, None, Option, arith, append_assoc, append-nil, length-append}
+use Rattle.std.specs.Prelude.{not, ◌&&◌, ◌||◌, filter}
 use Rattle.std.specs.List.{list_any, flat_map, enumerate_from}
 use Rattle.std.proofs.lemmas.Bool.{and_parts, false≢true, true≢false}
 use Rattle.std.proofs.lemmas.List.{get_or-map, map-append}
@@ -9,7 +9,6 @@ use Rattle.std.proofs.lemmas.List.Elements.{filter-append}
 use Rattle.std.proofs.lemmas.List.Filters.{length-filter_both}
 use Rattle.std.proofs.lemmas.Slice.Eq.{bytes_eq-Decides}
 use Rattle.grid_lemmas.proofs.Bools.{or_right}
-use Rattle.serde_json.specs.Data.{Data}
 use Rattle.grid_source.specs.Whole.{IsBegun}
 use Rattle.grid_ids.specs.Name.{same_id, has_id, id_below}
 use Rattle.grid_slots.specs.Names.{initial_state, with_name, without_name, may_clone, may_remove}
@@ -24,7 +23,7 @@ use Rattle.grid_core.specs.Replies.{state_of}
 use Rattle.grid_core.specs.Solo.{State}
 use Rattle.grid_json.specs.declared.format.Format.{Format}
 use Rattle.grid_print.specs.Job.{line_of}
-use Rattle.grid_jsonl.specs.Steps.{state_value, state_line, warning_text}
+use Rattle.grid_jsonl.specs.Steps.{state_value, state_line}
 use Rattle.grid_jsonl.specs.Outcomes.{lines}
 use Rattle.grid_contingencies.specs.declared.Contingency.{Contingency}
 use Rattle.grid_contingencies.specs.declared.ScreenJob.{ScreenJob}
@@ -38,9 +37,7 @@ use Rattle.grid_screen.specs.Bodies.{body_text, left_out, is_told, told_line}
 use Rattle.grid_forms.specs.declared.words.Layout.{Layout}
 use Rattle.grid_forms.specs.declared.words.Layout.TheVariants as layouts
 use Rattle.grid_report.specs.Histories.{history_of}
-use Rattle.grid_json.specs.declared.whole.Job.{Job}
 use Rattle.grid_cli.specs.Orders.{order_of}
-use Rattle.grid_cli.specs.Warnings.{replay_warning, warning_after}
 use Rattle.grid_cli.specs.Layouts.{in_layout}
 use Rattle.grid_cli.specs.Findings.{absent_object, absent_text, case_state, end_object, end_text, found_object, is_told_at, left_count, list_in, list_objects, list_text, listed_in, part_lines, part_text, tells, told_count}
 use Rattle.grid_cli.specs.declared.findings.Part.{Part}
@@ -299,11 +296,6 @@ listed_for layout screen world journal name case list made told named some lists
     ap (λ j. listed_in layout screen.format screen.only (case_state case) j list) told
     ∙ answered layout world screen (case_state case) list (seen world (variant_of screen) case (ap (case_of world.origin world.steps) (sym named) ∙ some)) lists
     ∙ ap (λ h. screened_in layout h screen) made
-
--- the warning of its refused commands
-pub warned : (job : Job) (world : History) (journal : List Entry) (old new : List ℕ) → new ≡ old ++ warning_text journal → old ≡ [] → journal ≡ journal_of world.origin world.steps
-    → world ≡ history_of job.network job.scripts (order_of job) → new ≡ replay_warning job
-warned job world journal old new put silent told made = put ∙ ap (λ t. t ++ warning_text journal) silent ∙ ap warning_text told ∙ ap warning_after made
 
 -- ---- what was written
 

@@ -1,6 +1,7 @@
 -- What is written of a job that ran on threads: the report of an order of its steps.
-use Rattle.std.proofs.Common.{◌≡◌, refl, sym, ap, ◌∙◌, ℕ, List, [], length, Option, Some, None, Result, false}
+use Rattle.std.proofs.Common.{◌≡◌, refl, sym, ap, ◌∙◌, ℕ, List, [], length, Option, Some, None, Result, Ok, Err, false}
 use Rattle.std.specs.Prelude.{slice_get, unwrap_or, OnOk, OnErr}
+use Rattle.std.specs.Result.{IsErr}
 use Rattle.std.specs.Io.KnownBytes.{Appends}
 use Rattle.std.proofs.lemmas.List.{length-reverse}
 use Rattle.grid_source.specs.Whole.{IsBegun}
@@ -15,12 +16,10 @@ use Rattle.grid_report.proofs.Begun.{at_start}
 use Rattle.grid_report.proofs.Ordered.{counted, steps_told}
 use Rattle.grid_workers.specs.Runs.{IsRun}
 use Rattle.grid_forms.specs.declared.words.Layout.{Layout}
-use Rattle.grid_forms.specs.declared.status.Status.TheVariants as statuses
 use Rattle.grid_cli.specs.Layouts.{outcome_text}
-use Rattle.grid_cli.specs.Orders.{IsScheduled, order_of, replay_text}
-use Rattle.grid_cli.specs.Once.{WritesReport, status_after}
+use Rattle.grid_cli.specs.Orders.{IsReport, IsScheduled, order_of, replay_text}
+use Rattle.grid_cli.specs.Once.{HandsOver}
 use Rattle.grid_cli.specs.Threaded.{IsOutcomeOf}
-use Rattle.grid_cli.proofs.Written.{handed}
 
 -- ---- the order of a run that is not short
 
@@ -51,10 +50,11 @@ came_of_run job history came run is =
 -- ---- what was written
 
 -- where nothing was written yet
-pub unwritten : (layout : Layout) (job : Job) (old : Option (List ℕ)) → IsScheduled job → WritesReport layout job old old statuses.NoMemory
+pub unwritten : (written : Result (Unit {0}) ReportFault) (layout : Layout) (job : Job) (old : Option (List ℕ)) → IsScheduled job → IsErr written → HandsOver (IsReport layout job) old old written
 unfolding replay_text
-unwritten layout job old scheduled = (replay_text layout job, (order_of job, scheduled.ordered, refl), at_start old (replay_text layout job))
+unwritten (Ok done) layout job old scheduled fails = absurd cc
+unwritten (Err fault) layout job old scheduled fails = record { text = replay_text layout job; is = (order_of job, scheduled.ordered, refl); whole = tt; begun = at_start old (replay_text layout job) }
 
-pub reported : (layout : Layout) (job : Job) (came : Outcome) (wrote : Result (Unit {0}) ReportFault) (old new : Option (List ℕ)) → IsOutcomeOf job came → OnOk wrote (Appends old new (outcome_text layout came)) → OnErr wrote (IsBegun old (outcome_text layout came) new)
-    → WritesReport layout job old new (status_after wrote)
-reported layout job came wrote old new is ok err = (outcome_text layout came, (is.0, is.1, ap (outcome_text layout) is.2), handed wrote (outcome_text layout came) old new ok err)
+pub reported : (layout : Layout) (job : Job) (came : Outcome) (written : Result (Unit {0}) ReportFault) (old new : Option (List ℕ)) → IsOutcomeOf job came → OnOk written (Appends old new (outcome_text layout came))
+    → OnErr written (IsBegun old (outcome_text layout came) new) → HandsOver (IsReport layout job) old new written
+reported layout job came written old new is ok err = record { text = outcome_text layout came; is = (is.0, is.1, ap (outcome_text layout) is.2); whole = ok; begun = err }

@@ -1,5 +1,5 @@
 -- What is told of a list of contingencies on a state, and the parts in which it is written.
-use Rattle.std.specs.Prelude.{◌≡◌, ℕ, Bool, true, not, List, [], ◌∷◌, ◌++◌, length, map, filter, codes, decimal}
+use Rattle.std.specs.Prelude.{ℕ, Bool, true, not, List, [], ◌∷◌, ◌++◌, length, map, filter, codes, decimal}
 use Rattle.std.specs.List.{flat_map, enumerate_from}
 use Rattle.serde_json.specs.Data.{Data, string}
 use Rattle.grid_core.specs.declared.journal.Entry.{Entry}

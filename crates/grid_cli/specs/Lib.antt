@@ -7,6 +7,7 @@ pub mod Hvdc
 pub mod Findings
 pub mod Screen
 pub mod Configured
+pub mod Services
 pub mod Once
 pub mod Warnings
 pub mod Threaded

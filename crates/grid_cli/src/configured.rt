@@ -1,5 +1,5 @@
 // The form `configured`: jobs of networks with configured buses.
-ghost use Rattle.std.specs.Prelude.{◌≡◌, ◌≢◌, ◌≤◌, Err, IfOk, IfErr, OnOk, OnErr, All, length};
+ghost use Rattle.std.specs.Prelude.{◌≡◌, ◌≢◌, ◌≤◌, Err, IfOk, OnOk, OnErr, All, length};
 ghost use Rattle.std.specs.Io.KnownBytes.{Appends};
 ghost use Rattle.grid_source.specs.Causes.{Rose};
 ghost use Rattle.grid_source.specs.Whole.{IsBegun};
@@ -9,22 +9,20 @@ ghost use Rattle.grid_report.specs.Histories.{IsOrder};
 ghost use Rattle.grid_configured.specs.Checks.{IsTranslatable};
 ghost use Rattle.grid_configured.specs.Names.{IsConfiguredRequest};
 ghost use Rattle.grid_configured.specs.Reports.{history_of, report_after};
-ghost use Rattle.grid_forms.specs.declared.words.Form.{Form};
-ghost use Rattle.grid_cli.specs.Configured.{IsRunnable, configured_in, configured_job_text};
-ghost use Rattle.grid_cli.specs.Once.{OutcomeOf, Writes, ReadsConfigured, ReadsNone, ReadsWhole, TellsOf, configured_fault};
+ghost use Rattle.grid_cli.specs.Configured.{configured_in};
 
-use crate::once::{read_input, status_for, status_of};
 use crate::running::chosen_order;
+use crate::serving::JobForm;
 use grid_configured::{
-    ConfiguredJob, ConfiguredNetwork, ConfiguredOutcome, read_configured, run_configured,
-    write_configured, write_configured_lines,
+    ConfiguredJob, ConfiguredNetwork, ConfiguredOutcome, run_configured, write_configured,
+    write_configured_lines,
 };
 use grid_core::Script;
-use grid_forms::{Layout, Status};
+use grid_forms::Layout;
 use grid_ids::Memory;
 use grid_json::Order;
-use grid_report::ReportFault;
-use grid_source::{Input, Sink, Source};
+use grid_report::{ReportFault, Text};
+use grid_source::Sink;
 use std::alloc::Global;
 
 /// What comes of scripts on a network, in the order that is given or else the workers in turn.
@@ -68,78 +66,37 @@ fn write_outcome<K: Sink>(
     }
 }
 
-/// Runs a job in its order, and writes what came of it.
-#[tactic(auto, using(grid_report::proofs::Begun::at_start, crate::proofs::Written::handed, crate::proofs::Written::calm))]
-fn write_report_of<K: Sink>(
-    alloc: Global,
-    layout: Layout,
-    job: ConfiguredJob,
-    sink: &mut K,
-) -> Status
-    requires { IsRunnable job }
-    ensures written { Writes (configured_job_text layout job) (K.written sink.old)
-        (K.written sink.new) result }
-    ensures fault { result ≡ Status.WriteFault → Rose (K.faults sink.old) (K.faults sink.new) }
-    ensures stays { result ≢ Status.WriteFault → K.faults sink.new ≡ K.faults sink.old }
-{
-    let ConfiguredJob {
-        network,
-        scripts,
-        order,
-    } = job;
-    match run_in_order(alloc, network, scripts.slice(), order) {
-        Ok(outcome) => status_of(write_outcome(alloc, layout, &outcome, sink)),
-        Err(Memory) => Status::NoMemory,
-    }
+/// The form `configured`.
+#[derive(Clone, Copy)]
+pub(crate) struct Configured {
+    pub(crate) layout: Layout,
 }
 
-/// The job of the input's bytes, or why there is none.
-#[tactic(auto, using(crate::proofs::Written::partly, crate::proofs::Written::faulty, crate::proofs::Written::part_silent))]
-fn read_configured_from<S: Source>(
-    alloc: Global,
-    input: &mut Input<S>,
-) -> Result<ConfiguredJob, Status>
-    ensures job { IfOk result (ReadsConfigured (S.left input.old.source)
-        (S.left input.new.source)) }
-    ensures runnable { IfOk result IsRunnable }
-    ensures none { IfErr result (ReadsNone configured_fault (S.left input.old.source)
-        (S.left input.new.source)) }
-    ensures kept { IfErr result (λ status. TellsOf status → ReadsWhole (S.left input.old.source)
-        (S.left input.new.source) input.new.bytes) }
-    ensures fault { result ≡ Err Status.ReadFault
-        → Rose (S.faults input.old.source) (S.faults input.new.source) }
-    ensures stays { result ≢ Err Status.ReadFault
-        → S.faults input.new.source ≡ S.faults input.old.source }
-{
-    read_input(input)?;
-    match read_configured(alloc, input.bytes()) {
-        Ok(job) => Ok(job),
-        Err(fault) => Err(status_for(fault)),
-    }
-}
+impl JobForm for Configured {
+    ghost use Rattle.std.specs.Prelude.{◌≡◌};
+    ghost use Rattle.grid_cli.specs.Configured.{configured_job_text};
+    ghost use Rattle.grid_cli.specs.Services.{no_warning};
 
-/// Reads a job of a network with configured buses, and writes what came of it.
-#[tactic(auto, using(crate::proofs::Written::configured, crate::proofs::Written::unread, crate::proofs::Written::write_silent))]
-pub(crate) fn read_and_configure<S: Source, K: Sink>(
-    alloc: Global,
-    layout: Layout,
-    input: &mut Input<S>,
-    sink: &mut K,
-) -> Status
-    ensures outcome { OutcomeOf (Form.Configured layout) (S.left input.old.source)
-        (S.left input.new.source) (K.written sink.old) (K.written sink.new) result }
-    ensures kept { TellsOf result → ReadsWhole (S.left input.old.source) (S.left input.new.source)
-        input.new.bytes }
-    ensures read_fault { result ≡ Status.ReadFault
-        → Rose (S.faults input.old.source) (S.faults input.new.source) }
-    ensures reads_stay { result ≢ Status.ReadFault
-        → S.faults input.new.source ≡ S.faults input.old.source }
-    ensures write_fault { result ≡ Status.WriteFault
-        → Rose (K.faults sink.old) (K.faults sink.new) }
-    ensures writes_stay { result ≢ Status.WriteFault → K.faults sink.new ≡ K.faults sink.old }
-{
-    match read_configured_from(alloc, input) {
-        Ok(job) => write_report_of(alloc, layout, job, sink),
-        Err(status) => status,
+    type Job = ConfiguredJob;
+
+    ghost IsText = { λ form job text. text ≡ configured_job_text form.layout job };
+
+    ghost warning_of = { λ form. no_warning };
+
+    /// Runs the job in its order, and writes what came of it.
+    fn write<K: Sink>(
+        &self,
+        alloc: Global,
+        job: ConfiguredJob,
+        sink: &mut K,
+        _warning: &mut Text,
+    ) -> Result<(), ReportFault> {
+        let ConfiguredJob {
+            network,
+            scripts,
+            order,
+        } = job;
+        let outcome = run_in_order(alloc, network, scripts.slice(), order)?;
+        write_outcome(alloc, self.layout, &outcome, sink)
     }
 }

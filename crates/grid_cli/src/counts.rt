@@ -1,4 +1,4 @@
-// What a job has, counted.
+// The form `check`: what a job has, counted.
 ghost use Rattle.std.specs.Prelude.{◌≡◌, ◌≢◌, ◌≤◌, ◌++◌, OnOk, OnErr, Err, decimal, []};
 ghost use Rattle.std.specs.Io.KnownBytes.{Appends};
 ghost use Rattle.grid_source.specs.Causes.{Rose};
@@ -6,6 +6,7 @@ ghost use Rattle.grid_source.specs.Whole.{IsBegun};
 ghost use Rattle.grid_json.specs.Job.{command_total};
 ghost use Rattle.grid_cli.specs.Counts.{counts_of, check_text};
 
+use crate::serving::JobForm;
 use grid_core::Script;
 use grid_ids::Memory;
 use grid_json::Job;
@@ -72,18 +73,29 @@ fn counts_of(job: &Job) -> Counts
     }
 }
 
-/// Writes the line of a job's counts.
-#[tactic(auto, unfolding(crate::specs::Counts::check_text))]
-pub fn write_counts<K: Sink>(alloc: Global, job: &Job, sink: &mut K) -> Result<(), ReportFault>
-    requires { command_total job.now.scripts ≤ 20000 }
-    ensures ok { OnOk result (Appends (K.written sink.old) (K.written sink.new)
-        (check_text job.now)) }
-    ensures err { OnErr result (IsBegun (K.written sink.old) (check_text job.now)
-        (K.written sink.new)) }
-    ensures later { K.faults sink.old ≤ K.faults sink.new }
-    ensures cause { result ≡ Err ReportFault.Stopped
-        → Rose (K.faults sink.old) (K.faults sink.new) }
-    ensures stays { result ≢ Err ReportFault.Stopped → K.faults sink.new ≡ K.faults sink.old }
-{
-    write_blocks(alloc, &[counts_of(job)], sink)
+/// The form `check`.
+#[derive(Clone, Copy)]
+pub(crate) struct Check;
+
+impl JobForm for Check {
+    ghost use Rattle.std.specs.Prelude.{◌≡◌};
+    ghost use Rattle.grid_cli.specs.Counts.{check_text};
+    ghost use Rattle.grid_cli.specs.Services.{no_warning};
+
+    type Job = Job;
+
+    ghost IsText = { λ form job text. text ≡ check_text job };
+
+    ghost warning_of = { λ form. no_warning };
+
+    #[tactic(auto, unfolding(crate::specs::Counts::check_text), using(crate::proofs::Written::exactly))]
+    fn write<K: Sink>(
+        &self,
+        alloc: Global,
+        job: Job,
+        sink: &mut K,
+        _warning: &mut Text,
+    ) -> Result<(), ReportFault> {
+        write_blocks(alloc, &[counts_of(&job)], sink)
+    }
 }

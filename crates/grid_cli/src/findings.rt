@@ -8,10 +8,11 @@ ghost use Rattle.grid_source.specs.Whole.{IsBegun};
 ghost use Rattle.grid_print.specs.Job.{line_of};
 ghost use Rattle.grid_jsonl.specs.Trees.{more_text};
 ghost use Rattle.grid_jsonl.specs.Outcomes.{lines};
-ghost use Rattle.grid_screen.specs.Findings.{CaseFits};
 ghost use Rattle.grid_screen.specs.Found.{AreFindings, finding_of};
 ghost use Rattle.grid_cli.specs.Layouts.{in_layout};
-ghost use Rattle.grid_cli.specs.Findings.{IsLook, absent_object, absent_text, case_state, end_object, end_text, list_objects, list_text, part_lines, part_text, tells, told_count, told_of, left_fields, listed_in};
+ghost use Rattle.grid_cli.specs.Findings.{IsLook, absent_object, absent_text, case_state, end_object, end_text};
+ghost use Rattle.grid_cli.specs.Findings.{list_objects, list_text, part_lines, part_text, tells, told_count, told_of};
+ghost use Rattle.grid_cli.specs.Findings.{left_fields, listed_in};
 
 use crate::layout::write_parts;
 use grid_contingencies::{Contingency, Told};
@@ -33,19 +34,27 @@ const PIECE: usize = 1_024;
 
 /// The figures of a case, and how what is found on it is told.
 #[derive(Clone, Copy)]
-struct Look {
-    before: Figures,
-    layout: Layout,
-    format: Format,
-    only: Told,
-}
-
-/// How what is found on a case is told.
-#[derive(Clone, Copy)]
-pub(crate) struct Manner {
+pub(crate) struct Look {
+    pub(crate) before: Figures,
     pub(crate) layout: Layout,
     pub(crate) format: Format,
     pub(crate) only: Told,
+}
+
+/// A case as it is looked at.
+#[derive(Clone, Copy)]
+struct Sight<'a> {
+    case: &'a Case,
+    look: Look,
+}
+
+/// A case as several threads look at it.
+#[derive(Drop)]
+pub(crate) struct Screening<'a, R> {
+    pub(crate) threads: &'a R,
+    pub(crate) alloc: Global,
+    pub(crate) case: &'a ScreenedCase<'a>,
+    pub(crate) look: Look,
 }
 
 /// A part of what is written.
@@ -165,60 +174,57 @@ fn is_told(only: Told, before: &Figures, finding: &Finding) -> bool
 
 /// Puts what is found of a contingency last, where it is told.
 fn push_told<'a>(
-    case: &'a Case,
-    look: &Look,
+    sight: &Sight<'a>,
     parts: &mut Vec<Part<'a>>,
     place: u64,
     contingency: &'a Contingency,
     finding: &'a Finding,
 ) -> Result<(), Memory>
-    requires look { IsLook case.now look.now }
-    requires found { finding.now ≡ finding_of (case_state case.now) contingency.now }
+    requires look { IsLook sight.now.case.now sight.now.look }
+    requires found { finding.now ≡ finding_of (case_state sight.now.case.now) contingency.now }
     ensures text { OnOk result (flat_map part_text parts.new.items
-        ≡ flat_map part_text parts.old.items ++ list_text look.now.format look.now.only
-        (case_state case.now) (contingency.now ∷ [])) }
+        ≡ flat_map part_text parts.old.items ++ list_text sight.now.look.format sight.now.look.only
+        (case_state sight.now.case.now) (contingency.now ∷ [])) }
     ensures lines { OnOk result (flat_map part_lines parts.new.items
-        ≡ flat_map part_lines parts.old.items ++ lines (list_objects look.now.format
-        look.now.only (case_state case.now) place (contingency.now ∷ []))) }
+        ≡ flat_map part_lines parts.old.items ++ lines (list_objects sight.now.look.format
+        sight.now.look.only (case_state sight.now.case.now) place (contingency.now ∷ []))) }
     ensures count { OnOk result (length parts.new.items ≡ length parts.old.items
-        + told_count look.now.only (case_state case.now) (contingency.now ∷ [])) }
+        + told_count sight.now.look.only (case_state sight.now.case.now) (contingency.now ∷ [])) }
 {
-    if !is_told(look.only, &look.before, finding) {
+    if !is_told(sight.look.only, &sight.look.before, finding) {
         return Ok(());
     }
     let telling = Telling {
-        format: look.format,
-        structure: &case.structure,
+        format: sight.look.format,
+        structure: &sight.case.structure,
     };
     parts.push(Part::Found(telling, place, &contingency.name, finding))?;
     Ok(())
 }
 
 /// The contingencies of a piece that are told, with what is found of each. The piece begins at a place among all.
-#[tactic(auto, unfolding(crate::specs::Findings::list_text, crate::specs::Findings::list_objects, crate::specs::Findings::told_count))]
 fn parts_of<'a>(
     alloc: Global,
-    case: &'a Case,
-    look: &Look,
+    sight: &Sight<'a>,
     first: u64,
     piece: &'a [Contingency],
     findings: &'a [Finding],
 ) -> Result<Vec<Part<'a>>, Memory>
-    requires look { IsLook case.now look.now }
+    requires look { IsLook sight.now.case.now sight.now.look }
     requires few { first + length piece.now < 2 ^ 64 }
-    requires found { AreFindings case.now piece.now findings.now }
+    requires found { AreFindings sight.now.case.now piece.now findings.now }
     ensures text { IfOk result (λ parts. flat_map part_text parts.items
-        ≡ list_text look.now.format look.now.only (case_state case.now) piece.now) }
+        ≡ list_text sight.now.look.format sight.now.look.only (case_state sight.now.case.now) piece.now) }
     ensures lines { IfOk result (λ parts. flat_map part_lines parts.items
-        ≡ lines (list_objects look.now.format look.now.only (case_state case.now)
+        ≡ lines (list_objects sight.now.look.format sight.now.look.only (case_state sight.now.case.now)
         first piece.now)) }
     ensures count { IfOk result (λ parts. length parts.items
-        ≡ told_count look.now.only (case_state case.now) piece.now) }
+        ≡ told_count sight.now.look.only (case_state sight.now.case.now) piece.now) }
 {
     let mut parts = Vec::new(alloc);
     let mut place = first;
     for (contingency, finding) in piece.iter().zip(findings) {
-        push_told(case, look, &mut parts, place, contingency, finding)?;
+        push_told(sight, &mut parts, place, contingency, finding)?;
         place += 1;
     }
     Ok(parts)
@@ -227,49 +233,50 @@ fn parts_of<'a>(
 /// Writes what is told of a piece, which begins at a place among all, and answers how many lines it has.
 #[tactic(auto, using(grid_report::proofs::Begun::at_start))]
 fn write_piece<R: Threads + Sync, K: Sink>(
-    rt: &R,
-    alloc: Global,
-    case: &ScreenedCase<'_>,
-    look: &Look,
+    screening: &Screening<'_, R>,
     first: u64,
     piece: &[Contingency],
     sink: &mut K,
 ) -> Result<u64, ReportFault>
-    requires look { IsLook case.now look.now }
+    requires look { IsLook screening.now.case.now screening.now.look }
     requires few { first + length piece.now < 2 ^ 64 }
     ensures ok { OnOk result (Appends (K.written sink.old) (K.written sink.new)
-        (told_of case.now look.now first piece.now)) }
+        (told_of screening.now.case.now screening.now.look first piece.now)) }
     ensures count { IfOk result (λ told. told
-        ≡ told_count look.now.only (case_state case.now) piece.now) }
-    ensures err { OnErr result (IsBegun (K.written sink.old) (told_of case.now look.now first piece.now)
-        (K.written sink.new)) }
+        ≡ told_count screening.now.look.only (case_state screening.now.case.now) piece.now) }
+    ensures err { OnErr result (IsBegun (K.written sink.old)
+        (told_of screening.now.case.now screening.now.look first piece.now) (K.written sink.new)) }
     ensures cause { result ≡ Err ReportFault.Stopped
         → Rose (K.faults sink.old) (K.faults sink.new) }
     ensures stays { result ≢ Err ReportFault.Stopped → K.faults sink.new ≡ K.faults sink.old }
 {
-    let findings = screen(rt, alloc, case, piece)?;
+    let Screening {
+        threads,
+        alloc,
+        case,
+        look,
+    } = *screening;
+    let findings = screen(threads, alloc, case, piece)?;
     let whole = case.case();
-    let parts = parts_of(alloc, whole, look, first, piece, findings.slice())?;
+    let sight = Sight { case: whole, look };
+    let parts = parts_of(alloc, &sight, first, piece, findings.slice())?;
     write_parts(alloc, look.layout, parts.as_slice(), sink)?;
     Ok(parts.len() as u64)
 }
 
 /// Writes what is told of a list of contingencies, and answers how many lines it has.
 fn write_list<R: Threads + Sync, K: Sink>(
-    rt: &R,
-    alloc: Global,
-    case: &ScreenedCase<'_>,
-    look: &Look,
+    screening: &Screening<'_, R>,
     list: &[Contingency],
     sink: &mut K,
 ) -> Result<u64, ReportFault>
-    requires { IsLook case.now look.now }
+    requires { IsLook screening.now.case.now screening.now.look }
     ensures ok { OnOk result (Appends (K.written sink.old) (K.written sink.new)
-        (told_of case.now look.now 0 list.now)) }
+        (told_of screening.now.case.now screening.now.look 0 list.now)) }
     ensures count { IfOk result (λ told. told
-        ≡ told_count look.now.only (case_state case.now) list.now) }
-    ensures err { OnErr result (IsBegun (K.written sink.old) (told_of case.now look.now 0 list.now)
-        (K.written sink.new)) }
+        ≡ told_count screening.now.look.only (case_state screening.now.case.now) list.now) }
+    ensures err { OnErr result (IsBegun (K.written sink.old)
+        (told_of screening.now.case.now screening.now.look 0 list.now) (K.written sink.new)) }
     ensures cause { result ≡ Err ReportFault.Stopped
         → Rose (K.faults sink.old) (K.faults sink.new) }
     ensures stays { result ≢ Err ReportFault.Stopped → K.faults sink.new ≡ K.faults sink.old }
@@ -277,7 +284,7 @@ fn write_list<R: Threads + Sync, K: Sink>(
     let mut first = 0u64;
     let mut told = 0u64;
     for piece in list.chunks(PIECE) {
-        told += write_piece(rt, alloc, case, look, first, piece, sink)?;
+        told += write_piece(screening, first, piece, sink)?;
         first += piece.len() as u64;
     }
     Ok(told)
@@ -302,28 +309,27 @@ pub(crate) fn write_part<K: Sink>(
 }
 
 /// Writes what is told of the steps and of a list of contingencies, and the last line.
-fn write_findings<R: Threads + Sync, K: Sink>(
-    rt: &R,
-    alloc: Global,
-    case: &ScreenedCase<'_>,
-    look: &Look,
+pub(crate) fn write_findings<R: Threads + Sync, K: Sink>(
+    screening: &Screening<'_, R>,
     journal: &[Entry],
     list: &[Contingency],
     sink: &mut K,
 ) -> Result<(), ReportFault>
-    requires { IsLook case.now look.now }
+    requires { IsLook screening.now.case.now screening.now.look }
     ensures ok { OnOk result (Appends (K.written sink.old) (K.written sink.new)
-        (listed_in look.now.layout look.now.format look.now.only (case_state case.now)
-        journal.now list.now)) }
+        (listed_in screening.now.look.layout screening.now.look.format screening.now.look.only
+        (case_state screening.now.case.now) journal.now list.now)) }
     ensures err { OnErr result (IsBegun (K.written sink.old)
-        (listed_in look.now.layout look.now.format look.now.only (case_state case.now)
-        journal.now list.now) (K.written sink.new)) }
+        (listed_in screening.now.look.layout screening.now.look.format screening.now.look.only
+        (case_state screening.now.case.now) journal.now list.now) (K.written sink.new)) }
     ensures cause { result ≡ Err ReportFault.Stopped
         → Rose (K.faults sink.old) (K.faults sink.new) }
     ensures stays { result ≢ Err ReportFault.Stopped → K.faults sink.new ≡ K.faults sink.old }
 {
+    let look = screening.look;
+    let alloc = screening.alloc;
     write_part(alloc, look.layout, Part::Steps(journal), sink)?;
-    let told = write_list(rt, alloc, case, look, list, sink)?;
+    let told = write_list(screening, list, sink)?;
     let left_out = list.len() as u64 - told;
     write_part(
         alloc,
@@ -331,35 +337,4 @@ fn write_findings<R: Threads + Sync, K: Sink>(
         Part::End(look.only, told, left_out),
         sink,
     )
-}
-
-/// Screens a list of contingencies on a case, and writes what is told of the steps and of the list, and the last line.
-#[tactic(auto, using(grid_report::proofs::Begun::at_start))]
-pub(crate) fn screen_case<R: Threads + Sync, K: Sink>(
-    rt: &R,
-    alloc: Global,
-    case: &Case,
-    manner: Manner,
-    journal: &[Entry],
-    list: &[Contingency],
-    sink: &mut K,
-) -> Result<(), ReportFault>
-    requires { CaseFits case.now }
-    ensures ok { OnOk result (Appends (K.written sink.old) (K.written sink.new)
-        (listed_in manner.layout manner.format manner.only (case_state case.now) journal.now list.now)) }
-    ensures err { OnErr result (IsBegun (K.written sink.old)
-        (listed_in manner.layout manner.format manner.only (case_state case.now) journal.now list.now)
-        (K.written sink.new)) }
-    ensures cause { result ≡ Err ReportFault.Stopped
-        → Rose (K.faults sink.old) (K.faults sink.new) }
-    ensures stays { result ≢ Err ReportFault.Stopped → K.faults sink.new ≡ K.faults sink.old }
-{
-    let kept = ScreenedCase::of(alloc, case)?;
-    let look = Look {
-        before: kept.figures(),
-        layout: manner.layout,
-        format: manner.format,
-        only: manner.only,
-    };
-    write_findings(rt, alloc, &kept, &look, journal, list, sink)
 }

@@ -1,6 +1,6 @@
 // The form `hvdc`: the components of each live variant's buses, over the branches alone and over HVDC lines too. Each
 // variant is read where it stands in the world, and no case of it is copied.
-ghost use Rattle.std.specs.Prelude.{◌≡◌, ◌≢◌, ◌≤◌, ◌++◌, [], ℕ, Err, IfOk, IfErr, OnOk, OnErr, take, codes, length, sum_by};
+ghost use Rattle.std.specs.Prelude.{◌≡◌, ◌≢◌, ◌≤◌, ◌++◌, [], Err, IfOk, OnOk, OnErr, sum_by};
 ghost use Rattle.std.specs.List.{flat_map};
 ghost use Rattle.std.specs.Io.KnownBytes.{Appends};
 ghost use Rattle.grid_source.specs.Causes.{Rose};
@@ -8,25 +8,19 @@ ghost use Rattle.grid_source.specs.Whole.{IsBegun};
 ghost use Rattle.grid_core.specs.History.{live};
 ghost use Rattle.grid_print.specs.Job.{line_of};
 ghost use Rattle.grid_jsonl.specs.Outcomes.{lines};
-ghost use Rattle.grid_report.specs.Histories.{history_of};
-ghost use Rattle.grid_forms.specs.declared.words.Form.{Form};
-ghost use Rattle.grid_cli.specs.Orders.{IsScheduled, order_of};
-ghost use Rattle.grid_cli.specs.Once.{OutcomeOf, Writes, ReadsHvdc, ReadsNone, ReadsWhole, TellsOf, hvdc_fault};
-ghost use Rattle.grid_cli.specs.Hvdc.{end_object, named_count, named_objects, named_text, numbers_in, numbers_objects, numbers_text, hvdc_text, part_lines, part_text};
-ghost use Rattle.grid_cli.specs.Layouts.{in_layout};
-ghost use Rattle.grid_cli.specs.Warnings.{replay_warning, warning_after, WarnsDone};
+ghost use Rattle.grid_cli.specs.Hvdc.{end_object, named_count, named_objects, named_text, numbers_in, numbers_objects};
+ghost use Rattle.grid_cli.specs.Hvdc.{numbers_text, part_lines, part_text};
 
 use crate::layout::write_parts;
-use crate::once::{read_input, status_for, status_of};
-use crate::running::replayed;
+use crate::running::run_in_order;
+use crate::serving::JobForm;
 use grid_core::{Entry, World};
-use grid_forms::{Layout, Status};
-use grid_hvdc::{HvdcJob, HvdcLine, count_buses, put_variant, put_variant_lines, read_hvdc};
+use grid_forms::Layout;
+use grid_hvdc::{HvdcJob, HvdcLine, count_buses, put_variant, put_variant_lines};
 use grid_ids::{Id, Memory};
-use grid_json::Job;
 use grid_jsonl::{Lined, open_with, put_number, put_state, put_warning};
 use grid_report::{ReportFault, Shown, Text};
-use grid_source::{Input, Sink, Source};
+use grid_source::Sink;
 use std::alloc::Global;
 
 /// A part of what is written.
@@ -178,6 +172,7 @@ fn parts_of<'a>(
 }
 
 /// Writes the components of each live variant's buses.
+#[tactic(auto, using(grid_report::proofs::Begun::at_start))]
 fn write_numbers<K: Sink>(
     alloc: Global,
     layout: Layout,
@@ -193,114 +188,38 @@ fn write_numbers<K: Sink>(
         → Rose (K.faults sink.old) (K.faults sink.new) }
     ensures stays { result ≢ Err ReportFault.Stopped → K.faults sink.new ≡ K.faults sink.old }
 {
-    let parts = match parts_of(alloc, layout, world, hvdc) {
-        Ok(parts) => parts,
-        Err(Memory) => return Err(ReportFault::Memory),
-    };
+    let parts = parts_of(alloc, layout, world, hvdc)?;
     write_parts(alloc, layout, parts.as_slice(), sink)
 }
 
-/// Puts the warning of a world's refused commands, and then writes the components of each live variant's buses.
-#[tactic(auto, using(grid_report::proofs::Begun::at_start))]
-fn write_warned<K: Sink>(
-    alloc: Global,
-    layout: Layout,
-    world: &World,
-    hvdc: &[HvdcLine],
-    sink: &mut K,
-    warning: &mut Text,
-) -> Result<(), ReportFault>
-    requires { warning.old ≡ [] }
-    ensures ok { OnOk result (Appends (K.written sink.old) (K.written sink.new)
-        (numbers_in layout world.now hvdc.now)) }
-    ensures warning { OnOk result (warning.new ≡ warning_after world.now) }
-    ensures err { OnErr result (IsBegun (K.written sink.old)
-        (numbers_in layout world.now hvdc.now) (K.written sink.new)) }
-    ensures cause { result ≡ Err ReportFault.Stopped
-        → Rose (K.faults sink.old) (K.faults sink.new) }
-    ensures stays { result ≢ Err ReportFault.Stopped → K.faults sink.new ≡ K.faults sink.old }
-{
-    put_warning(warning, world.entries())?;
-    write_numbers(alloc, layout, world, hvdc, sink)
+/// The form `hvdc`.
+#[derive(Clone, Copy)]
+pub(crate) struct Hvdc {
+    pub(crate) layout: Layout,
 }
 
-/// Runs a job in its order, and writes the components of each live variant's buses.
-#[tactic(auto, unfolding(crate::specs::Hvdc::hvdc_text), using(grid_report::proofs::Begun::at_start, crate::proofs::Written::handed, crate::proofs::Written::calm))]
-fn write_hvdc<K: Sink>(
-    alloc: Global,
-    layout: Layout,
-    hvdc: HvdcJob,
-    sink: &mut K,
-    warning: &mut Text,
-) -> Status
-    requires scheduled { IsScheduled hvdc.job }
-    requires silent { warning.old ≡ [] }
-    ensures written { Writes (hvdc_text layout hvdc) (K.written sink.old) (K.written sink.new)
-        result }
-    ensures warning { result ≡ Status.Done → warning.new ≡ replay_warning hvdc.job }
-    ensures fault { result ≡ Status.WriteFault → Rose (K.faults sink.old) (K.faults sink.new) }
-    ensures stays { result ≢ Status.WriteFault → K.faults sink.new ≡ K.faults sink.old }
-{
-    let HvdcJob { job, lines } = hvdc;
-    let Job {
-        network,
-        scripts,
-        order,
-        ..
-    } = job;
-    match replayed(alloc, network, scripts.slice(), order) {
-        Ok(world) => status_of(write_warned(alloc, layout, &world, lines.slice(), sink, warning)),
-        Err(Memory) => Status::NoMemory,
-    }
-}
+impl JobForm for Hvdc {
+    ghost use Rattle.std.specs.Prelude.{◌≡◌};
+    ghost use Rattle.grid_cli.specs.Hvdc.{hvdc_text};
+    ghost use Rattle.grid_cli.specs.Orders.{replay_warning};
 
-/// The job with HVDC lines of the input's bytes, or why there is none.
-#[tactic(auto, using(crate::proofs::Written::partly, crate::proofs::Written::faulty, crate::proofs::Written::part_silent))]
-fn read_hvdc_from<S: Source>(alloc: Global, input: &mut Input<S>) -> Result<HvdcJob, Status>
-    ensures job { IfOk result (ReadsHvdc (S.left input.old.source) (S.left input.new.source)) }
-    ensures scheduled { IfOk result (λ hvdc. IsScheduled hvdc.job) }
-    ensures none { IfErr result (ReadsNone hvdc_fault (S.left input.old.source)
-        (S.left input.new.source)) }
-    ensures kept { IfErr result (λ status. TellsOf status → ReadsWhole (S.left input.old.source)
-        (S.left input.new.source) input.new.bytes) }
-    ensures fault { result ≡ Err Status.ReadFault
-        → Rose (S.faults input.old.source) (S.faults input.new.source) }
-    ensures stays { result ≢ Err Status.ReadFault
-        → S.faults input.new.source ≡ S.faults input.old.source }
-{
-    read_input(input)?;
-    match read_hvdc(alloc, input.bytes()) {
-        Ok(hvdc) => Ok(hvdc),
-        Err(fault) => Err(status_for(fault)),
-    }
-}
+    type Job = HvdcJob;
 
-/// Reads a job with HVDC lines, and writes the components of each live variant's buses.
-#[tactic(auto, using(crate::proofs::Written::numbered, crate::proofs::Written::unread, crate::proofs::Written::write_silent))]
-pub(crate) fn read_and_number<S: Source, K: Sink>(
-    alloc: Global,
-    layout: Layout,
-    input: &mut Input<S>,
-    sink: &mut K,
-    warning: &mut Text,
-) -> Status
-    requires { warning.old ≡ [] }
-    ensures outcome { OutcomeOf (Form.Hvdc layout) (S.left input.old.source)
-        (S.left input.new.source) (K.written sink.old) (K.written sink.new) result }
-    ensures kept { TellsOf result → ReadsWhole (S.left input.old.source) (S.left input.new.source)
-        input.new.bytes }
-    ensures warning { result ≡ Status.Done → WarnsDone (Form.Hvdc layout) (S.left input.old.source)
-        (S.left input.new.source) warning.new }
-    ensures read_fault { result ≡ Status.ReadFault
-        → Rose (S.faults input.old.source) (S.faults input.new.source) }
-    ensures reads_stay { result ≢ Status.ReadFault
-        → S.faults input.new.source ≡ S.faults input.old.source }
-    ensures write_fault { result ≡ Status.WriteFault
-        → Rose (K.faults sink.old) (K.faults sink.new) }
-    ensures writes_stay { result ≢ Status.WriteFault → K.faults sink.new ≡ K.faults sink.old }
-{
-    match read_hvdc_from(alloc, input) {
-        Ok(hvdc) => write_hvdc(alloc, layout, hvdc, sink, warning),
-        Err(status) => status,
+    ghost IsText = { λ form hvdc text. text ≡ hvdc_text form.layout hvdc };
+
+    ghost warning_of = { λ form hvdc. replay_warning hvdc.job };
+
+    /// Runs the job in its order, and writes the components of each live variant's buses.
+    fn write<K: Sink>(
+        &self,
+        alloc: Global,
+        hvdc: HvdcJob,
+        sink: &mut K,
+        warning: &mut Text,
+    ) -> Result<(), ReportFault> {
+        let HvdcJob { job, lines } = hvdc;
+        let world = run_in_order(alloc, job)?;
+        put_warning(warning, world.entries())?;
+        write_numbers(alloc, self.layout, &world, lines.slice(), sink)
     }
 }

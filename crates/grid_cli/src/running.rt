@@ -98,7 +98,7 @@ pub(crate) fn outcome(
 }
 
 /// The world after the steps of all scripts, in the order that is given or else the workers in turn.
-pub(crate) fn replayed(
+fn replayed(
     alloc: Global,
     network: Structure,
     scripts: &[Script],
@@ -111,6 +111,21 @@ pub(crate) fn replayed(
 {
     let order = chosen_order(alloc, order, scripts)?;
     run(alloc, network, scripts, order.slice())
+}
+
+/// The world after a job's commands, made in its order.
+#[tactic(auto, unfolding(crate::specs::Orders::order_of))]
+pub(crate) fn run_in_order(alloc: Global, job: Job) -> Result<World, Memory>
+    requires { IsScheduled job }
+    ensures { IfOk result (λ world. world ≡ history_of job.network job.scripts (order_of job)) }
+{
+    let Job {
+        network,
+        scripts,
+        order,
+        ..
+    } = job;
+    replayed(alloc, network, scripts.slice(), order)
 }
 
 /// What comes of a job that is run in its order.

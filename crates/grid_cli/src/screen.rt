@@ -1,28 +1,28 @@
 // The form `screen`: what each contingency does to a variant.
-ghost use Rattle.std.specs.Prelude.{◌≡◌, ◌≢◌, ◌++◌, [], Err, IfOk, IfErr, OnOk, OnErr, unwrap_or};
+ghost use Rattle.std.specs.Prelude.{◌≡◌, ◌≢◌, ◌++◌, [], Err, IfOk, OnOk, OnErr, unwrap_or};
 ghost use Rattle.std.specs.Io.KnownBytes.{Appends};
 ghost use Rattle.grid_source.specs.Causes.{Rose};
 ghost use Rattle.grid_source.specs.Whole.{IsBegun};
 ghost use Rattle.grid_slots.specs.Names.{initial_state};
-ghost use Rattle.grid_report.specs.Histories.{history_of};
+ghost use Rattle.grid_core.specs.Journals.{journal_of};
 ghost use Rattle.grid_contingencies.specs.Made as making;
-ghost use Rattle.grid_forms.specs.declared.words.Form.{Form};
-ghost use Rattle.grid_cli.specs.Orders.{IsScheduled, order_of};
-ghost use Rattle.grid_cli.specs.Once.{OutcomeOf, Writes, ReadsScreen, ReadsNone, ReadsWhole, TellsOf, screen_fault};
+ghost use Rattle.grid_contingencies.specs.Jobs.{screen_job_of};
+ghost use Rattle.grid_cli.specs.Orders.{IsScheduled, replay_warning};
 ghost use Rattle.grid_cli.specs.Screen.{absent_in, screen_text};
-ghost use Rattle.grid_cli.specs.Warnings.{replay_warning, WarnsDone};
+ghost use Rattle.grid_cli.specs.Once.{OutcomeOf, HandsOver, ReadsWhole, TellsOf};
+ghost use Rattle.grid_cli.specs.Warnings.{IsWarningOf};
 
-use crate::findings::{Manner, Part, screen_case};
+use crate::findings::{Look, Part, Screening, write_findings};
 use crate::layout::write_parts;
-use crate::once::{read_input, status_for, status_of};
-use crate::running::replayed;
-use grid_contingencies::{Contingencies, Eaches, ScreenJob, Told, made, read_screen};
-use grid_core::{Entry, World};
+use crate::running::run_in_order;
+use crate::serving::{read_from, status_of};
+use grid_contingencies::{Contingencies, Eaches, ScreenJob, Told, made};
+use grid_core::World;
 use grid_forms::{Layout, Status};
 use grid_ids::{Id, Memory};
-use grid_json::Job;
 use grid_jsonl::put_warning;
 use grid_report::{ReportFault, Text};
+use grid_screen::ScreenedCase;
 use grid_screen::laws::cases_fit;
 use grid_slots::INITIAL_STATE;
 use grid_source::{Input, Sink, Source};
@@ -58,64 +58,52 @@ fn with_made(
     Ok(Contingencies::from_vec(list))
 }
 
-/// The world after a job's commands, made in its order.
-#[tactic(auto, unfolding(crate::specs::Orders::order_of))]
-fn run_in_order(alloc: Global, job: Job) -> Result<World, Memory>
-    requires { IsScheduled job }
-    ensures { IfOk result (λ world. world ≡ history_of job.network job.scripts (order_of job)) }
-{
-    let Job {
-        network,
-        scripts,
-        order,
-        ..
-    } = job;
-    replayed(alloc, network, scripts.slice(), order)
-}
-
-/// Writes what is told of the steps, that no live variant has the name, and the last line.
+/// Writes what is told of a world's steps, that no live variant has the name, and the last line.
 fn write_absent<'a, K: Sink>(
-    alloc: Global,
     layout: Layout,
-    journal: &'a [Entry],
+    world: &'a World,
     name: &'a Id,
     only: Told,
     sink: &mut K,
 ) -> Result<(), ReportFault>
     ensures ok { OnOk result (Appends (K.written sink.old) (K.written sink.new)
-        (absent_in layout journal.now name.now only)) }
+        (absent_in layout (journal_of world.now.origin world.now.steps) name.now only)) }
     ensures err { OnErr result (IsBegun (K.written sink.old)
-        (absent_in layout journal.now name.now only) (K.written sink.new)) }
+        (absent_in layout (journal_of world.now.origin world.now.steps) name.now only)
+        (K.written sink.new)) }
     ensures cause { result ≡ Err ReportFault.Stopped
         → Rose (K.faults sink.old) (K.faults sink.new) }
     ensures stays { result ≢ Err ReportFault.Stopped → K.faults sink.new ≡ K.faults sink.old }
 {
     let parts = [
-        Part::Steps(journal),
+        Part::Steps(world.entries()),
         Part::Absent(name),
         Part::End(only, 0, 0),
     ];
-    write_parts(alloc, layout, &parts, sink)
+    write_parts(world.allocator(), layout, &parts, sink)
 }
 
-/// Runs a job in its order, puts the warning of its refused commands, and then writes what each contingency does to its
-/// variant; where no live variant has the name, that is told in their place.
-#[tactic(auto, using(grid_report::proofs::Begun::at_start))]
-fn run_and_screen<R: Threads + Sync, K: Sink>(
-    rt: &R,
+/// The form `screen`, whose contingencies are looked at by several threads.
+#[derive(Drop)]
+pub(crate) struct Screen<'a, R> {
+    pub(crate) threads: &'a R,
+    pub(crate) layout: Layout,
+}
+
+/// Runs the job in its order, puts the warning of its refused commands, and then writes what each contingency does
+/// to its variant; where no live variant has the name, that is told in their place.
+fn write_screen<R: Threads + Sync, K: Sink>(
+    form: &Screen<'_, R>,
     alloc: Global,
-    layout: Layout,
     screened: ScreenJob,
     sink: &mut K,
     warning: &mut Text,
 ) -> Result<(), ReportFault>
-    requires scheduled { IsScheduled screened.job }
+    requires ready { IsScheduled screened.job }
     requires silent { warning.old ≡ [] }
-    ensures ok { OnOk result (Appends (K.written sink.old) (K.written sink.new)
-        (screen_text layout screened)) }
+    ensures written { HandsOver (λ text. text ≡ screen_text form.now.layout screened)
+        (K.written sink.old) (K.written sink.new) result }
     ensures warning { OnOk result (warning.new ≡ replay_warning screened.job) }
-    ensures err { OnErr result (IsBegun (K.written sink.old) (screen_text layout screened)
-        (K.written sink.new)) }
     ensures cause { result ≡ Err ReportFault.Stopped
         → Rose (K.faults sink.old) (K.faults sink.new) }
     ensures stays { result ≢ Err ReportFault.Stopped → K.faults sink.new ≡ K.faults sink.old }
@@ -132,86 +120,44 @@ fn run_and_screen<R: Threads + Sync, K: Sink>(
     let world = run_in_order(alloc, job)?;
     put_warning(warning, world.entries())?;
     let Some(case) = world.case(&name)? else {
-        return write_absent(alloc, layout, world.entries(), &name, only, sink);
+        return write_absent(form.layout, &world, &name, only, sink);
     };
     world.keeps();
     cases_fit();
     let list = with_made(alloc, contingencies, &case.structure, &each)?;
-    let manner = Manner {
-        layout,
-        format,
-        only,
-    };
-    screen_case(
-        rt,
+    let kept = ScreenedCase::of(alloc, &case)?;
+    let screening = Screening {
+        threads: form.threads,
         alloc,
-        &case,
-        manner,
-        world.entries(),
-        list.slice(),
-        sink,
-    )
+        case: &kept,
+        look: Look {
+            before: kept.figures(),
+            layout: form.layout,
+            format,
+            only,
+        },
+    };
+    write_findings(&screening, world.entries(), list.slice(), sink)
 }
 
-/// Runs a job in its order, and writes what each contingency does to its variant.
-#[tactic(auto, using(crate::proofs::Written::handed, crate::proofs::Written::calm))]
-fn write_screen<R: Threads + Sync, K: Sink>(
-    rt: &R,
+/// Serves the form, as `serve` does those that have no threads.
+#[tactic(auto, using(crate::proofs::Written::unread, crate::proofs::Written::after_silent))]
+pub(crate) fn serve_screen<R: Threads + Sync, S: Source, K: Sink>(
+    form: &Screen<'_, R>,
     alloc: Global,
-    layout: Layout,
-    screened: ScreenJob,
-    sink: &mut K,
-    warning: &mut Text,
-) -> Status
-    requires scheduled { IsScheduled screened.job }
-    requires silent { warning.old ≡ [] }
-    ensures written { Writes (screen_text layout screened) (K.written sink.old)
-        (K.written sink.new) result }
-    ensures warning { result ≡ Status.Done → warning.new ≡ replay_warning screened.job }
-    ensures fault { result ≡ Status.WriteFault → Rose (K.faults sink.old) (K.faults sink.new) }
-    ensures stays { result ≢ Status.WriteFault → K.faults sink.new ≡ K.faults sink.old }
-{
-    status_of(run_and_screen(rt, alloc, layout, screened, sink, warning))
-}
-
-/// The job with contingencies of the input's bytes, or why there is none.
-#[tactic(auto, using(crate::proofs::Written::partly, crate::proofs::Written::faulty, crate::proofs::Written::part_silent))]
-fn read_screen_from<S: Source>(alloc: Global, input: &mut Input<S>) -> Result<ScreenJob, Status>
-    ensures job { IfOk result (ReadsScreen (S.left input.old.source) (S.left input.new.source)) }
-    ensures scheduled { IfOk result (λ screened. IsScheduled screened.job) }
-    ensures none { IfErr result (ReadsNone screen_fault (S.left input.old.source)
-        (S.left input.new.source)) }
-    ensures kept { IfErr result (λ status. TellsOf status → ReadsWhole (S.left input.old.source)
-        (S.left input.new.source) input.new.bytes) }
-    ensures fault { result ≡ Err Status.ReadFault
-        → Rose (S.faults input.old.source) (S.faults input.new.source) }
-    ensures stays { result ≢ Err Status.ReadFault
-        → S.faults input.new.source ≡ S.faults input.old.source }
-{
-    read_input(input)?;
-    match read_screen(alloc, input.bytes()) {
-        Ok(screened) => Ok(screened),
-        Err(fault) => Err(status_for(fault)),
-    }
-}
-
-/// Reads a job with contingencies, and writes what each does to the job's variant, found by several threads.
-#[tactic(auto, using(crate::proofs::Written::screened, crate::proofs::Written::unread, crate::proofs::Written::write_silent))]
-pub(crate) fn read_and_screen<R: Threads + Sync, S: Source, K: Sink>(
-    rt: &R,
-    alloc: Global,
-    layout: Layout,
     input: &mut Input<S>,
     sink: &mut K,
     warning: &mut Text,
 ) -> Status
     requires { warning.old ≡ [] }
-    ensures outcome { OutcomeOf (Form.Screen layout) (S.left input.old.source)
-        (S.left input.new.source) (K.written sink.old) (K.written sink.new) result }
+    ensures outcome { OutcomeOf screen_job_of (λ job text. text ≡ screen_text form.now.layout job)
+        (S.left input.old.source) (S.left input.new.source) (K.written sink.old)
+        (K.written sink.new) result }
     ensures kept { TellsOf result → ReadsWhole (S.left input.old.source) (S.left input.new.source)
         input.new.bytes }
-    ensures warning { result ≡ Status.Done → WarnsDone (Form.Screen layout)
-        (S.left input.old.source) (S.left input.new.source) warning.new }
+    ensures warning { result ≡ Status.Done → IsWarningOf screen_job_of
+        (λ screened. replay_warning screened.job) (S.left input.old.source)
+        (S.left input.new.source) warning.new }
     ensures read_fault { result ≡ Status.ReadFault
         → Rose (S.faults input.old.source) (S.faults input.new.source) }
     ensures reads_stay { result ≢ Status.ReadFault
@@ -220,8 +166,8 @@ pub(crate) fn read_and_screen<R: Threads + Sync, S: Source, K: Sink>(
         → Rose (K.faults sink.old) (K.faults sink.new) }
     ensures writes_stay { result ≢ Status.WriteFault → K.faults sink.new ≡ K.faults sink.old }
 {
-    match read_screen_from(alloc, input) {
-        Ok(screened) => write_screen(rt, alloc, layout, screened, sink, warning),
+    match read_from::<ScreenJob, S>(alloc, input) {
+        Ok(screened) => status_of(write_screen(form, alloc, screened, sink, warning)),
         Err(status) => status,
     }
 }

@@ -4,16 +4,18 @@ ghost use Rattle.std.specs.Io.KnownBytes.{Appends};
 ghost use Rattle.grid_source.specs.Causes.{Rose};
 ghost use Rattle.grid_source.specs.Whole.{IsBegun};
 ghost use Rattle.grid_forms.specs.Words.{form_of};
-ghost use Rattle.grid_cli.specs.Forms.{ReadsNothing};
-ghost use Rattle.grid_cli.specs.Orders.{IsScheduled};
-ghost use Rattle.grid_cli.specs.Once.{Outcome, OutcomeOf, Exact, ReadsWhole, TellsOf, WritesReport};
+ghost use Rattle.grid_json.specs.Whole.{job_of};
+ghost use Rattle.grid_cli.specs.Orders.{IsReport, IsScheduled};
+ghost use Rattle.grid_cli.specs.Services.{ReadsNothing, no_warning};
+ghost use Rattle.grid_cli.specs.Once.{Outcome, OutcomeOf, HandsOver, Exact, ReadsWhole, TellsOf};
 ghost use Rattle.grid_cli.specs.Layouts.{outcome_text};
-ghost use Rattle.grid_cli.specs.Warnings.{Warns};
+ghost use Rattle.grid_cli.specs.Warnings.{IsWarningOf, Warns};
 ghost use Rattle.grid_cli.specs.Threaded.{IsOutcomeOf, IsServed};
 
-use crate::once::{grid_once, keep_if_done, read_from, status_of};
+use crate::once::{grid_once, keep_if_done};
 use crate::running::outcome;
-use crate::screen::read_and_screen;
+use crate::screen::{Screen, serve_screen};
+use crate::serving::{read_from, status_of};
 use grid_forms::{Form, Layout, Status, read_words};
 use grid_ids::Memory;
 use grid_json::Job;
@@ -70,19 +72,30 @@ pub fn grid<R: Threads + Wait + Sync, S: Source, K: Sink, G: Gate>(
         → S.faults input.new.source ≡ S.faults input.old.source }
 {
     warning.clear();
-    let status = serve(rt, alloc, words, input, sink, gate, warning);
+    let host = Host {
+        threads: rt,
+        gate,
+        alloc,
+    };
+    let status = serve_on(&host, words, input, sink, warning);
     keep_if_done(warning, &status);
     status
 }
 
-// The same, without what follows from the other clauses, and with a warning that stays where the status is not Done.
-fn serve<R: Threads + Wait + Sync, S: Source, K: Sink, G: Gate>(
-    rt: &R,
+/// What a call runs on: the threads of its workers, the gate that sees them, and where memory comes from.
+#[derive(Drop)]
+struct Host<'a, R, G> {
+    threads: &'a R,
+    gate: &'a G,
     alloc: Global,
+}
+
+// The same, without what follows from the other clauses, and with a warning that stays where the status is not Done.
+fn serve_on<R: Threads + Wait + Sync, S: Source, K: Sink, G: Gate>(
+    host: &Host<'_, R, G>,
     words: &[String],
     input: &mut Input<S>,
     sink: &mut K,
-    gate: &G,
     warning: &mut Text,
 ) -> Status
     requires { warning.old ≡ [] }
@@ -104,9 +117,18 @@ fn serve<R: Threads + Wait + Sync, S: Source, K: Sink, G: Gate>(
         → S.faults input.new.source ≡ S.faults input.old.source }
 {
     match served_by(read_words(words)) {
-        Served::ByWorkers(layout) => read_and_run(rt, alloc, layout, input, sink, gate),
-        Served::ByScreening(layout) => read_and_screen(rt, alloc, layout, input, sink, warning),
-        Served::ByOneThread => grid_once(alloc, words, input, sink, warning),
+        Served::ByWorkers(layout) => serve_run(host, layout, input, sink),
+        Served::ByScreening(layout) => {
+            let threads = host.threads;
+            serve_screen(
+                &Screen { threads, layout },
+                host.alloc,
+                input,
+                sink,
+                warning,
+            )
+        }
+        Served::ByOneThread => grid_once(host.alloc, words, input, sink, warning),
     }
 }
 
@@ -140,34 +162,6 @@ fn served_by(form: Option<Form>) -> Served
     }
 }
 
-// Reads a job, and writes what came of it in the order in which its workers' steps happened.
-#[tactic(auto, using(crate::proofs::Written::ran, crate::proofs::Written::unread, crate::proofs::Written::report_silent))]
-fn read_and_run<R: Threads + Wait + Sync, S: Source, K: Sink, G: Gate>(
-    rt: &R,
-    alloc: Global,
-    layout: Layout,
-    input: &mut Input<S>,
-    sink: &mut K,
-    gate: &G,
-) -> Status
-    ensures outcome { OutcomeOf (Form.Run layout) (S.left input.old.source)
-        (S.left input.new.source) (K.written sink.old) (K.written sink.new) result }
-    ensures kept { TellsOf result → ReadsWhole (S.left input.old.source) (S.left input.new.source)
-        input.new.bytes }
-    ensures read_fault { result ≡ Status.ReadFault
-        → Rose (S.faults input.old.source) (S.faults input.new.source) }
-    ensures reads_stay { result ≢ Status.ReadFault
-        → S.faults input.new.source ≡ S.faults input.old.source }
-    ensures write_fault { result ≡ Status.WriteFault
-        → Rose (K.faults sink.old) (K.faults sink.new) }
-    ensures writes_stay { result ≢ Status.WriteFault → K.faults sink.new ≡ K.faults sink.old }
-{
-    match read_from(alloc, input) {
-        Ok(job) => write_run(rt, alloc, layout, job, sink, gate),
-        Err(status) => status,
-    }
-}
-
 // Writes what came of a job in a layout, the report by several threads.
 #[tactic(auto, unfolding(crate::specs::Layouts::outcome_text))]
 fn write_on_threads<R: Threads + Sync, K: Sink>(
@@ -191,27 +185,6 @@ fn write_on_threads<R: Threads + Sync, K: Sink>(
     }
 }
 
-// Runs a job on threads, and writes what came of it.
-#[tactic(auto, using(crate::proofs::Threading::unwritten, crate::proofs::Threading::reported, crate::proofs::Written::calm))]
-fn write_run<R: Threads + Wait + Sync, K: Sink, G: Gate>(
-    rt: &R,
-    alloc: Global,
-    layout: Layout,
-    job: Job,
-    sink: &mut K,
-    gate: &G,
-) -> Status
-    requires { IsScheduled job }
-    ensures written { WritesReport layout job (K.written sink.old) (K.written sink.new) result }
-    ensures fault { result ≡ Status.WriteFault → Rose (K.faults sink.old) (K.faults sink.new) }
-    ensures stays { result ≢ Status.WriteFault → K.faults sink.new ≡ K.faults sink.old }
-{
-    match run_job_on_threads(rt, alloc, job, gate) {
-        Ok(outcome) => status_of(write_on_threads(rt, alloc, layout, &outcome, sink)),
-        Err(Memory) => Status::NoMemory,
-    }
-}
-
 // What came of a job whose workers ran on threads of their own. Where a worker's call found no memory, so did this one.
 fn run_job_on_threads<R: Threads + Wait + Sync, G: Gate>(
     rt: &R,
@@ -228,4 +201,50 @@ fn run_job_on_threads<R: Threads + Wait + Sync, G: Gate>(
         return Err(Memory);
     }
     outcome(alloc, run.board.into_world(), workers, job.filters)
+}
+
+/// Runs a job on threads, and writes what came of it in the order in which its workers' steps happened.
+fn write_run<R: Threads + Wait + Sync, K: Sink, G: Gate>(
+    host: &Host<'_, R, G>,
+    layout: Layout,
+    job: Job,
+    sink: &mut K,
+) -> Result<(), ReportFault>
+    requires { IsScheduled job }
+    ensures written { HandsOver (IsReport layout job) (K.written sink.old) (K.written sink.new)
+        result }
+    ensures cause { result ≡ Err ReportFault.Stopped
+        → Rose (K.faults sink.old) (K.faults sink.new) }
+    ensures stays { result ≢ Err ReportFault.Stopped → K.faults sink.new ≡ K.faults sink.old }
+{
+    let outcome = run_job_on_threads(host.threads, host.alloc, job, host.gate)?;
+    write_on_threads(host.threads, host.alloc, layout, &outcome, sink)
+}
+
+/// Serves the form `run`, as `serve` does those that have no threads.
+#[tactic(auto, using(crate::proofs::Written::unread, crate::proofs::Written::after_silent))]
+fn serve_run<R: Threads + Wait + Sync, S: Source, K: Sink, G: Gate>(
+    host: &Host<'_, R, G>,
+    layout: Layout,
+    input: &mut Input<S>,
+    sink: &mut K,
+) -> Status
+    ensures outcome { OutcomeOf job_of (IsReport layout) (S.left input.old.source)
+        (S.left input.new.source) (K.written sink.old) (K.written sink.new) result }
+    ensures kept { TellsOf result → ReadsWhole (S.left input.old.source) (S.left input.new.source)
+        input.new.bytes }
+    ensures warning { result ≡ Status.Done → IsWarningOf job_of no_warning (S.left input.old.source)
+        (S.left input.new.source) [] }
+    ensures read_fault { result ≡ Status.ReadFault
+        → Rose (S.faults input.old.source) (S.faults input.new.source) }
+    ensures reads_stay { result ≢ Status.ReadFault
+        → S.faults input.new.source ≡ S.faults input.old.source }
+    ensures write_fault { result ≡ Status.WriteFault
+        → Rose (K.faults sink.old) (K.faults sink.new) }
+    ensures writes_stay { result ≢ Status.WriteFault → K.faults sink.new ≡ K.faults sink.old }
+{
+    match read_from::<Job, S>(host.alloc, input) {
+        Ok(job) => status_of(write_run(host, layout, job, sink)),
+        Err(status) => status,
+    }
 }

@@ -1,5 +1,6 @@
 // A trial: the made job, run in its order, and counted.
-ghost use Rattle.std.specs.Prelude.{◌≡◌, ◌≢◌, ◌++◌, ◌≤◌, ◌<◌, ◌^◌, ◌*◌, All, length, sum_by, count_by, IfOk, OnOk, OnErr, Err, []};
+ghost use Rattle.std.specs.Prelude.{◌≡◌, ◌≢◌, ◌++◌, ◌≤◌, ◌<◌, ◌^◌, ◌*◌, All, length, sum_by, count_by, IfOk, OnOk};
+ghost use Rattle.std.specs.Prelude.{OnErr, Err, []};
 ghost use Rattle.std.specs.Io.KnownBytes.{Appends};
 ghost use Rattle.grid_source.specs.Causes.{Rose};
 ghost use Rattle.grid_source.specs.Whole.{IsBegun};
@@ -113,7 +114,7 @@ fn count_buses(variants: &[VariantView]) -> u128
 }
 
 /// Runs the made job of a seed and a size, and counts what comes of it.
-#[tactic(auto, unfolding(crate::specs::Trials::trial_of, crate::specs::Trials::operated_in, crate::specs::Trials::buses_in), using(crate::proofs::Trialled::made_is_scheduled))]
+#[tactic(auto, using(crate::proofs::Trialled::made_is_scheduled))]
 fn run_trial(alloc: Global, seed: u32, size: u32) -> Result<Trial, Memory>
     requires seed { seed ≤ MOST_SEED }
     requires some { 1 ≤ size }

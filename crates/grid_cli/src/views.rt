@@ -8,7 +8,7 @@ ghost use Rattle.grid_watts.specs.Watts.{level_watts};
 ghost use Rattle.grid_core.specs.History.{live, is_live, structure};
 ghost use Rattle.grid_core.specs.Replies as replies;
 ghost use Rattle.grid_report.specs.Histories.{variant_view, variant_views};
-ghost use Rattle.grid_cli.specs.Views.{IsShown, IsStanding, IsAlike};
+ghost use Rattle.grid_cli.specs.Views.{IsShown, IsBeside, IsAlike};
 
 use grid_busview::BusView;
 use grid_core::World;
@@ -58,23 +58,30 @@ fn is_alike(level: &Level, place: u32, one: &States, other: &States) -> bool
         && same_watts(level, one.watts_row(place), other.watts_row(place))
 }
 
+/// A live variant of a world beside an earlier one, each with what it has of the levels.
+#[derive(Clone, Copy)]
+struct Beside<'a> {
+    world: &'a World,
+    name: &'a Id,
+    own: &'a States,
+    earlier: &'a VariantView,
+    other: &'a States,
+}
+
 /// The view of the level at a place in a live variant: that in an earlier one, where the level is alike there.
-fn level_view(
-    alloc: Global,
-    world: &World,
-    name: &Id,
-    own: &States,
-    earlier: &VariantView,
-    other: &States,
-    place: u32,
-) -> Result<Shared<BusView>, Memory>
-    requires own { IsStanding world.now name.now own.now }
-    requires other { IsStanding world.now earlier.now.name other.now }
-    requires shown { IsShown world.now earlier.now }
-    requires place { place < length (levels (structure world.now.origin world.now.steps)) }
-    ensures { IfOk result (λ view. replies.view world.now.origin world.now.steps name.now place
-        ≡ Some view) }
+fn level_view(alloc: Global, both: &Beside<'_>, place: u32) -> Result<Shared<BusView>, Memory>
+    requires both { IsBeside both.now }
+    requires place { place < length (levels (structure both.now.world.now.origin both.now.world.now.steps)) }
+    ensures { IfOk result (λ view. replies.view both.now.world.now.origin both.now.world.now.steps
+        both.now.name.now place ≡ Some view) }
 {
+    let Beside {
+        world,
+        name,
+        own,
+        earlier,
+        other,
+    } = *both;
     if is_alike(world.structure().level(place), place, own, other) {
         return earlier.views.slice()[place as usize].copy();
     }
@@ -95,11 +102,16 @@ fn views_beside(
         ≡ (variant_view world.now.origin world.now.steps name.now).views) }
     ensures few { IfOk result (λ views. length views < 2 ^ 32) }
 {
-    let own = world.states_in(name);
-    let other = world.states_in(&earlier.name);
+    let both = Beside {
+        world,
+        name,
+        own: world.states_in(name),
+        earlier,
+        other: world.states_in(&earlier.name),
+    };
     let mut views = Seq::empty(alloc);
     for level in 0..world.level_count() {
-        let view = level_view(alloc, world, name, own, earlier, other, level)?;
+        let view = level_view(alloc, &both, level)?;
         views.push(view)?;
     }
     Ok(views)

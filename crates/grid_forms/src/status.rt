@@ -2,7 +2,7 @@
 ghost use Rattle.std.specs.Prelude.{◌≡◌};
 ghost use Rattle.grid_forms.specs.Exits.{exit_number};
 
-use grid_json::{Place, Reason};
+use grid_json::{JobFault, Place, Reason};
 
 /// How a run ends. The numbers are the program's exit statuses.
 #[derive(Debug, Drop)]
@@ -23,6 +23,22 @@ pub enum Status {
     WriteFault,
     /// 8: memory is wanting. A front of the output was written, or nothing.
     NoMemory,
+}
+
+/// The status that says why bytes are no job.
+impl From<JobFault> for Status {
+    ghost use Rattle.std.specs.Prelude.{◌≡◌};
+    ghost use Rattle.grid_forms.specs.Faults.{status_for};
+
+    ghost from_gives = { λ fault status. status ≡ status_for fault };
+
+    fn from(fault: JobFault) -> Status {
+        match fault {
+            JobFault::BadJson => Status::BadJson,
+            JobFault::BadJob { place, reason } => Status::BadJob { place, reason },
+            JobFault::Memory => Status::NoMemory,
+        }
+    }
 }
 
 impl Status {

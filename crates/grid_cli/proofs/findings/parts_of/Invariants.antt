@@ -8,7 +8,7 @@ use Rattle.grid_cli.proofs.findings.parts_of.Given as goal
 abbrev pub invariant-loop-contingency : goal.invariant-loop-contingency
 invariant-loop-contingency l = record {
   placed : l.place ≡ l.first + length l.yielded;
-  text : flat_map part_text l.parts.items ≡ list_text l.look.format l.look.only (case_state l.case) (take (length l.yielded) l.piece);
-  lined : flat_map part_lines l.parts.items ≡ lines (list_objects l.look.format l.look.only (case_state l.case) l.first (take (length l.yielded) l.piece));
-  count : length l.parts.items ≡ told_count l.look.only (case_state l.case) (take (length l.yielded) l.piece);
+  text : flat_map part_text l.parts.items ≡ list_text l.sight.look.format l.sight.look.only (case_state l.sight.case.now) (take (length l.yielded) l.piece);
+  lined : flat_map part_lines l.parts.items ≡ lines (list_objects l.sight.look.format l.sight.look.only (case_state l.sight.case.now) l.first (take (length l.yielded) l.piece));
+  count : length l.parts.items ≡ told_count l.sight.look.only (case_state l.sight.case.now) (take (length l.yielded) l.piece);
 }

@@ -1,4 +1,4 @@
-use Rattle.std.proofs.Common.{◌≡◌, ◌+◌, ◌<◌, ◌^◌, [], ◌++◌, List, length, length-append, refl, sym, ap, ◌∙◌, subst, append_assoc, append-nil, arith, rules}
+use Rattle.std.proofs.Common.{◌≡◌, ◌+◌, [], ◌++◌, List, length, length-append, refl, sym, ap, ◌∙◌, subst, append_assoc, append-nil, arith, rules}
 use Rattle.std.specs.Io.KnownBytes.{Appends}
 use Rattle.std.specs.Slice.Iter.{chunks_rest}
 use Rattle.std.proofs.KnownBytes.{Appends-nil, Appends-trans}
@@ -7,7 +7,7 @@ use Rattle.grid_lemmas.proofs.Results.{on_err}
 use Rattle.grid_report.proofs.Begun.{within}
 use Rattle.grid_core.specs.declared.case.Case.{Case}
 use Rattle.grid_contingencies.specs.declared.Contingency.{Contingency}
-use Rattle.grid_cli.specs.Findings.{case_state, left_count, told_count, told_of}
+use Rattle.grid_cli.specs.Findings.{case_state, told_count, told_of}
 use Rattle.grid_cli.specs.declared.findings.Look.{Look}
 use Rattle.grid_cli.proofs.Screening.{counts-all, list_in-append, list_in-nil, told_count-append}
 use Rattle.grid_cli.proofs.findings.write_list.Goals as goal
@@ -37,7 +37,7 @@ told_more case look first front piece is =
 pub loop-piece-init : goal.loop-piece-init
 unfolding told_count
 loop-piece-init g c =
-    let look = c.args.look.now in
+    let look = c.args.screening.now.look in
     record {
       can_next = search rules;
       finite = search rules;
@@ -47,7 +47,7 @@ loop-piece-init g c =
         search rules,
         refl,
         refl,
-        subst (Appends (g.K.Sink.written c.args.sink.now) (g.K.Sink.written c.args.sink.now)) (sym (list_in-nil look.format look.only (case_state c.args.case.now) look.layout 0)) (Appends-nil (g.K.Sink.written c.args.sink.now)),
+        subst (Appends (g.K.Sink.written c.args.sink.now) (g.K.Sink.written c.args.sink.now)) (sym (list_in-nil look.format look.only (case_state c.args.screening.now.case.now) look.layout 0)) (Appends-nil (g.K.Sink.written c.args.sink.now)),
       );
       same = refl;
     }
@@ -60,8 +60,8 @@ write_piece-requires-clause-few g c =
 pub overflow_add-told : goal.overflow_add-told
 overflow_add-told g c =
     let i = c.loop-piece.invariant.so_far in
-    let look = c.args.look.now in
-    let state = case_state c.args.case.now in
+    let look = c.args.screening.now.look in
+    let state = case_state c.args.screening.now.case.now in
     omega (arith, i.3, counts-all look.format look.only state i.0, counts-all look.format look.only state c.in-Some.piece.now, c.in_ok-told.ensures.count, long c.args.list.now i.0 c.in-Some.piece.now _ _ i.1 c.in-Some.ensures.steps.1.0)
 
 pub overflow_add-first : goal.overflow_add-first
@@ -72,17 +72,17 @@ overflow_add-first g c =
 pub returns-in_err-told-clause-err : goal.returns-in_err-told-clause-err
 returns-in_err-told-clause-err g c =
     let i = c.loop-piece.invariant.so_far in
-    let look = c.args.look.now in
+    let look = c.args.screening.now.look in
     let piece = c.in-Some.piece.now in
     on_err c.from_residual.result
-    (within _ _ _ (told_of c.args.case.now look 0 i.0) (told_of c.args.case.now look c.loop-piece.first piece) (told_of c.args.case.now look (c.loop-piece.first + length piece) (chunks_rest c.next.new.self)) (told_of c.args.case.now look 0 c.args.list.now)
-    (told_parts c.args.case.now look c.loop-piece.first c.args.list.now i.0 piece (chunks_rest c.next.new.self) _ i.1 c.in-Some.ensures.steps.1.0 i.2) i.4 c.in_err-told.ensures.err)
+    (within _ _ _ (told_of c.args.screening.now.case.now look 0 i.0) (told_of c.args.screening.now.case.now look c.loop-piece.first piece) (told_of c.args.screening.now.case.now look (c.loop-piece.first + length piece) (chunks_rest c.next.new.self)) (told_of c.args.screening.now.case.now look 0 c.args.list.now)
+    (told_parts c.args.screening.now.case.now look c.loop-piece.first c.args.list.now i.0 piece (chunks_rest c.next.new.self) _ i.1 c.in-Some.ensures.steps.1.0 i.2) i.4 c.in_err-told.ensures.err)
 
 pub loop-piece-preserved : goal.loop-piece-preserved
 loop-piece-preserved g c =
     let i = c.loop-piece.invariant.so_far in
-    let look = c.args.look.now in
-    let state = case_state c.args.case.now in
+    let look = c.args.screening.now.look in
+    let state = case_state c.args.screening.now.case.now in
     let piece = c.in-Some.piece.now in
     let steps = c.in-Some.ensures.steps in
     record {
@@ -94,7 +94,7 @@ loop-piece-preserved g c =
         parted c.args.list.now i.0 piece (chunks_rest c.next.new.self) _ i.1 steps.1.0,
         omega (arith, i.2, length-append i.0 piece),
         omega (arith, i.3, c.in_ok-told.ensures.count, told_count-append look.format look.only state i.0 piece),
-        subst (Appends (g.K.Sink.written c.args.sink.now) (g.K.Sink.written c.write_piece.new.sink)) (told_more c.args.case.now look c.loop-piece.first i.0 piece i.2) (Appends-trans _ _ _ _ _ i.4 c.in_ok-told.ensures.ok),
+        subst (Appends (g.K.Sink.written c.args.sink.now) (g.K.Sink.written c.write_piece.new.sink)) (told_more c.args.screening.now.case.now look c.loop-piece.first i.0 piece i.2) (Appends-trans _ _ _ _ _ i.4 c.in_ok-told.ensures.ok),
       );
       same = c.in_ok-told.ensures.stays (λ is. absurd (cc)) ∙ c.loop-piece.invariant.same;
     }
@@ -106,10 +106,10 @@ over list front rest cut none = sym (cut ∙ ap (λ l. front ++ l) (nil_from_len
 pub returns-clause-ok : goal.returns-clause-ok
 returns-clause-ok g c =
     let i = c.loop-piece.invariant.so_far in
-    subst (λ l. Appends (g.K.Sink.written c.args.sink.now) (g.K.Sink.written c.loop-piece.sink) (told_of c.args.case.now c.args.look.now 0 l)) (over c.args.list.now i.0 _ i.1 c.in-None.ensures.steps.1.0) i.4
+    subst (λ l. Appends (g.K.Sink.written c.args.sink.now) (g.K.Sink.written c.loop-piece.sink) (told_of c.args.screening.now.case.now c.args.screening.now.look 0 l)) (over c.args.list.now i.0 _ i.1 c.in-None.ensures.steps.1.0) i.4
 
 pub returns-clause-count : goal.returns-clause-count
 returns-clause-count g c =
     let i = c.loop-piece.invariant.so_far in
-    let look = c.args.look.now in
-    i.3 ∙ ap (told_count look.only (case_state c.args.case.now)) (over c.args.list.now i.0 _ i.1 c.in-None.ensures.steps.1.0)
+    let look = c.args.screening.now.look in
+    i.3 ∙ ap (told_count look.only (case_state c.args.screening.now.case.now)) (over c.args.list.now i.0 _ i.1 c.in-None.ensures.steps.1.0)

@@ -12,6 +12,6 @@ invariant-loop-piece g l = record {
   finite : (goal.iterator-loop-piece g).is_finite l.piece-iterator;
   size : chunks_size l.piece-iterator ≡ 1024;
   so_far : (front : List Contingency) × (l.list ≡ front ++ chunks_rest l.piece-iterator) × (l.first ≡ length front)
-      × (l.told ≡ told_count l.look.only (case_state l.case) front) × Appends (g.K.Sink.written l.fn.sink) (g.K.Sink.written l.sink) (told_of l.case l.look 0 front);
+      × (l.told ≡ told_count l.screening.look.only (case_state l.screening.case.now) front) × Appends (g.K.Sink.written l.fn.sink) (g.K.Sink.written l.sink) (told_of l.screening.case.now l.screening.look 0 front);
   same : g.K.Sink.faults l.sink ≡ g.K.Sink.faults l.fn.sink;
 }

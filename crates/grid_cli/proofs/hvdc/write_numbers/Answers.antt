@@ -1,5 +1,0 @@
-use Rattle.grid_report.proofs.Begun.{at_start}
-use Rattle.grid_cli.proofs.hvdc.write_numbers.Goals as goal
-
-pub returns-in-Err-clause-err : goal.returns-in-Err-clause-err
-returns-in-Err-clause-err g c = at_start _ _

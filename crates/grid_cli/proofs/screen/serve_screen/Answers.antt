@@ -1,0 +1,12 @@
+use Rattle.std.proofs.Common.{sym, ◌∙◌}
+use Rattle.grid_cli.proofs.Written.{served, calm, done_after}
+use Rattle.grid_cli.proofs.screen.serve_screen.Goals as goal
+
+pub returns-in-Ok-clause-outcome : goal.returns-in-Ok-clause-outcome
+returns-in-Ok-clause-outcome g c = rw c.status_of.ensures (served _ _ _ _ _ _ c.in-Ok.screened c.write_screen.result c.in-Ok.ensures.job c.write_screen.ensures.written)
+
+pub returns-in-Ok-clause-warning : goal.returns-in-Ok-clause-warning
+returns-in-Ok-clause-warning g c is = (c.in-Ok.screened, c.in-Ok.ensures.job, done_after c.write_screen.result c.write_screen.ensures.warning (sym c.status_of.ensures ∙ is))
+
+pub returns-in-Ok-clause-writes_stay : goal.returns-in-Ok-clause-writes_stay
+returns-in-Ok-clause-writes_stay g c other = calm c.write_screen.result _ _ c.write_screen.ensures.stays (λ told. other (c.status_of.ensures ∙ told))
