@@ -23,7 +23,13 @@ pub(crate) struct Case {
 pub(crate) const CASES: [Case; 10] = [
     Case {
         of_four: false,
-        scripts: r#"[],[],[{"do":"open","switch":"BC"}],[{"do":"bus_view","level":"VL"}],[{"do":"bus_view","level":"VL"}]"#,
+        scripts: r#"
+            [],
+            [],
+            [{"do": "open", "switch": "BC"}],
+            [{"do": "bus_view", "level": "VL"}],
+            [{"do": "bus_view", "level": "VL"}]
+        "#,
         stale: true,
         report: Some(
             r#"order 0 1 1 0
@@ -45,7 +51,13 @@ end
     },
     Case {
         of_four: false,
-        scripts: r#"[{"do":"open","switch":"BC"}],[],[{"do":"add_switch","id":"N","level":"VL","kind":"BREAKER","node1":3,"node2":5}],[{"do":"bus_view","level":"VL"}],[{"do":"bus_view","level":"VL"}]"#,
+        scripts: r#"
+            [{"do": "open", "switch": "BC"}],
+            [],
+            [{"do": "add_switch", "id": "N", "level": "VL", "kind": "BREAKER", "node1": 3, "node2": 5}],
+            [{"do": "bus_view", "level": "VL"}],
+            [{"do": "bus_view", "level": "VL"}]
+        "#,
         stale: true,
         report: Some(
             r#"order 0 0 1 1 0
@@ -65,7 +77,13 @@ end
     },
     Case {
         of_four: false,
-        scripts: r#"[{"do":"open","switch":"B"}],[],[{"do":"remove_switch","id":"B"}],[{"do":"connect","equipment":"LD"}],[{"do":"bus_view","level":"VL"}]"#,
+        scripts: r#"
+            [{"do": "open", "switch": "B"}],
+            [],
+            [{"do": "remove_switch", "id": "B"}],
+            [{"do": "connect", "equipment": "LD"}],
+            [{"do": "bus_view", "level": "VL"}]
+        "#,
         stale: true,
         report: Some(
             r#"order 0 0 1 1 0
@@ -84,7 +102,16 @@ end
     },
     Case {
         of_four: false,
-        scripts: r#"[],[],[{"do":"remove_switch","id":"BG"},{"do":"add_switch","id":"BG","level":"VL","kind":"BREAKER","node1":1,"node2":5}],[{"do":"bus_view","level":"VL"}],[{"do":"bus_view","level":"VL"}]"#,
+        scripts: r#"
+            [],
+            [],
+            [
+              {"do": "remove_switch", "id": "BG"},
+              {"do": "add_switch", "id": "BG", "level": "VL", "kind": "BREAKER", "node1": 1, "node2": 5}
+            ],
+            [{"do": "bus_view", "level": "VL"}],
+            [{"do": "bus_view", "level": "VL"}]
+        "#,
         stale: false,
         report: Some(
             r#"order 0 0 1 1 0
@@ -104,7 +131,13 @@ end
     },
     Case {
         of_four: false,
-        scripts: r#"[{"do":"clone","from":"InitialState","to":"VA"}],[{"do":"use","variant":"VA"}],[{"do":"remove","variant":"VA"}],[{"do":"bus_view","level":"VL"}],[{"do":"bus_view","level":"VL"}]"#,
+        scripts: r#"
+            [{"do": "clone", "from": "InitialState", "to": "VA"}],
+            [{"do": "use", "variant": "VA"}],
+            [{"do": "remove", "variant": "VA"}],
+            [{"do": "bus_view", "level": "VL"}],
+            [{"do": "bus_view", "level": "VL"}]
+        "#,
         stale: true,
         report: Some(
             r#"order 0 1 0 1 1 0
@@ -123,7 +156,18 @@ end
     },
     Case {
         of_four: false,
-        scripts: r#"[{"do":"clone","from":"InitialState","to":"VA"},{"do":"clone","from":"InitialState","to":"VB"},{"do":"use","variant":"VB"},{"do":"open","switch":"BC"}],[{"do":"use","variant":"VA"}],[{"do":"clone","from":"VB","to":"VA","overwrite":true}],[{"do":"bus_view","level":"VL"}],[{"do":"bus_view","level":"VL"}]"#,
+        scripts: r#"
+            [
+              {"do": "clone", "from": "InitialState", "to": "VA"},
+              {"do": "clone", "from": "InitialState", "to": "VB"},
+              {"do": "use", "variant": "VB"},
+              {"do": "open", "switch": "BC"}
+            ],
+            [{"do": "use", "variant": "VA"}],
+            [{"do": "clone", "from": "VB", "to": "VA", "overwrite": true}],
+            [{"do": "bus_view", "level": "VL"}],
+            [{"do": "bus_view", "level": "VL"}]
+        "#,
         stale: true,
         report: Some(
             r#"order 0 0 0 0 1 0 1 1 0
@@ -150,7 +194,13 @@ end
     },
     Case {
         of_four: false,
-        scripts: r#"[{"do":"clone","from":"InitialState","to":"VA"}],[{"do":"use","variant":"VA"}],[{"do":"open","switch":"BC"}],[{"do":"bus_view","level":"VL"}],[{"do":"bus_view","level":"VL"}]"#,
+        scripts: r#"
+            [{"do": "clone", "from": "InitialState", "to": "VA"}],
+            [{"do": "use", "variant": "VA"}],
+            [{"do": "open", "switch": "BC"}],
+            [{"do": "bus_view", "level": "VL"}],
+            [{"do": "bus_view", "level": "VL"}]
+        "#,
         stale: false,
         report: Some(
             r#"order 0 1 0 1 1 0
@@ -172,7 +222,16 @@ end
     },
     Case {
         of_four: false,
-        scripts: r#"[{"do":"clone","from":"InitialState","to":"VA"}],[{"do":"use","variant":"VA"}],[{"do":"remove","variant":"VA"},{"do":"clone","from":"InitialState","to":"VA"}],[{"do":"disconnect","equipment":"LD"}],[{"do":"bus_view","level":"VL"}]"#,
+        scripts: r#"
+            [{"do": "clone", "from": "InitialState", "to": "VA"}],
+            [{"do": "use", "variant": "VA"}],
+            [
+              {"do": "remove", "variant": "VA"},
+              {"do": "clone", "from": "InitialState", "to": "VA"}
+            ],
+            [{"do": "disconnect", "equipment": "LD"}],
+            [{"do": "bus_view", "level": "VL"}]
+        "#,
         stale: false,
         report: Some(
             r#"order 0 1 0 0 1 1 0
@@ -193,7 +252,13 @@ end
     },
     Case {
         of_four: true,
-        scripts: r#"[],[],[{"do":"add_level","id":"E","substation":"S1","nominal_v":90000}],[{"do":"bus_view","level":"D"}],[{"do":"bus_view","level":"D"}]"#,
+        scripts: r#"
+            [],
+            [],
+            [{"do": "add_level", "id": "E", "substation": "S1", "nominal_v": 90000}],
+            [{"do": "bus_view", "level": "D"}],
+            [{"do": "bus_view", "level": "D"}]
+        "#,
         stale: false,
         report: Some(
             r#"order 0 1 1 0
@@ -212,7 +277,16 @@ end
     },
     Case {
         of_four: false,
-        scripts: r#"[],[],[],[{"do":"bus_view","level":"VL"},{"do":"connect","equipment":"LD"}],[{"do":"bus_view","level":"VL"}]"#,
+        scripts: r#"
+            [],
+            [],
+            [],
+            [
+              {"do": "bus_view", "level": "VL"},
+              {"do": "connect", "equipment": "LD"}
+            ],
+            [{"do": "bus_view", "level": "VL"}]
+        "#,
         stale: true,
         report: None,
     },

@@ -187,7 +187,23 @@ fn tasks_keep_what_they_need(rt: HostRuntime) -> Result<(), Fail> {
     expect_kept(
         &rt,
         rt.alloc(),
-        r#"[{"do":"clone","from":"InitialState","to":"V1"},{"do":"use","variant":"V1"},{"do":"connect","equipment":"LC"},{"do":"clone","from":"InitialState","to":"V2"},{"do":"use","variant":"V2"},{"do":"disconnect","equipment":"LC"},{"do":"clone","from":"InitialState","to":"V3"},{"do":"use","variant":"V3"},{"do":"bus_breaker_view","level":"C"},{"do":"clone","from":"InitialState","to":"V4"},{"do":"use","variant":"V4"},{"do":"bus_view","level":"A"},{"do":"clone","from":"InitialState","to":"V5"},{"do":"use","variant":"V5"},{"do":"components","level":"A"}]"#,
+        r#"[
+          {"do": "clone", "from": "InitialState", "to": "V1"},
+          {"do": "use", "variant": "V1"},
+          {"do": "connect", "equipment": "LC"},
+          {"do": "clone", "from": "InitialState", "to": "V2"},
+          {"do": "use", "variant": "V2"},
+          {"do": "disconnect", "equipment": "LC"},
+          {"do": "clone", "from": "InitialState", "to": "V3"},
+          {"do": "use", "variant": "V3"},
+          {"do": "bus_breaker_view", "level": "C"},
+          {"do": "clone", "from": "InitialState", "to": "V4"},
+          {"do": "use", "variant": "V4"},
+          {"do": "bus_view", "level": "A"},
+          {"do": "clone", "from": "InitialState", "to": "V5"},
+          {"do": "use", "variant": "V5"},
+          {"do": "components", "level": "A"}
+        ]"#,
         ("A", "C"),
         &[(false, false), (false, false), (false, true), (true, false)],
     )

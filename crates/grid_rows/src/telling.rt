@@ -36,8 +36,14 @@ fn updates_of(alloc: Global, variant: &str) -> Result<Filter, Fail> {
 }
 
 // A variant in which the coupler is opened twice, and the same coupler opened in the initial one.
-const OPENS: &str =
-    r#"[{"do":"open","switch":"BC"},{"do":"clone","from":"InitialState","to":"VA"},{"do":"use","variant":"VA"},{"do":"close","switch":"BC"},{"do":"open","switch":"ZZ"},{"do":"close","switch":"BC"}]"#;
+const OPENS: &str = r#"[
+  {"do": "open", "switch": "BC"},
+  {"do": "clone", "from": "InitialState", "to": "VA"},
+  {"do": "use", "variant": "VA"},
+  {"do": "close", "switch": "BC"},
+  {"do": "open", "switch": "ZZ"},
+  {"do": "close", "switch": "BC"}
+]"#;
 
 /// Makes the steps of a script in a world of one worker, and tells them: the journal of those that were made.
 fn tell<L: Listener>(
