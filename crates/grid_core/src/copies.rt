@@ -23,6 +23,14 @@ const MOST_KEPT_EDGES: u32 = 4_000_000;
 /// The most edges of a level.
 const MOST_EDGES: u32 = 4096;
 
+/// What the world has counted at a time: about how many switches moved, and how often a level was asked for. It decides
+/// only what is worth keeping.
+#[derive(Clone, Copy)]
+pub(crate) struct Pace {
+    moves: u64,
+    asks: u64,
+}
+
 /// Levels of a structure by their places, each copied when it was first asked for, so that it can be read while the
 /// structure is not. It is seen as the list of the pairs of a place and the level there, by rising place.
 #[derive(Drop)]
@@ -30,6 +38,15 @@ pub(crate) struct Copies {
     levels: BTreeMap<u32, Shared<Level>>,
     // How many edges the levels have that benches took since all benches were empty.
     taken: u32,
+    pace: Pace,
+}
+
+impl Pace {
+    /// Whether at most so many switches moved for each ask from one time to another.
+    pub(crate) fn is_slow(self, since: Pace, most: u64) -> bool {
+        let asks = self.asks.saturating_sub(since.asks);
+        self.moves.saturating_sub(since.moves) <= asks.saturating_mul(most)
+    }
 }
 
 impl Model for Copies {
@@ -48,6 +65,7 @@ impl Copies {
         Copies {
             levels: BTreeMap::new(alloc),
             taken: 0,
+            pace: Pace { moves: 0, asks: 0 },
         }
     }
 
@@ -68,6 +86,22 @@ impl Copies {
         ensures { self.new ≡ self.old }
     {
         self.taken = 0;
+    }
+
+    /// Counts switches that moved, or other changes.
+    pub(crate) fn count_moves(&mut self, moves: u64)
+        ensures { self.new ≡ self.old }
+    {
+        self.pace.moves = self.pace.moves.saturating_add(moves);
+    }
+
+    /// Counts an ask for a level, and answers what was counted till then.
+    pub(crate) fn count_ask(&mut self) -> Pace
+        ensures { self.new ≡ self.old }
+    {
+        let pace = self.pace;
+        self.pace.asks = pace.asks.saturating_add(1);
+        pace
     }
 
     /// Whether a bench may take one level more, whatever edges it has.

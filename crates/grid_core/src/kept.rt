@@ -196,8 +196,18 @@ fn follow_slots(alloc: Global, all: &mut Vec<SlotKept>, touched: Touched)
     }
 }
 
+// As how many moves a request counts that changes something: each switch of a plan, and else one. Watts move nothing.
+fn moves_of(request: &Request, reply: &Reply) -> u64 {
+    match (request, reply) {
+        (Request::SetPower { .. }, _) => 0,
+        (_, Reply::Closed(ids) | Reply::Opened(ids)) => ids.get().len() as u64,
+        _ => 1,
+    }
+}
+
 /// Lets go what a request may have made wrong: after an accepted edit what is kept of the levels that it touches, unless
-/// levels and branches are as before; and where flags may have changed, that all buses are kept under them.
+/// levels and branches are as before; and where flags may have changed, that all buses are kept under them. Of switches
+/// that may have moved it counts how many.
 pub(crate) fn follow(
     alloc: Global,
     all: &mut Kept,
@@ -214,6 +224,7 @@ pub(crate) fn follow(
     if leaves(request) {
         return;
     }
+    all.copies.count_moves(moves_of(request, reply));
     if accepts(request, reply) {
         all.copies.follow(alloc, touched);
         follow_slots(alloc, &mut all.slots, touched);

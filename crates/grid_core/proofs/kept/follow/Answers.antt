@@ -1,7 +1,8 @@
-use Rattle.std.proofs.Common.{sym, ◌∙◌, ap}
+use Rattle.std.proofs.Common.{sym, ◌∙◌, ap, subst}
 use Rattle.grid_structure.specs.Network.{Network}
 use Rattle.grid_structure.specs.Sites.{levels}
 use Rattle.grid_requests.specs.Changes.{structure_after}
+use Rattle.grid_core.specs.Copied.{AreCopies}
 use Rattle.grid_core.proofs.BySlot.{forgotten_so}
 use Rattle.grid_core.proofs.Sharing.{copies_same}
 use Rattle.grid_core.proofs.Left.{left_so}
@@ -17,7 +18,7 @@ returns-then-accepts c net before after k touch stays refused =
     let next = structure_after net c.args.request.now in
     record {
       slots = c.follow_slots.ensures net next before after touch k.slots;
-      copies = c.follow.ensures net next touch k.copies;
+      copies = c.follow.ensures net next touch (subst (AreCopies net) (sym c.count_moves.ensures) k.copies);
     }
 
 pub returns-else-accepts : goal.returns-else-accepts
@@ -25,5 +26,5 @@ returns-else-accepts c net before after k touch stays refused =
     let same = refused (sym c.accepts.ensures ∙ c.if-accepts.false) in
     record {
       slots = forgotten_so net (structure_after net c.args.request.now) before after c.args.all.now.slots.items c.forget.new.all.items c.forget.ensures same k.slots;
-      copies = copies_same net (structure_after net c.args.request.now) c.args.all.now.copies (ap (λ (n : Network). levels n) same) k.copies;
+      copies = subst (AreCopies (structure_after net c.args.request.now)) (sym c.count_moves.ensures) (copies_same net (structure_after net c.args.request.now) c.args.all.now.copies (ap (λ (n : Network). levels n) same) k.copies);
     }

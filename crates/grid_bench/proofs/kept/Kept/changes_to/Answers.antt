@@ -14,10 +14,9 @@ returns-then-changes-le2-clause-can c =
     let new = content c.args.level.now c.args.opened.now c.args.retained.now in
     let here : c.self.inside.level ≡ now.level = ap (λ (z : Content). z.level) c.self.view_is in
     let P : VoltageLevel → Type 0 = λ z. SameEnds z c.args.level.now in
-    let S : VoltageLevel → Type 0 = λ z. SameEnds c.get-kept.result.now z in
     let counted : c.count_changes-changes.result ≡ count_changes now new = c.count_changes-changes.ensures in
     let few : count_changes now new ≤ 2 = omega (arith, counted, c.if-changes-le2.true) in
-    (λ t. can_of_few now new (subst P (c.get-kept.ensures ∙ here) (subst S c.get-given.ensures (c.same_ends.ensures.0 c.if-not-same_ends.false))) few, λ can. refl)
+    (λ t. can_of_few now new (subst P (c.get-kept.ensures ∙ here) (c.same_ends.ensures.0 c.if-not-same_ends.false)) few, λ can. refl)
 
 pub returns-then-changes-le2-clause-changes : goal.returns-then-changes-le2-clause-changes
 unfolding count_changes differs_at
@@ -30,13 +29,11 @@ returns-else-same-clause-can c =
     let new = content c.args.level.now c.args.opened.now c.args.retained.now in
     let here : c.self.inside.level ≡ now.level = ap (λ (z : Content). z.level) c.self.view_is in
     let P : VoltageLevel → Type 0 = λ z. SameEnds z c.args.level.now in
-    let S : VoltageLevel → Type 0 = λ z. SameEnds c.get-kept.result.now z in
-    let Q : VoltageLevel → Type 0 = λ z. IsTrue c.same.result ↔ (c.get-kept.result.now ≡ z) in
     let R : VoltageLevel → Type 0 = λ z. IsTrue c.same.result ↔ (z ≡ c.args.level.now) in
     let counted : c.count_changes-changes.result ≡ count_changes now new = c.count_changes-changes.ensures in
     let many : 2 < count_changes now new = omega (arith, counted, c.if-changes-le2.false) in
     let near : count_changes now new ≤ most_followed = omega (arith, counted, c.if-changes-gt-MOST_FOLLOWED.false) in
-    let can = can_where_same now new c.same.result (subst P (c.get-kept.ensures ∙ here) (subst S c.get-given.ensures (c.same_ends.ensures.0 c.if-not-same_ends.false))) many near (subst R (c.get-kept.ensures ∙ here) (subst Q c.get-given.ensures c.same.ensures)) in
+    let can = can_where_same now new c.same.result (subst P (c.get-kept.ensures ∙ here) (c.same_ends.ensures.0 c.if-not-same_ends.false)) many near (subst R (c.get-kept.ensures ∙ here) c.same.ensures) in
     (λ t. absurd (false≢true t), λ follows. sym c.if-same.false ∙ can.1 follows)
 
 pub returns-then-changes-gt-MOST_FOLLOWED-clause-can : goal.returns-then-changes-gt-MOST_FOLLOWED-clause-can
