@@ -1,6 +1,6 @@
 -- The text that is still to come of a report, one block less at a time.
-use Rattle.std.proofs.Common.{◌≡◌, ℕ, suc, ◌+◌, ◌-◌, ◌<◌, ◌≤◌, ◌==◌, cond, Some, List, [], ◌∷◌, ◌++◌, drop, get_or, length, sym, ap, ◌∙◌, length-append, drop-cons, arith, add-one}
-use Rattle.std.specs.Prelude.{Option, None, IfSome, filter}
+use Rattle.std.proofs.Common.{◌≡◌, ℕ, suc, ◌+◌, ◌-◌, ◌<◌, ◌≤◌, ◌==◌, cond, Some, List, [], ◌∷◌, ◌++◌, drop, get_or, length, sym, ap, ◌∙◌, length-append, append_assoc, drop-cons, arith, add-one}
+use Rattle.std.specs.Prelude.{Option, None, IfSome, filter, codes}
 use Rattle.std.specs.List.{flat_map, range_with_len}
 use Rattle.std.proofs.lemmas.Bool.{eq-eqb, ne_eqb}
 use Rattle.std.proofs.lemmas.List.{drop_all, nil_from_length}
@@ -9,13 +9,14 @@ use Rattle.grid_events.specs.declared.event.Event.{Event}
 use Rattle.grid_events.specs.declared.filter.Filter.{Filter}
 use Rattle.grid_events.specs.Filters.{matches}
 use Rattle.grid_core.specs.declared.journal.Entry.{Entry}
+use Rattle.grid_report.specs.declared.outcome.Outcome.{Outcome}
 use Rattle.grid_report.specs.declared.plan.Block.{Block}
 use Rattle.grid_report.specs.declared.plan.Block.TheVariants as blocks
 use Rattle.grid_report.specs.Lines.{level_text}
 use Rattle.grid_report.specs.Events.{event_text, event_line}
-use Rattle.grid_report.specs.Outcomes.{numbered, order_line, worker_line, step_text, steps_by, variant_line, listener_line}
+use Rattle.grid_report.specs.Outcomes.{numbered, order_line, worker_line, step_text, steps_by, variant_line, variant_text, listener_line, listener_text, report_of}
 use Rattle.grid_report.specs.Blocks.{block_text}
-use Rattle.grid_report.specs.Cursors.{lines_for, Gives}
+use Rattle.grid_report.specs.Cursors.{lines_for, Gives, front_of, back_of}
 
 drop_next : {X : Type 0} (xs : List X) (i : ℕ) (x : X) → i < length xs → x ≡ get_or xs i x → drop i xs ≡ x ∷ drop (i + 1) xs
 drop_next xs i x lt is = drop-cons xs i x lt ∙ ap (λ w. w ∷ drop (suc i) xs) (sym is) ∙ ap (λ n. x ∷ drop n xs) (sym (add-one i))
@@ -116,3 +117,13 @@ less_left block before after e =
 pub less_given : (next : Option Block) (before after : List ℕ) → Gives before next after → IfSome next (λ _. length after < length before)
 less_given None before after e = tt
 less_given (Some block) before after e = less_left block before after e
+
+-- ---- a report in three parts
+
+pub three_parts : (o : Outcome) → report_of o ≡ front_of o ++ (flat_map variant_text o.views ++ back_of o)
+unfolding report_of
+three_parts o =
+    let front = front_of o in
+    let variants = flat_map variant_text o.views in
+    let listeners = numbered (listener_text o.journal) 0 o.filters in
+    append_assoc (front ++ variants) listeners (codes "end\n") ∙ append_assoc front variants (back_of o)

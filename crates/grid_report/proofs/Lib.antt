@@ -1,3 +1,4 @@
+mod Renewed
 pub mod Begun
 pub mod Coming
 pub mod Listening

@@ -5,7 +5,7 @@ ghost use Rattle.std.specs.List.{flat_map, range_with_len};
 ghost use Rattle.grid_events.specs.Filters.{matches};
 ghost use Rattle.grid_report.specs.Events.{event_line};
 ghost use Rattle.grid_report.specs.Outcomes.{numbered, step_text, steps_by, worker_text, variant_text, heard_in, listener_text, report_of};
-ghost use Rattle.grid_report.specs.Cursors.{Gives};
+ghost use Rattle.grid_report.specs.Cursors.{Gives, front_of, back_of};
 
 use crate::outcome::{Outcome, VariantView};
 use crate::plan::Block;
@@ -335,6 +335,36 @@ impl<'a> Report<'a> {
             journal,
             workers: Workers::of(journal, outcome.workers),
             variants: Variants::of(outcome.views.slice()),
+            listeners: Listeners::of(journal, outcome.filters.slice()),
+            is_ended: false,
+        }
+    }
+
+    /// The report up to the variants.
+    pub(crate) fn front(outcome: &'a Outcome) -> Report<'a>
+        ensures { result ≡ front_of outcome.now }
+    {
+        let journal = outcome.journal.slice();
+        Report {
+            is_ordered: false,
+            journal,
+            workers: Workers::of(journal, outcome.workers),
+            variants: Variants::of(&[]),
+            listeners: Listeners::of(journal, &[]),
+            is_ended: true,
+        }
+    }
+
+    /// The report behind the variants.
+    pub(crate) fn back(outcome: &'a Outcome) -> Report<'a>
+        ensures { result ≡ back_of outcome.now }
+    {
+        let journal = outcome.journal.slice();
+        Report {
+            is_ordered: true,
+            journal,
+            workers: Workers::of(journal, 0),
+            variants: Variants::of(&[]),
             listeners: Listeners::of(journal, outcome.filters.slice()),
             is_ended: false,
         }

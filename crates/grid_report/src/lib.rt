@@ -14,6 +14,7 @@ mod refusal;
 mod reply;
 mod report;
 mod text;
+mod variants;
 
 pub use bus::{put_bus_name, put_flows, put_terminals};
 pub use command::put_command;

@@ -9,7 +9,7 @@ ghost use Rattle.grid_report.specs.Outcomes.{report_of};
 
 use crate::cursors::Report;
 use crate::outcome::Outcome;
-use crate::pieces::{Pieces, ReportFault};
+use crate::pieces::{Pieces, ReportFault, put_texts};
 use crate::plan::Block;
 use crate::text::{Shown, Text};
 use grid_ids::Memory;
@@ -78,23 +78,6 @@ fn portion_of<'a>(
         blocks.push(block)?;
     }
     Ok(blocks)
-}
-
-// Hands texts to the sink, behind the bytes that wait.
-fn put_texts<K: Sink>(pieces: &mut Pieces, sink: &mut K, texts: &[Text]) -> Result<(), ReportFault>
-    ensures ok { OnOk result (Appends (append_known (K.written sink.old) pieces.old)
-        (append_known (K.written sink.new) pieces.new) (flat_map (λ t. t) texts.now)) }
-    ensures err { OnErr result (IsBegun (append_known (K.written sink.old) pieces.old)
-        (flat_map (λ t. t) texts.now) (K.written sink.new)) }
-    ensures later { K.faults sink.old ≤ K.faults sink.new }
-    ensures cause { result ≡ Err ReportFault.Stopped
-        → Rose (K.faults sink.old) (K.faults sink.new) }
-    ensures stays { result ≢ Err ReportFault.Stopped → K.faults sink.new ≡ K.faults sink.old }
-{
-    for text in texts {
-        pieces.put(sink, text.as_bytes())?;
-    }
-    Ok(())
 }
 
 /// Writes the report of an outcome as `write_report` does, where several threads make its text, a portion of which is

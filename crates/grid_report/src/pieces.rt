@@ -1,9 +1,11 @@
 // Bytes that are handed to a sink in pieces of one size.
 ghost use Rattle.std.specs.Prelude.{◌≡◌, ◌≢◌, ◌<◌, ◌≤◌, ℕ, List, [], length, take, OnOk, OnErr, Err};
+ghost use Rattle.std.specs.List.{flat_map};
 ghost use Rattle.std.specs.Io.KnownBytes.{Appends, append_known};
 ghost use Rattle.grid_source.specs.Causes.{Rose};
 ghost use Rattle.grid_source.specs.Whole.{IsBegun};
 
+use crate::text::Text;
 use grid_ids::Memory;
 use grid_source::{PIECE, Sink, write_all};
 use std::alloc::Global;
@@ -84,6 +86,27 @@ impl Pieces {
     {
         hand_over(&mut self.buffer, sink)
     }
+}
+
+/// Hands texts to the sink, behind the bytes that wait.
+pub(crate) fn put_texts<K: Sink>(
+    pieces: &mut Pieces,
+    sink: &mut K,
+    texts: &[Text],
+) -> Result<(), ReportFault>
+    ensures ok { OnOk result (Appends (append_known (K.written sink.old) pieces.old)
+        (append_known (K.written sink.new) pieces.new) (flat_map (λ t. t) texts.now)) }
+    ensures err { OnErr result (IsBegun (append_known (K.written sink.old) pieces.old)
+        (flat_map (λ t. t) texts.now) (K.written sink.new)) }
+    ensures later { K.faults sink.old ≤ K.faults sink.new }
+    ensures cause { result ≡ Err ReportFault.Stopped
+        → Rose (K.faults sink.old) (K.faults sink.new) }
+    ensures stays { result ≢ Err ReportFault.Stopped → K.faults sink.new ≡ K.faults sink.old }
+{
+    for text in texts {
+        pieces.put(sink, text.as_bytes())?;
+    }
+    Ok(())
 }
 
 /// The same over the bytes that wait.

@@ -1,7 +1,7 @@
 use Rattle.std.proofs.Common.{ℕ, List}
 use Rattle.grid_lemmas.proofs.Results.{on_err}
 use Rattle.grid_report.proofs.Begun.{within, cut_at}
-use Rattle.grid_report.proofs.parallel.put_texts.Goals as goal
+use Rattle.grid_report.proofs.pieces.put_texts.Goals as goal
 
 pub returns-in_err-put-clause-err : goal.returns-in_err-put-clause-err
 returns-in_err-put-clause-err g c =

@@ -1,7 +1,7 @@
 use Rattle.std.proofs.Common.{◌≡◌, ℕ, List, take}
 use Rattle.std.specs.List.{flat_map}
 use Rattle.std.specs.Io.KnownBytes.{Appends, append_known}
-use Rattle.grid_report.proofs.parallel.put_texts.Given as goal
+use Rattle.grid_report.proofs.pieces.put_texts.Given as goal
 
 -- the texts so far were written or wait
 abbrev pub invariant-loop-text : goal.invariant-loop-text
