@@ -7,6 +7,8 @@ use grid_lines::{Around, Fault, ending, usage_text};
 use grid_manager::Idle;
 use grid_report::Text;
 use grid_source::{Input, StdSink, StdSource};
+use grid_structure::Seeded;
+use std::hash::RandomState;
 use std::io::Read;
 use std::process::ExitCode;
 use std::{env, fs, io};
@@ -80,17 +82,29 @@ fn warn(rt: &HostRuntime, warning: &Text) {
     }
 }
 
+/// The allocator, and a seed for the tables of ids of this run: whoever writes a job cannot know it.
+fn seeded_by(rt: &HostRuntime) -> io::Result<Seeded> {
+    Ok(Seeded {
+        alloc: rt.alloc(),
+        hasher: RandomState::new(rt)?,
+    })
+}
+
 fn main(rt: HostRuntime) -> ExitCode {
     let words = match words_of(&rt) {
         Ok(words) => words,
         Err(status) => return exit_with(&rt, None, status, &[]),
+    };
+    let Ok(seeded) = seeded_by(&rt) else {
+        tell(&rt, &Fault::NoRandomBytes);
+        return ExitCode::from(Status::ReadFault.number());
     };
     let mut input = Input::new(rt.alloc(), StdSource::new(rt.reader()));
     let mut sink = StdSink::new(io::writer(&rt));
     let mut warning = Text::empty(rt.alloc());
     let status = grid(
         &rt,
-        rt.alloc(),
+        seeded,
         words.as_slice(),
         &mut input,
         &mut sink,

@@ -9,7 +9,7 @@ use Rattle.grid_groups.specs.Labels.{index_in}
 use Rattle.grid_queue.specs.declared.net.NetEdge.{NetEdge}
 use Rattle.grid_queue.specs.Net.{NetShape, shape}
 use Rattle.grid_busbreaker.specs.Labelled.{passing_flags}
-use Rattle.grid_bench.specs.Nets.{switch_net_edge, internal_net_edge, switch_net_edges, net_edges, net_where, closed_flags}
+use Rattle.grid_groups.specs.Nets.{switch_net_edge, internal_net_edge, switch_net_edges, net_edges, net_where, closed_flags}
 use Rattle.grid_level.specs.Passing as passing
 use Rattle.grid_bench.specs.Ends.{all_ends, SameEnds}
 use Rattle.grid_bench.specs.declared.shown.Shown.{Shown}

@@ -6,7 +6,7 @@ use Rattle.grid_graph.specs.Components.{places}
 use Rattle.grid_level.specs.Passing.{nodes}
 use Rattle.grid_bench.specs.Contents.{Content}
 use Rattle.grid_bench.specs.Costs.{flag_at, differs_at, count_changes, IsFar, CostsAtMost}
-use Rattle.grid_bench.proofs.Following.{beq_refl}
+use Rattle.grid_bench.proofs.FlagUpdates.{beq_refl}
 
 none_counted : (p : ℕ → Bool) (xs : List ℕ) → ((x : ℕ) → p x ≡ false) → count_by p xs ≡ 0
 none_counted p [] h = refl

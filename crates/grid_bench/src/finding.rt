@@ -1,9 +1,10 @@
-// What a bench finds of a level: its views where the level is kept, and its plans, by the labels that are at hand.
+// What a bench finds of a level: its views where the level is kept, and its plans, by the net that is at hand.
 ghost use Rattle.std.specs.Prelude.{◌≡◌, ◌<◌, IfOk, IfSome, OnOk, OnErr, IsTrue, IsSome, Some, None, length};
 ghost use Rattle.grid_graph.specs.Graph.{labels_of};
-ghost use Rattle.grid_level.specs.Passing.{nodes, bus, positioned, stood};
+ghost use Rattle.grid_level.specs.Passing.{nodes, positioned, stood};
 ghost use Rattle.grid_level.specs.Kept.{among};
-ghost use Rattle.grid_groups.specs.Labels.{graph_under};
+ghost use Rattle.grid_groups.specs.Nets.{net_where, closed_flags};
+ghost use Rattle.grid_queue.specs.Net.{passing_graph};
 ghost use Rattle.grid_busbreaker.specs.Views.{bus_breaker_view_of};
 ghost use Rattle.grid_busview.specs.Views.{bus_view_of};
 ghost use Rattle.grid_connect.specs.Plans.{connect_plan_of, disconnect_plan_of};
@@ -15,11 +16,10 @@ use crate::kept::Kept;
 use grid_busbreaker::{BusBreakerView, bus_breaker_from};
 use grid_busview::{BusView, bus_view_from};
 use grid_connect::{
-    ConnectPlan, DisconnectPlan, plan_connect, plan_connect_from, plan_disconnect,
+    ConnectPlan, DisconnectPlan, LabelledNet, plan_connect, plan_connect_from, plan_disconnect,
     plan_disconnect_from,
 };
 use grid_ids::{Duplicate, Id, Memory, Seq};
-use grid_labels::Labels;
 use grid_level::{Level, Values};
 use grid_queue::Counts;
 use grid_shared::Shared;
@@ -43,27 +43,29 @@ impl Bench {
         self.find(level).unwrap()
     }
 
-    // The labels that are kept of a level under the rule of the bus view, where they are those of the level with these
-    // flags.
-    fn labels_kept(
+    // The net that is kept of a level under the rule of the bus view, with its labels, where it is that of the level with
+    // these flags.
+    fn net_kept(
         &self,
         level: &Shared<Level>,
         opened: &[bool],
         retained: &[bool],
-    ) -> Option<&Labels>
+    ) -> Option<LabelledNet<'_>>
         requires opened { length opened.now ≡ length level.now.switches }
         requires retained { length retained.now ≡ length level.now.switches }
-        ensures { IfSome result (λ labels. labels.now
-            ≡ labels_of (graph_under bus (positioned level.now opened.now))) }
+        ensures net { IfSome result (λ kept. kept.net.now
+            ≡ net_where level.now (closed_flags opened.now)) }
+        ensures labels { IfSome result (λ kept. kept.labels.now
+            ≡ labels_of (passing_graph kept.net.now)) }
     {
         match self.find(level.get().id()) {
-            Some(kept) => kept.bus_labels_under(level, opened, retained),
+            Some(kept) => kept.bus_net_under(level, opened, retained),
             None => None,
         }
     }
 
-    /// The plan that connects a node of a level whose switches have these flags. It takes the labels that are kept,
-    /// where they are those of the level as it stands, and else makes them.
+    /// The plan that connects a node of a level whose switches have these flags. It goes by the net that is kept,
+    /// where it is that of the level as it stands, and else makes one.
     pub fn connect(
         &self,
         level: &Shared<Level>,
@@ -77,14 +79,14 @@ impl Bench {
         ensures { IfOk result (λ plan. plan
             ≡ connect_plan_of (positioned level.now opened.now) node) }
     {
-        match self.labels_kept(level, opened, retained) {
-            Some(labels) => plan_connect_from(self.alloc(), level.get(), opened, node, labels),
+        match self.net_kept(level, opened, retained) {
+            Some(kept) => plan_connect_from(self.alloc(), level.get(), opened, node, &kept),
             None => plan_connect(self.alloc(), level.get(), opened, node),
         }
     }
 
-    /// The plan that disconnects a node of a level whose switches have these flags. It takes the labels that are kept,
-    /// where they are those of the level as it stands, and else makes them.
+    /// The plan that disconnects a node of a level whose switches have these flags. It goes by the net that is kept,
+    /// where it is that of the level as it stands, and else makes one.
     pub fn disconnect(
         &self,
         level: &Shared<Level>,
@@ -98,8 +100,8 @@ impl Bench {
         ensures { IfOk result (λ plan. plan
             ≡ disconnect_plan_of (positioned level.now opened.now) node) }
     {
-        match self.labels_kept(level, opened, retained) {
-            Some(labels) => plan_disconnect_from(self.alloc(), level.get(), opened, node, labels),
+        match self.net_kept(level, opened, retained) {
+            Some(kept) => plan_disconnect_from(self.alloc(), level.get(), opened, node, &kept),
             None => plan_disconnect(self.alloc(), level.get(), opened, node),
         }
     }

@@ -3,10 +3,12 @@ ghost use Rattle.std.specs.Prelude.{◌≡◌, ◌≤◌, ◌+◌, ◌*◌, IfOk
 ghost use Rattle.grid_graph.specs.Graph.{labels_of};
 ghost use Rattle.grid_level.specs.Passing.{nodes};
 ghost use Rattle.grid_queue.specs.Net.{with_passing, passing_graph};
-ghost use Rattle.grid_bench.specs.Nets.{net_where, net_pair, IsEdgeOf};
+ghost use Rattle.grid_groups.specs.Nets.{net_where};
+ghost use Rattle.grid_bench.specs.Nets.{net_pair, IsEdgeOf};
 ghost use Rattle.grid_bench.specs.Costs.{set_cost};
 
 use crate::nets::Labelled;
+use grid_connect::LabelledNet;
 use grid_groups::NodeIndices;
 use grid_ids::{Memory, same_items};
 use grid_labels::Labels;
@@ -128,6 +130,14 @@ impl ViewNets {
         ensures { result.now ≡ labels_of (passing_graph self.now.bus) }
     {
         self.bus.labels()
+    }
+
+    /// The net of the bus view with its labels.
+    pub(crate) fn bus_net(&self) -> LabelledNet<'_>
+        ensures net { result.net.now ≡ self.now.bus }
+        ensures labels { result.labels.now ≡ labels_of (passing_graph self.now.bus) }
+    {
+        self.bus.lent()
     }
 
     /// The labels of the net of the bus/breaker view.

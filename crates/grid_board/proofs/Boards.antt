@@ -13,7 +13,7 @@ use Rattle.grid_board.specs.Boards.{IsBoard}
 use Rattle.grid_board.specs.Current.{IsAsked}
 use Rattle.grid_board.specs.Edits.{edits_asked}
 use Rattle.grid_board.specs.Questions.{about}
-use Rattle.grid_board.proofs.Unedited.{asking_is_no_edit}
+use Rattle.grid_board.proofs.UnchangedStructures.{asking_is_no_edit}
 use Rattle.grid_board.proofs.Edits.{edits_of_none, edits_of_edit, edits_of_other}
 
 -- at first

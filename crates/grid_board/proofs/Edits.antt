@@ -17,9 +17,9 @@ use Rattle.grid_core.specs.Worlds.{worker_live, worker_state}
 use Rattle.grid_core.proofs.Lineages.{structure_of_lineage}
 use Rattle.grid_board.specs.Edits.{is_edit, edits_asked, WasPresent, IsTakenFor}
 use Rattle.grid_board.specs.Questions.{part_with, part_of, asked_of}
-use Rattle.grid_board.proofs.Based.{level_of_base}
-use Rattle.grid_board.proofs.Unedited.{no_edit_stays}
-use Rattle.grid_board.proofs.Questioning.{present_live, present_dead, asks_only}
+use Rattle.grid_board.proofs.BaseLevels.{level_of_base}
+use Rattle.grid_board.proofs.UnchangedStructures.{no_edit_stays}
+use Rattle.grid_board.proofs.PresentQuestions.{present_live, present_dead, asks_only}
 
 -- ---- counting
 

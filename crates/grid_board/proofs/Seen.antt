@@ -11,7 +11,7 @@ use Rattle.grid_watts.specs.Nodes.{listed_row}
 use Rattle.grid_bench.specs.declared.base.BaseLevel.{BaseLevel}
 use Rattle.grid_core.specs.Solo.{State, level_at}
 use Rattle.grid_core.specs.Fitting.{StateFits}
-use Rattle.grid_core.proofs.Looking.{row_listed}
+use Rattle.grid_core.proofs.VariantViews.{row_listed}
 use Rattle.grid_core.proofs.Ranges.{rows_of_levels}
 use Rattle.grid_board.specs.Current.{IsSeen}
 use Rattle.grid_board.specs.Questions.{part_with, part_of, base_of}

@@ -4,16 +4,24 @@ use grid_cli::grid_once;
 use grid_forms::Status;
 use grid_report::Text;
 use grid_source::{Input, SureSink, SureSource};
+use grid_structure::Seeded;
 use std::alloc::Global;
 use std::io;
 
 /// How a check of these bytes ends, where nothing is written.
-fn checked(alloc: Global, bytes: Vec<u8>) -> io::Result<Option<Status>> {
+fn checked(seeded: Seeded, bytes: Vec<u8>) -> io::Result<Option<Status>> {
+    let alloc = seeded.alloc;
     let words = words_of(alloc, "check")?;
     let mut input = Input::new(alloc, SureSource::new(bytes, 4096));
     let mut sink = SureSink::new(Vec::new(alloc), 4096);
     let mut warning = Text::empty(alloc);
-    let status = grid_once(alloc, words.as_slice(), &mut input, &mut sink, &mut warning);
+    let status = grid_once(
+        seeded,
+        words.as_slice(),
+        &mut input,
+        &mut sink,
+        &mut warning,
+    );
     Ok(if sink.bytes().is_empty() {
         Some(status)
     } else {
@@ -22,11 +30,12 @@ fn checked(alloc: Global, bytes: Vec<u8>) -> io::Result<Option<Status>> {
 }
 
 /// How many bytes a job has, whose every beginning but the whole is no JSON; None where one is checked otherwise.
-pub(crate) fn beginnings(alloc: Global, job: &[u8]) -> io::Result<Option<u64>> {
+pub(crate) fn beginnings(seeded: Seeded, job: &[u8]) -> io::Result<Option<u64>> {
+    let alloc = seeded.alloc;
     let mut front = Vec::new(alloc);
     let mut count = 0u64;
     for byte in job.trim_ascii() {
-        match checked(alloc, front.to_vec(alloc)?)? {
+        match checked(seeded, front.to_vec(alloc)?)? {
             Some(Status::BadJson) => {}
             _ => return Ok(None),
         }
@@ -37,12 +46,13 @@ pub(crate) fn beginnings(alloc: Global, job: &[u8]) -> io::Result<Option<u64>> {
 }
 
 /// How a check of so many spaces ends, where nothing is written.
-pub(crate) fn spaces(alloc: Global, count: usize) -> io::Result<Option<Status>> {
-    checked(alloc, vec![in alloc; b' '; count]?)
+pub(crate) fn spaces(seeded: Seeded, count: usize) -> io::Result<Option<Status>> {
+    checked(seeded, vec![in seeded.alloc; b' '; count]?)
 }
 
 /// How a check of a job ends in which one worker has this many commands, where nothing is written.
-pub(crate) fn commands(alloc: Global, count: u32) -> io::Result<Option<Status>> {
+pub(crate) fn commands(seeded: Seeded, count: u32) -> io::Result<Option<Status>> {
+    let alloc = seeded.alloc;
     let mut text = String::from_str(alloc, r#"{"format":1,"network":{"id":"N"},"workers":[["#)?;
     for place in 0..count {
         if place > 0 {
@@ -51,7 +61,7 @@ pub(crate) fn commands(alloc: Global, count: u32) -> io::Result<Option<Status>> 
         text.push_str(r#"{"do":"use","variant":"V"}"#)?;
     }
     text.push_str("]]}")?;
-    checked(alloc, text.into_bytes())
+    checked(seeded, text.into_bytes())
 }
 
 /// A switch of a job's text, by its number.
@@ -62,7 +72,8 @@ fn put_switch(text: &mut String, alloc: Global, number: u32) -> io::Result<()> {
 }
 
 /// How a check of a job ends whose network has this many switches, 4,000 in each level, where nothing is written.
-pub(crate) fn switches(alloc: Global, count: u32) -> io::Result<Option<Status>> {
+pub(crate) fn switches(seeded: Seeded, count: u32) -> io::Result<Option<Status>> {
+    let alloc = seeded.alloc;
     let mut text = String::from_str(
         alloc,
         r#"{"format":1,"network":{"id":"N","substations":[{"id":"S","levels":["#,
@@ -78,5 +89,5 @@ pub(crate) fn switches(alloc: Global, count: u32) -> io::Result<Option<Status>> 
         put_switch(&mut text, alloc, number)?;
     }
     text.push_str("]}]}]}}")?;
-    checked(alloc, text.into_bytes())
+    checked(seeded, text.into_bytes())
 }

@@ -6,6 +6,7 @@ use grid_lines::{Around, ending};
 use grid_manager::Idle;
 use grid_report::Text;
 use grid_source::{Input, SureSink, SureSource};
+use grid_structure::Seeded;
 use std::alloc::Global;
 use std::io;
 use std::sync::Wait;
@@ -57,17 +58,18 @@ pub(crate) fn told(
 /// What the words make of a job.
 pub(crate) fn run<R: Threads + Wait + Sync>(
     threads: &R,
-    alloc: Global,
+    seeded: Seeded,
     words: &str,
     job: Vec<u8>,
 ) -> io::Result<Ending> {
+    let alloc = seeded.alloc;
     let list = words_of(alloc, words)?;
     let mut input = Input::new(alloc, SureSource::new(job, 4096));
     let mut sink = SureSink::new(Vec::new(alloc), 4096);
     let mut warning = Text::empty(alloc);
     let status = grid(
         threads,
-        alloc,
+        seeded,
         list.as_slice(),
         &mut input,
         &mut sink,

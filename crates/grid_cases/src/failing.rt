@@ -5,7 +5,7 @@ use grid_forms::Status;
 use grid_manager::Idle;
 use grid_report::Text;
 use grid_source::{Input, MemorySink, MemorySource, SureSink, SureSource};
-use std::alloc::Global;
+use grid_structure::Seeded;
 use std::io;
 use std::sync::Wait;
 use std::thread::Threads;
@@ -17,11 +17,12 @@ const MOST_CALLS: u64 = 100_000;
 /// wrote.
 fn with_a_read_failing<R: Threads + Wait + Sync>(
     threads: &R,
-    alloc: Global,
+    seeded: Seeded,
     words: &str,
     job: &[u8],
     call: u64,
 ) -> io::Result<(Status, Vec<u8>)> {
+    let alloc = seeded.alloc;
     let list = words_of(alloc, words)?;
     let mut fails = Vec::new(alloc);
     fails.push(call)?;
@@ -31,7 +32,7 @@ fn with_a_read_failing<R: Threads + Wait + Sync>(
     let mut warning = Text::empty(alloc);
     let status = grid(
         threads,
-        alloc,
+        seeded,
         list.as_slice(),
         &mut input,
         &mut sink,
@@ -44,11 +45,12 @@ fn with_a_read_failing<R: Threads + Wait + Sync>(
 /// The same with a sink that takes 10 bytes at a time and fails at this call.
 fn with_a_write_failing<R: Threads + Wait + Sync>(
     threads: &R,
-    alloc: Global,
+    seeded: Seeded,
     words: &str,
     job: &[u8],
     call: u64,
 ) -> io::Result<(Status, Vec<u8>)> {
+    let alloc = seeded.alloc;
     let list = words_of(alloc, words)?;
     let mut fails = Vec::new(alloc);
     fails.push(call)?;
@@ -59,7 +61,7 @@ fn with_a_write_failing<R: Threads + Wait + Sync>(
     let mut warning = Text::empty(alloc);
     let status = grid(
         threads,
-        alloc,
+        seeded,
         list.as_slice(),
         &mut input,
         &mut sink,
@@ -73,12 +75,12 @@ fn with_a_write_failing<R: Threads + Wait + Sync>(
 /// where one ends otherwise.
 pub(crate) fn reads_of<R: Threads + Wait + Sync>(
     threads: &R,
-    alloc: Global,
+    seeded: Seeded,
     words: &str,
     job: &[u8],
 ) -> io::Result<Option<u64>> {
     for call in 0..MOST_CALLS {
-        let (status, written) = with_a_read_failing(threads, alloc, words, job, call)?;
+        let (status, written) = with_a_read_failing(threads, seeded, words, job, call)?;
         match status {
             Status::Done => return Ok(Some(call)),
             Status::ReadFault if written.is_empty() => {}
@@ -92,13 +94,13 @@ pub(crate) fn reads_of<R: Threads + Wait + Sync>(
 /// took is the beginning of the whole output. None where one ends otherwise.
 pub(crate) fn writes_of<R: Threads + Wait + Sync>(
     threads: &R,
-    alloc: Global,
+    seeded: Seeded,
     words: &str,
     job: &[u8],
 ) -> io::Result<Option<u64>> {
-    let (_, whole) = with_a_read_failing(threads, alloc, words, job, u64::MAX)?;
+    let (_, whole) = with_a_read_failing(threads, seeded, words, job, u64::MAX)?;
     for call in 0..MOST_CALLS {
-        let (status, written) = with_a_write_failing(threads, alloc, words, job, call)?;
+        let (status, written) = with_a_write_failing(threads, seeded, words, job, call)?;
         let due = written.len() as u64 == call.saturating_mul(10);
         match status {
             Status::Done if written == whole => return Ok(Some(call)),

@@ -17,9 +17,19 @@ use crate::compare::first_difference;
 use crate::ending::{Ending, fault_of, run, told};
 use grid_forms::Status;
 use grid_lines::usage_text;
+use grid_structure::Seeded;
+use std::hash::RandomState;
 use std::sync::Wait;
 use std::thread::Threads;
 use std::{fs, io};
+
+/// The allocator, and a seed for tables of ids.
+fn seeded(rt: &HostRuntime) -> io::Result<Seeded> {
+    Ok(Seeded {
+        alloc: rt.alloc(),
+        hasher: RandomState::new(rt)?,
+    })
+}
 
 /// The names of the cases, in order.
 fn names(rt: &HostRuntime) -> io::Result<Vec<String>> {
@@ -72,7 +82,7 @@ fn difference<R: Threads + Wait + Sync>(
 ) -> io::Result<Option<String>> {
     let words = text_of(rt, name, "words")?;
     let job = part(rt, name, "job.json")?;
-    let got = run(threads, rt.alloc(), words.as_str(), job)?;
+    let got = run(threads, seeded(rt)?, words.as_str(), job)?;
     let wanted = wanted_of(rt, name)?;
     for (what, got, wanted) in [
         ("exit status", &got.status, &wanted.status),
@@ -137,7 +147,7 @@ fn show_checked(
 
 /// Prints how a check of so many spaces ended.
 fn show_spaces(rt: &HostRuntime, count: usize) -> io::Result<()> {
-    match broken::spaces(rt.alloc(), count)? {
+    match broken::spaces(seeded(rt)?, count)? {
         Some(status) => println!(rt; "{count} spaces: exit status {}", status.number()),
         None => println!(rt; "{count} spaces: something was written"),
     }
@@ -145,17 +155,17 @@ fn show_spaces(rt: &HostRuntime, count: usize) -> io::Result<()> {
 
 /// Prints what comes of broken input of which no single case tells enough.
 fn show_broken(rt: &HostRuntime) -> io::Result<()> {
-    let alloc = rt.alloc();
+    let seeded = seeded(rt)?;
     let job = part(rt, "first_bus_view", "job.json")?;
-    match broken::beginnings(alloc, job.as_slice())? {
+    match broken::beginnings(seeded, job.as_slice())? {
         Some(count) => println!(rt; "each beginning of {count} bytes of a job is no JSON")?,
         None => println!(rt; "a beginning of a job is not refused as no JSON")?,
     }
     for count in [20_000, 20_001] {
-        show_checked(rt, count, "commands", &broken::commands(alloc, count)?)?;
+        show_checked(rt, count, "commands", &broken::commands(seeded, count)?)?;
     }
     for count in [200_000, 200_001] {
-        show_checked(rt, count, "switches", &broken::switches(alloc, count)?)?;
+        show_checked(rt, count, "switches", &broken::switches(seeded, count)?)?;
     }
     show_spaces(rt, 33_554_432)?;
     show_spaces(rt, 33_554_433)
@@ -173,12 +183,12 @@ fn show_count(rt: &HostRuntime, words: &str, what: &str, count: Option<u64>) -> 
 
 /// Prints how many reads and writes a call has, each of which failed in turn.
 fn show_failing<R: Threads + Wait + Sync>(rt: &HostRuntime, threads: &R) -> io::Result<()> {
-    let alloc = rt.alloc();
+    let seeded = seeded(rt)?;
     let job = part(rt, "first_bus_view", "job.json")?;
     for words in ["replay", "run", "check", "print", "make 1 1", "trial 1 1"] {
-        let reads = failing::reads_of(threads, alloc, words, job.as_slice())?;
+        let reads = failing::reads_of(threads, seeded, words, job.as_slice())?;
         show_count(rt, words, "reads", reads)?;
-        let writes = failing::writes_of(threads, alloc, words, job.as_slice())?;
+        let writes = failing::writes_of(threads, seeded, words, job.as_slice())?;
         show_count(rt, words, "writes", writes)?;
     }
     Ok(())
@@ -187,7 +197,7 @@ fn show_failing<R: Threads + Wait + Sync>(rt: &HostRuntime, threads: &R) -> io::
 /// Prints the pieces in which the report of a long job is handed out.
 fn show_pieces(rt: &HostRuntime) -> io::Result<()> {
     print!(rt; "too_many_variants: pieces of")?;
-    for size in pieces::pieces_of(rt.alloc(), part(rt, "too_many_variants", "job.json")?)? {
+    for size in pieces::pieces_of(seeded(rt)?, part(rt, "too_many_variants", "job.json")?)? {
         print!(rt; " {size}")?;
     }
     println!(rt; " bytes")
@@ -197,7 +207,7 @@ fn show_pieces(rt: &HostRuntime) -> io::Result<()> {
 fn show_replayed<R: Threads + Wait + Sync>(rt: &HostRuntime, threads: &R) -> io::Result<()> {
     let job = text_of(rt, "four_report", "job.json")?;
     let wanted = text_of(rt, "four_report", "output")?;
-    let (ran, replayed) = replayed::both_reports(threads, rt.alloc(), job.as_str())?;
+    let (ran, replayed) = replayed::both_reports(threads, seeded(rt)?, job.as_str())?;
     let place = first_difference(rt.alloc(), replayed.as_str(), ran.as_str())?;
     if place.is_empty() && replayed::same_behind_order(ran.as_str(), wanted.as_str()) {
         println!(rt; "four_report: a run on threads is replayed by its order")
@@ -209,7 +219,7 @@ fn show_replayed<R: Threads + Wait + Sync>(rt: &HostRuntime, threads: &R) -> io:
 /// Prints how many of many contingencies are found alike.
 fn show_screened<R: Threads + Wait + Sync>(rt: &HostRuntime, threads: &R) -> io::Result<()> {
     let job = text_of(rt, "screen", "job.json")?;
-    let (found, lines) = screened::lines_of(threads, rt.alloc(), job.as_str(), 4_096)?;
+    let (found, lines) = screened::lines_of(threads, seeded(rt)?, job.as_str(), 4_096)?;
     println!(rt; "screen: {found} contingencies in {lines} lines")
 }
 

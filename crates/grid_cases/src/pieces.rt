@@ -3,7 +3,7 @@ use crate::words::words_of;
 use grid_cli::grid_once;
 use grid_report::Text;
 use grid_source::{Failed, Input, Sink, SureSource};
-use std::alloc::Global;
+use grid_structure::Seeded;
 use std::io;
 
 /// Keeps the sizes of the pieces that it is handed.
@@ -32,7 +32,8 @@ impl Sink for Sizes {
 }
 
 /// The sizes of the pieces in which a replay of a job hands out its report.
-pub(crate) fn pieces_of(alloc: Global, job: Vec<u8>) -> io::Result<Vec<usize>> {
+pub(crate) fn pieces_of(seeded: Seeded, job: Vec<u8>) -> io::Result<Vec<usize>> {
+    let alloc = seeded.alloc;
     let words = words_of(alloc, "replay")?;
     let mut input = Input::new(alloc, SureSource::new(job, 4096));
     let mut sink = Sizes {
@@ -40,6 +41,12 @@ pub(crate) fn pieces_of(alloc: Global, job: Vec<u8>) -> io::Result<Vec<usize>> {
         faults: 0,
     };
     let mut warning = Text::empty(alloc);
-    grid_once(alloc, words.as_slice(), &mut input, &mut sink, &mut warning);
+    grid_once(
+        seeded,
+        words.as_slice(),
+        &mut input,
+        &mut sink,
+        &mut warning,
+    );
     Ok(sink.sizes)
 }

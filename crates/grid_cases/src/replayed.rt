@@ -1,5 +1,6 @@
 // Runs on threads, whose orders are replayed.
 use crate::ending::run;
+use grid_structure::Seeded;
 use std::alloc::Global;
 use std::io;
 use std::sync::Wait;
@@ -28,13 +29,14 @@ fn ordered(alloc: Global, job: &str, line: &str) -> io::Result<Vec<u8>> {
 /// The reports of a job by a run on threads, and by a replay of the order that this run tells.
 pub(crate) fn both_reports<R: Threads + Wait + Sync>(
     threads: &R,
-    alloc: Global,
+    seeded: Seeded,
     job: &str,
 ) -> io::Result<(String, String)> {
-    let ran = run(threads, alloc, "run", job.as_bytes().to_vec(alloc)?)?;
+    let alloc = seeded.alloc;
+    let ran = run(threads, seeded, "run", job.as_bytes().to_vec(alloc)?)?;
     let (line, _others) = first_line(ran.output.as_str());
     let job = ordered(alloc, job, line)?;
-    let replayed = run(threads, alloc, "replay", job)?;
+    let replayed = run(threads, seeded, "replay", job)?;
     Ok((ran.output, replayed.output))
 }
 

@@ -1,5 +1,6 @@
 // Many contingencies at once.
 use crate::ending::run;
+use grid_structure::Seeded;
 use std::alloc::Global;
 use std::io;
 use std::sync::Wait;
@@ -28,12 +29,12 @@ const LINE: &str =
 /// are.
 pub(crate) fn lines_of<R: Threads + Wait + Sync>(
     threads: &R,
-    alloc: Global,
+    seeded: Seeded,
     job: &str,
     count: u64,
 ) -> io::Result<(u64, u64)> {
-    let job = repeated(alloc, job, r#"{"name":"E1","out":["L1"]}"#, count)?;
-    let ending = run(threads, alloc, "screen", job)?;
+    let job = repeated(seeded.alloc, job, r#"{"name":"E1","out":["L1"]}"#, count)?;
+    let ending = run(threads, seeded, "screen", job)?;
     let mut found = 0u64;
     let mut lines = 0u64;
     for line in ending.output.as_str().lines() {

@@ -16,13 +16,13 @@ use Rattle.grid_watts.specs.Nodes.{listed_row}
 use Rattle.grid_watts.specs.Watts.{level_watts}
 use Rattle.grid_busview.specs.declared.BusView.{BusView}
 use Rattle.grid_busview.specs.Views.{bus_view_of}
-use Rattle.grid_islands.proofs.Assembling.{level_exists}
+use Rattle.grid_islands.proofs.LevelComponents.{level_exists}
 use Rattle.grid_core.specs.Solo.{level_at}
 use Rattle.grid_core.specs.History.{History, Command, is_live, live, structure}
 use Rattle.grid_core.specs.Replies.{state_of, view}
-use Rattle.grid_core.proofs.Asking.{view_read}
+use Rattle.grid_core.proofs.RequestOutcomes.{view_read}
 use Rattle.grid_core.proofs.Lineages.{structure_of_lineage}
-use Rattle.grid_core.proofs.Looking.{fits_at, row_listed}
+use Rattle.grid_core.proofs.VariantViews.{fits_at, row_listed}
 use Rattle.grid_report.specs.declared.outcome.VariantView.{VariantView}
 use Rattle.grid_report.specs.Histories.{variant_view}
 use Rattle.grid_cli.specs.Views.{IsShown, IsStanding, IsAlike}

@@ -23,11 +23,12 @@ use grid_ids::Memory;
 use grid_json::Order;
 use grid_report::{ReportFault, Text};
 use grid_source::Sink;
+use grid_structure::Seeded;
 use std::alloc::Global;
 
 /// What comes of scripts on a network, in the order that is given or else the workers in turn.
 fn run_in_order(
-    alloc: Global,
+    seeded: Seeded,
     network: ConfiguredNetwork,
     scripts: &[Script],
     order: Option<Order>,
@@ -40,8 +41,8 @@ fn run_in_order(
         ≡ report_after (history_of network scripts.now (histories.chosen_order scripts.now
         order))) }
 {
-    let order = chosen_order(alloc, order, scripts)?;
-    run_configured(alloc, network, scripts, order.slice())
+    let order = chosen_order(seeded.alloc, order, scripts)?;
+    run_configured(seeded, network, scripts, order.slice())
 }
 
 /// Writes what came of a job in a layout.
@@ -86,7 +87,7 @@ impl JobForm for Configured {
     /// Runs the job in its order, and writes what came of it.
     fn write<K: Sink>(
         &self,
-        alloc: Global,
+        seeded: Seeded,
         job: ConfiguredJob,
         sink: &mut K,
         _warning: &mut Text,
@@ -96,7 +97,7 @@ impl JobForm for Configured {
             scripts,
             order,
         } = job;
-        let outcome = run_in_order(alloc, network, scripts.slice(), order)?;
-        write_outcome(alloc, self.layout, &outcome, sink)
+        let outcome = run_in_order(seeded, network, scripts.slice(), order)?;
+        write_outcome(seeded.alloc, self.layout, &outcome, sink)
     }
 }

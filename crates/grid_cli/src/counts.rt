@@ -12,7 +12,7 @@ use grid_ids::Memory;
 use grid_json::Job;
 use grid_report::{ReportFault, Shown, Text, write_blocks};
 use grid_source::Sink;
-use std::alloc::Global;
+use grid_structure::Seeded;
 
 /// How many of each a job has.
 #[derive(Clone, Copy, Debug)]
@@ -91,11 +91,11 @@ impl JobForm for Check {
     #[tactic(auto, unfolding(crate::specs::Counts::check_text), using(crate::proofs::Written::exactly))]
     fn write<K: Sink>(
         &self,
-        alloc: Global,
+        seeded: Seeded,
         job: Job,
         sink: &mut K,
         _warning: &mut Text,
     ) -> Result<(), ReportFault> {
-        write_blocks(alloc, &[counts_of(&job)], sink)
+        write_blocks(seeded.alloc, &[counts_of(&job)], sink)
     }
 }

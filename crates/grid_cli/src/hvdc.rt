@@ -21,6 +21,7 @@ use grid_ids::{Id, Memory};
 use grid_jsonl::{Lined, open_with, put_number, put_state, put_warning};
 use grid_report::{ReportFault, Shown, Text};
 use grid_source::Sink;
+use grid_structure::Seeded;
 use std::alloc::Global;
 
 /// A part of what is written.
@@ -212,14 +213,14 @@ impl JobForm for Hvdc {
     /// Runs the job in its order, and writes the components of each live variant's buses.
     fn write<K: Sink>(
         &self,
-        alloc: Global,
+        seeded: Seeded,
         hvdc: HvdcJob,
         sink: &mut K,
         warning: &mut Text,
     ) -> Result<(), ReportFault> {
         let HvdcJob { job, lines } = hvdc;
-        let world = run_in_order(alloc, job)?;
+        let world = run_in_order(seeded.alloc, job)?;
         put_warning(warning, world.entries())?;
-        write_numbers(alloc, self.layout, &world, lines.slice(), sink)
+        write_numbers(seeded.alloc, self.layout, &world, lines.slice(), sink)
     }
 }

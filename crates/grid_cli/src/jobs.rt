@@ -4,7 +4,7 @@ use grid_configured::{ConfiguredJob, read_configured};
 use grid_contingencies::{ScreenJob, read_screen};
 use grid_hvdc::{HvdcJob, read_hvdc};
 use grid_json::{Job, JobFault, read_job};
-use std::alloc::Global;
+use grid_structure::Seeded;
 
 impl ReadJob for Job {
     ghost use Rattle.grid_json.specs.Whole.{job_of};
@@ -14,8 +14,8 @@ impl ReadJob for Job {
 
     ghost IsReady = { IsCounted };
 
-    fn read(alloc: Global, bytes: &[u8]) -> Result<Job, JobFault> {
-        read_job(alloc, bytes)
+    fn read(seeded: Seeded, bytes: &[u8]) -> Result<Job, JobFault> {
+        read_job(seeded, bytes)
     }
 }
 
@@ -27,8 +27,8 @@ impl ReadJob for HvdcJob {
 
     ghost IsReady = { λ hvdc. IsScheduled hvdc.job };
 
-    fn read(alloc: Global, bytes: &[u8]) -> Result<HvdcJob, JobFault> {
-        read_hvdc(alloc, bytes)
+    fn read(seeded: Seeded, bytes: &[u8]) -> Result<HvdcJob, JobFault> {
+        read_hvdc(seeded, bytes)
     }
 }
 
@@ -40,8 +40,8 @@ impl ReadJob for ScreenJob {
 
     ghost IsReady = { λ screened. IsScheduled screened.job };
 
-    fn read(alloc: Global, bytes: &[u8]) -> Result<ScreenJob, JobFault> {
-        read_screen(alloc, bytes)
+    fn read(seeded: Seeded, bytes: &[u8]) -> Result<ScreenJob, JobFault> {
+        read_screen(seeded, bytes)
     }
 }
 
@@ -53,7 +53,7 @@ impl ReadJob for ConfiguredJob {
 
     ghost IsReady = { IsRunnable };
 
-    fn read(alloc: Global, bytes: &[u8]) -> Result<ConfiguredJob, JobFault> {
-        read_configured(alloc, bytes)
+    fn read(seeded: Seeded, bytes: &[u8]) -> Result<ConfiguredJob, JobFault> {
+        read_configured(seeded.alloc, bytes)
     }
 }

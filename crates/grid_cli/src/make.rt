@@ -12,24 +12,24 @@ use grid_make::make_job;
 use grid_print::print_job;
 use grid_report::ReportFault;
 use grid_source::Sink;
-use std::alloc::Global;
+use grid_structure::Seeded;
 
 /// The text of a made job.
 #[tactic(auto, unfolding(crate::specs::Services::made_text))]
-fn made_bytes(alloc: Global, seed: u32, size: u32) -> Result<Vec<u8>, Memory>
+fn made_bytes(seeded: Seeded, seed: u32, size: u32) -> Result<Vec<u8>, Memory>
     requires seed { seed ≤ MOST_SEED }
     requires some { 1 ≤ size }
     requires few { size ≤ MOST_SIZE }
     ensures { IfOk result (λ bytes. bytes.items ≡ made_text seed size) }
 {
-    let job = make_job(alloc, seed, size)?;
-    print_job(alloc, &job)
+    let job = make_job(seeded, seed, size)?;
+    print_job(seeded.alloc, &job)
 }
 
 /// Makes a job, and writes its text.
 #[tactic(auto, using(grid_report::proofs::Begun::at_start))]
 pub(crate) fn write_made<K: Sink>(
-    alloc: Global,
+    seeded: Seeded,
     seed: u32,
     size: u32,
     sink: &mut K,
@@ -45,6 +45,6 @@ pub(crate) fn write_made<K: Sink>(
         → Rose (K.faults sink.old) (K.faults sink.new) }
     ensures stays { result ≢ Err ReportFault.Stopped → K.faults sink.new ≡ K.faults sink.old }
 {
-    let bytes = made_bytes(alloc, seed, size)?;
+    let bytes = made_bytes(seeded, seed, size)?;
     hand_over(bytes.as_slice(), sink)
 }

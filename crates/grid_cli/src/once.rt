@@ -17,7 +17,7 @@ use crate::trial::write_trial;
 use grid_forms::{Form, Status, read_words};
 use grid_report::Text;
 use grid_source::{Input, Sink, Source};
-use std::alloc::Global;
+use grid_structure::Seeded;
 
 /// Does what the words ask for, from the input to the sink, on the calling thread. It serves every form but `run` and
 /// `screen`, which are Usage here as words of no form are. It takes no lock. The input's bytes are all that was read
@@ -25,7 +25,7 @@ use std::alloc::Global;
 /// commands were refused where the output tells none of them: after `hvdc` that is Done. It is made before the first
 /// byte is written, and else empty.
 pub fn grid_once<S: Source, K: Sink>(
-    alloc: Global,
+    seeded: Seeded,
     words: &[String],
     input: &mut Input<S>,
     sink: &mut K,
@@ -60,7 +60,7 @@ pub fn grid_once<S: Source, K: Sink>(
         → S.faults input.new.source ≡ S.faults input.old.source }
 {
     warning.clear();
-    let status = run(alloc, words, input, sink, warning);
+    let status = run(seeded, words, input, sink, warning);
     keep_if_done(warning, &status);
     status
 }
@@ -78,7 +78,7 @@ pub(crate) fn keep_if_done(warning: &mut Text, status: &Status)
 // The same, without what follows from the other clauses, and with a warning that stays where the status is not Done.
 #[tactic(auto, using(crate::proofs::Written::after_silent))]
 fn run<S: Source, K: Sink>(
-    alloc: Global,
+    seeded: Seeded,
     words: &[String],
     input: &mut Input<S>,
     sink: &mut K,
@@ -106,13 +106,13 @@ fn run<S: Source, K: Sink>(
         return Status::Usage;
     };
     match form {
-        Form::Check => serve(alloc, &Check, input, sink, warning),
-        Form::Replay(layout) => serve(alloc, &Replay { layout }, input, sink, warning),
-        Form::Print => serve(alloc, &Print, input, sink, warning),
-        Form::Hvdc(layout) => serve(alloc, &Hvdc { layout }, input, sink, warning),
-        Form::Configured(layout) => serve(alloc, &Configured { layout }, input, sink, warning),
+        Form::Check => serve(seeded, &Check, input, sink, warning),
+        Form::Replay(layout) => serve(seeded, &Replay { layout }, input, sink, warning),
+        Form::Print => serve(seeded, &Print, input, sink, warning),
+        Form::Hvdc(layout) => serve(seeded, &Hvdc { layout }, input, sink, warning),
+        Form::Configured(layout) => serve(seeded, &Configured { layout }, input, sink, warning),
         Form::Run(_) | Form::Screen(_) => Status::Usage,
-        Form::Make { seed, size } => status_of(write_made(alloc, seed, size, sink)),
-        Form::Trial { seed, size } => status_of(write_trial(alloc, seed, size, sink)),
+        Form::Make { seed, size } => status_of(write_made(seeded, seed, size, sink)),
+        Form::Trial { seed, size } => status_of(write_trial(seeded, seed, size, sink)),
     }
 }

@@ -4,7 +4,7 @@ use grid_json::Job;
 use grid_print::print_network;
 use grid_report::{ReportFault, Text};
 use grid_source::Sink;
-use std::alloc::Global;
+use grid_structure::Seeded;
 
 /// The form `print`.
 #[derive(Clone, Copy)]
@@ -24,12 +24,12 @@ impl JobForm for Print {
     #[tactic(auto, using(crate::proofs::Written::exactly))]
     fn write<K: Sink>(
         &self,
-        alloc: Global,
+        seeded: Seeded,
         job: Job,
         sink: &mut K,
         _warning: &mut Text,
     ) -> Result<(), ReportFault> {
-        let bytes = print_network(alloc, &job.network)?;
+        let bytes = print_network(seeded.alloc, &job.network)?;
         hand_over(bytes.as_slice(), sink)
     }
 }

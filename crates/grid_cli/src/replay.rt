@@ -6,7 +6,7 @@ use grid_forms::Layout;
 use grid_json::Job;
 use grid_report::{ReportFault, Text};
 use grid_source::Sink;
-use std::alloc::Global;
+use grid_structure::Seeded;
 
 /// The form `replay`.
 #[derive(Clone, Copy)]
@@ -28,12 +28,12 @@ impl JobForm for Replay {
     /// Runs the job in its order, and writes what came of it.
     fn write<K: Sink>(
         &self,
-        alloc: Global,
+        seeded: Seeded,
         job: Job,
         sink: &mut K,
         _warning: &mut Text,
     ) -> Result<(), ReportFault> {
-        let outcome = run_job(alloc, job)?;
-        write_outcome(alloc, self.layout, &outcome, sink)
+        let outcome = run_job(seeded.alloc, job)?;
+        write_outcome(seeded.alloc, self.layout, &outcome, sink)
     }
 }

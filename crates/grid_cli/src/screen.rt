@@ -26,7 +26,7 @@ use grid_screen::ScreenedCase;
 use grid_screen::laws::cases_fit;
 use grid_slots::INITIAL_STATE;
 use grid_source::{Input, Sink, Source};
-use grid_structure::Structure;
+use grid_structure::{Seeded, Structure};
 use std::alloc::Global;
 use std::thread::Threads;
 
@@ -144,7 +144,7 @@ fn write_screen<R: Threads + Sync, K: Sink>(
 #[tactic(auto, using(crate::proofs::Written::unread, crate::proofs::Written::after_silent))]
 pub(crate) fn serve_screen<R: Threads + Sync, S: Source, K: Sink>(
     form: &Screen<'_, R>,
-    alloc: Global,
+    seeded: Seeded,
     input: &mut Input<S>,
     sink: &mut K,
     warning: &mut Text,
@@ -166,8 +166,8 @@ pub(crate) fn serve_screen<R: Threads + Sync, S: Source, K: Sink>(
         → Rose (K.faults sink.old) (K.faults sink.new) }
     ensures writes_stay { result ≢ Status.WriteFault → K.faults sink.new ≡ K.faults sink.old }
 {
-    match read_from::<ScreenJob, S>(alloc, input) {
-        Ok(screened) => status_of(write_screen(form, alloc, screened, sink, warning)),
+    match read_from::<ScreenJob, S>(seeded, input) {
+        Ok(screened) => status_of(write_screen(form, seeded.alloc, screened, sink, warning)),
         Err(status) => status,
     }
 }

@@ -15,7 +15,7 @@ use grid_forms::Status;
 use grid_json::JobFault;
 use grid_report::{ReportFault, Text};
 use grid_source::{Input, ReadAllFault, Sink, Source, write_all};
-use std::alloc::Global;
+use grid_structure::Seeded;
 
 /// A kind of job that a form reads.
 pub(crate) trait ReadJob: Sized + Drop {
@@ -26,7 +26,7 @@ pub(crate) trait ReadJob: Sized + Drop {
     ghost IsReady: { Self → Type 0 };
 
     /// The job of bytes, or why they are none.
-    fn read(alloc: Global, bytes: &[u8]) -> Result<Self, JobFault>
+    fn read(seeded: Seeded, bytes: &[u8]) -> Result<Self, JobFault>
         ensures job { JobGives result (job_of bytes.now) }
         ensures ready { IfOk result IsReady };
 }
@@ -45,7 +45,7 @@ pub(crate) trait JobForm {
     /// Writes what comes of a job, and puts the warning before the first byte is written.
     fn write<K: Sink>(
         &self,
-        alloc: Global,
+        seeded: Seeded,
         job: Self::Job,
         sink: &mut K,
         warning: &mut Text,
@@ -107,7 +107,7 @@ pub(crate) fn status_of(written: Result<(), ReportFault>) -> Status
 /// The job of the input's bytes, or why there is none.
 #[tactic(auto, using(crate::proofs::Written::partly, crate::proofs::Written::faulty))]
 pub(crate) fn read_from<J: ReadJob, S: Source>(
-    alloc: Global,
+    seeded: Seeded,
     input: &mut Input<S>,
 ) -> Result<J, Status>
     ensures job { IfOk result (ReadsJob J.job_of (S.left input.old.source) (S.left input.new.source)) }
@@ -122,14 +122,14 @@ pub(crate) fn read_from<J: ReadJob, S: Source>(
         → S.faults input.new.source ≡ S.faults input.old.source }
 {
     read_input(input)?;
-    let job = J::read(alloc, input.bytes())?;
+    let job = J::read(seeded, input.bytes())?;
     Ok(job)
 }
 
 /// Serves a form: reads its job, and writes what comes of it.
 #[tactic(auto, using(crate::proofs::Written::unread, crate::proofs::Written::after_silent))]
 pub(crate) fn serve<F: JobForm, S: Source, K: Sink>(
-    alloc: Global,
+    seeded: Seeded,
     form: &F,
     input: &mut Input<S>,
     sink: &mut K,
@@ -150,8 +150,8 @@ pub(crate) fn serve<F: JobForm, S: Source, K: Sink>(
         → Rose (K.faults sink.old) (K.faults sink.new) }
     ensures writes_stay { result ≢ Status.WriteFault → K.faults sink.new ≡ K.faults sink.old }
 {
-    match read_from::<F::Job, S>(alloc, input) {
-        Ok(job) => status_of(form.write(alloc, job, sink, warning)),
+    match read_from::<F::Job, S>(seeded, input) {
+        Ok(job) => status_of(form.write(seeded, job, sink, warning)),
         Err(status) => status,
     }
 }

@@ -23,6 +23,7 @@ use grid_jsonl::write_lines;
 use grid_manager::Gate;
 use grid_report::{ReportFault, Text, write_report_on_threads};
 use grid_source::{Input, Sink, Source};
+use grid_structure::Seeded;
 use grid_workers::run_scripts;
 use std::alloc::Global;
 use std::sync::Wait;
@@ -36,7 +37,7 @@ use std::thread::Threads;
 /// `hvdc` and `screen` that are Done. It is made before the first byte is written, and else empty.
 pub fn grid<R: Threads + Wait + Sync, S: Source, K: Sink, G: Gate>(
     rt: &R,
-    alloc: Global,
+    seeded: Seeded,
     words: &[String],
     input: &mut Input<S>,
     sink: &mut K,
@@ -75,19 +76,20 @@ pub fn grid<R: Threads + Wait + Sync, S: Source, K: Sink, G: Gate>(
     let host = Host {
         threads: rt,
         gate,
-        alloc,
+        seeded,
     };
     let status = serve_on(&host, words, input, sink, warning);
     keep_if_done(warning, &status);
     status
 }
 
-/// What a call runs on: the threads of its workers, the gate that sees them, and where memory comes from.
+/// What a call runs on: the threads of its workers, the gate that sees them, and where memory comes from, with the seed
+/// of its tables of ids.
 #[derive(Drop)]
 struct Host<'a, R, G> {
     threads: &'a R,
     gate: &'a G,
-    alloc: Global,
+    seeded: Seeded,
 }
 
 // The same, without what follows from the other clauses, and with a warning that stays where the status is not Done.
@@ -122,13 +124,13 @@ fn serve_on<R: Threads + Wait + Sync, S: Source, K: Sink, G: Gate>(
             let threads = host.threads;
             serve_screen(
                 &Screen { threads, layout },
-                host.alloc,
+                host.seeded,
                 input,
                 sink,
                 warning,
             )
         }
-        Served::ByOneThread => grid_once(host.alloc, words, input, sink, warning),
+        Served::ByOneThread => grid_once(host.seeded, words, input, sink, warning),
     }
 }
 
@@ -217,8 +219,8 @@ fn write_run<R: Threads + Wait + Sync, K: Sink, G: Gate>(
         → Rose (K.faults sink.old) (K.faults sink.new) }
     ensures stays { result ≢ Err ReportFault.Stopped → K.faults sink.new ≡ K.faults sink.old }
 {
-    let outcome = run_job_on_threads(host.threads, host.alloc, job, host.gate)?;
-    write_on_threads(host.threads, host.alloc, layout, &outcome, sink)
+    let outcome = run_job_on_threads(host.threads, host.seeded.alloc, job, host.gate)?;
+    write_on_threads(host.threads, host.seeded.alloc, layout, &outcome, sink)
 }
 
 /// Serves the form `run`, as `serve` does those that have no threads.
@@ -243,7 +245,7 @@ fn serve_run<R: Threads + Wait + Sync, S: Source, K: Sink, G: Gate>(
         → Rose (K.faults sink.old) (K.faults sink.new) }
     ensures writes_stay { result ≢ Status.WriteFault → K.faults sink.new ≡ K.faults sink.old }
 {
-    match read_from::<Job, S>(host.alloc, input) {
+    match read_from::<Job, S>(host.seeded, input) {
         Ok(job) => status_of(write_run(host, layout, job, sink)),
         Err(status) => status,
     }

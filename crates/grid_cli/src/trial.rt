@@ -18,7 +18,7 @@ use grid_make::make_job;
 use grid_report::{ReportFault, Shown, Text, VariantView, write_blocks};
 use grid_shared::Shared;
 use grid_source::Sink;
-use std::alloc::Global;
+use grid_structure::Seeded;
 
 /// What a trial counts.
 #[derive(Clone, Copy, Debug)]
@@ -114,16 +114,16 @@ fn count_buses(variants: &[VariantView]) -> u128
 }
 
 /// Runs the made job of a seed and a size, and counts what comes of it.
-#[tactic(auto, using(crate::proofs::Trialled::made_is_scheduled))]
-fn run_trial(alloc: Global, seed: u32, size: u32) -> Result<Trial, Memory>
+#[tactic(auto, using(crate::proofs::MadeJobs::made_is_scheduled))]
+fn run_trial(seeded: Seeded, seed: u32, size: u32) -> Result<Trial, Memory>
     requires seed { seed ≤ MOST_SEED }
     requires some { 1 ≤ size }
     requires few { size ≤ MOST_SIZE }
     ensures { IfOk result (λ trial. trial ≡ trial_of seed size (made_job seed size)) }
 {
-    let job = make_job(alloc, seed, size)?;
+    let job = make_job(seeded, seed, size)?;
     let commands = count_commands(job.scripts.slice());
-    let outcome = run_job(alloc, job)?;
+    let outcome = run_job(seeded.alloc, job)?;
     Ok(Trial {
         seed,
         size,
@@ -136,7 +136,7 @@ fn run_trial(alloc: Global, seed: u32, size: u32) -> Result<Trial, Memory>
 /// Writes the line of a trial.
 #[tactic(auto, unfolding(crate::specs::Trials::trial_text), using(grid_report::proofs::Begun::at_start))]
 pub fn write_trial<K: Sink>(
-    alloc: Global,
+    seeded: Seeded,
     seed: u32,
     size: u32,
     sink: &mut K,
@@ -153,6 +153,6 @@ pub fn write_trial<K: Sink>(
         → Rose (K.faults sink.old) (K.faults sink.new) }
     ensures stays { result ≢ Err ReportFault.Stopped → K.faults sink.new ≡ K.faults sink.old }
 {
-    let trial = run_trial(alloc, seed, size)?;
-    write_blocks(alloc, &[trial], sink)
+    let trial = run_trial(seeded, seed, size)?;
+    write_blocks(seeded.alloc, &[trial], sink)
 }

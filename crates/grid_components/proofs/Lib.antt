@@ -1,3 +1,3 @@
-pub mod Ranking
+pub mod ComponentRanks
 pub mod Sizes
 pub mod Tallies

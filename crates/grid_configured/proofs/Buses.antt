@@ -28,13 +28,13 @@ use Rattle.grid_configured.specs.Levels.{bus_place, item_outlet, end_outlets, li
 use Rattle.grid_placed.specs.Translation.{bus_section, outlet_placed, outlets_at, translated_level}
 use Rattle.grid_configured.specs.Translation.{translated}
 use Rattle.grid_configured.specs.Sites.{bus_ids, item_ids, line_ids, sides}
-use Rattle.grid_placed.proofs.Flagged.{places_stood}
-use Rattle.grid_placed.proofs.Connecting.{connect_bus}
-use Rattle.grid_placed.proofs.Parting.{disconnect_bus}
-use Rattle.grid_configured.proofs.Located.{placed_test, level_test, site_is, buses_from}
+use Rattle.grid_placed.proofs.PresentLevels.{places_stood}
+use Rattle.grid_placed.proofs.ConnectPlans.{connect_bus}
+use Rattle.grid_placed.proofs.DisconnectPlans.{disconnect_bus}
+use Rattle.grid_configured.proofs.Locations.{placed_test, level_test, site_is, buses_from}
 use Rattle.grid_configured.specs.Machine.{Flags}
-use Rattle.grid_configured.proofs.Mirrored.{NetworkFits, Mirrors}
-use Rattle.grid_configured.proofs.Plugged.{fits_at, level_there, level_now}
+use Rattle.grid_configured.proofs.Mirrors.{NetworkFits, Mirrors}
+use Rattle.grid_configured.proofs.TerminalMirrors.{fits_at, level_there, level_now}
 
 -- ---- no terminal of a level has an id that no injection and no line has
 

@@ -10,7 +10,7 @@ use Rattle.grid_json.proofs.Results.{bound, inside}
 use Rattle.grid_configured.specs.declared.network.ConfiguredLevel.{ConfiguredLevel}
 use Rattle.grid_configured.specs.declared.network.ConfiguredNetwork.{ConfiguredNetwork}
 use Rattle.grid_configured.specs.Checks.{each_check, ids_of, level_check, level_reasons, id_reasons, IsTranslatable}
-use Rattle.grid_configured.proofs.Checked.{not_refused, network_right}
+use Rattle.grid_configured.proofs.FaultlessNetworks.{not_refused, network_right}
 
 -- a level behind some earlier ones finds room
 room : (earlier : List ConfiguredLevel) (l : ConfiguredLevel) → level_check earlier l ≡ Ok tt → nat_le max_levels (length earlier) ≡ false

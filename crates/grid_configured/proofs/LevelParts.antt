@@ -15,7 +15,7 @@ use Rattle.grid_json.specs.declared.buses.BusInjection.{BusInjection}
 use Rattle.grid_configured.specs.declared.network.ConfiguredLevel.{ConfiguredLevel}
 use Rattle.grid_configured.specs.Checks.{bus_check, bus_reasons, item_check, item_ids, item_reasons, list_check, part_ids, parts_check, switch_check, switch_ids, switch_reasons}
 use Rattle.grid_json.specs.Seen.{Knows}
-use Rattle.grid_configured.proofs.Checking.{each_alike, taken}
+use Rattle.grid_configured.proofs.CheckLoops.{each_alike, taken}
 use Rattle.grid_json.proofs.IdSets.{knows-append, knows_next}
 
 module _ (ids seen : List (List ℕ)) where

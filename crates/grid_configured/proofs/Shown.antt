@@ -5,15 +5,15 @@ use Rattle.grid_core.specs.declared.journal.Entry.{Entry}
 use Rattle.grid_core.specs.Journals.{journal_of}
 use Rattle.grid_report.specs.Outcomes as outcomes
 use Rattle.grid_report.specs.Histories.{steps_of}
-use Rattle.grid_report.proofs.Listening.{shows}
+use Rattle.grid_report.proofs.JournalReports.{shows}
 use Rattle.grid_report.proofs.Scripts.{scripts_shown}
 use Rattle.grid_configured.specs.declared.reply.ConfiguredReply.{ConfiguredReply}
 use Rattle.grid_configured.specs.Translation.{translated}
 use Rattle.grid_configured.specs.Texts.{Told, order_line, steps_by}
 use Rattle.grid_configured.specs.Outcomes.{told_pair, told_of}
 use Rattle.grid_configured.specs.Reports.{replies_of, ReportShowsOrder, ReportShowsScripts}
-use Rattle.grid_configured.proofs.Reported.{order_shown}
-use Rattle.grid_configured.proofs.Showing.{evenly, tells}
+use Rattle.grid_configured.proofs.ReportSteps.{order_shown}
+use Rattle.grid_configured.proofs.HistoryOutcomes.{evenly, tells}
 
 pub shows_order : ReportShowsOrder
 shows_order network steps =

@@ -13,6 +13,7 @@ use crate::outcome::{ConfiguredReplies, ConfiguredVariant, ConfiguredVariants, C
 use crate::{ConfiguredNetwork, ConfiguredOutcome, ConfiguredWorld};
 use grid_core::Script;
 use grid_ids::{Duplicate, Id, Memory, Seq};
+use grid_structure::Seeded;
 use std::alloc::Global;
 
 // Makes the steps of all scripts in an order, and gives their replies.
@@ -114,7 +115,7 @@ fn outcome(
 /// of the commands are plain, the commands are those of networks with configured buses, and no fault is found in the
 /// network.
 pub fn run_configured(
-    alloc: Global,
+    seeded: Seeded,
     network: ConfiguredNetwork,
     scripts: &[Script],
     order: &[u32],
@@ -126,8 +127,9 @@ pub fn run_configured(
     ensures { IfOk result (λ outcome. outcome
         ≡ report_after (history_of network scripts.now order.now)) }
 {
+    let alloc = seeded.alloc;
     let workers = scripts.len() as u32;
-    let mut world = ConfiguredWorld::start(alloc, network, workers)?;
+    let mut world = ConfiguredWorld::start(seeded, network, workers)?;
     let replies = run(alloc, &mut world, scripts, order)?;
     outcome(alloc, world, replies, workers)
 }

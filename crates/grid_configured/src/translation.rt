@@ -15,7 +15,7 @@ use crate::ConfiguredNetwork;
 use grid_ids::{Duplicate, Id, IdFault, Memory, Same};
 use grid_json::BusEnd;
 use grid_kinds::SwitchKind;
-use grid_structure::{ApplyFault, Branch, Edit, End, Structure};
+use grid_structure::{ApplyFault, Branch, Edit, End, Seeded, Structure};
 use std::alloc::Global;
 
 // An edit that no rule refuses.
@@ -317,11 +317,12 @@ fn add_lines(
 /// breaker of its own, whose id is the equipment's with `!` and the side behind it, closed where the terminal is
 /// connected. All ids of the network are plain, and no fault is found in it, so that no id clashes and no limit is
 /// passed.
-pub fn translate(alloc: Global, network: &ConfiguredNetwork) -> Result<Structure, Memory>
+pub fn translate(seeded: Seeded, network: &ConfiguredNetwork) -> Result<Structure, Memory>
     requires { IsTranslatable network.now }
     ensures { IfOk result (λ structure. structure ≡ translated network.now) }
 {
-    let mut structure = Structure::empty(alloc, network.id.copy()?);
+    let alloc = seeded.alloc;
+    let mut structure = Structure::empty(seeded, network.id.copy()?);
     add_levels(alloc, &mut structure, network)?;
     add_lines(alloc, &mut structure, network)?;
     Ok(structure)

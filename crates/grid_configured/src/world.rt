@@ -24,7 +24,7 @@ use grid_busview::{bus_view, record_watts};
 use grid_core::{Journal, Refusal, Reply, Request, World};
 use grid_ids::{Id, Memory};
 use grid_states::States;
-use std::alloc::Global;
+use grid_structure::Seeded;
 use std::marker::Model;
 
 /// Workers on the variants of a network with configured buses. It is seen as its history: the network, the count of
@@ -89,15 +89,15 @@ impl ConfiguredWorld {
     /// Workers on the variants of a network, at first each on the initial variant, with the positions of switches and
     /// the flags of terminals as in their records. All ids of the network are plain, and no fault is found in it.
     pub fn start(
-        alloc: Global,
+        seeded: Seeded,
         network: ConfiguredNetwork,
         workers: u32,
     ) -> Result<ConfiguredWorld, Memory>
         requires { IsTranslatable network }
         ensures { IfOk result (λ world. world ≡ begun network workers) }
     {
-        let structure = translate(alloc, &network)?;
-        let world = World::start(alloc, structure, workers)?;
+        let structure = translate(seeded, &network)?;
+        let world = World::start(seeded.alloc, structure, workers)?;
         Ok(ConfiguredWorld { network, world })
     }
 

@@ -11,7 +11,7 @@ use Rattle.grid_level.specs.VoltageLevel.{VoltageLevel}
 use Rattle.grid_level.specs.Passing.{Rule, switch_edge, internal_edge, edges, ends, passing, switch_passes}
 use Rattle.grid_paths.specs.Paths.{across, visited, last_in}
 use Rattle.grid_paths.proofs.Least.{some_same, some_none, first_edge, begins, got_Member, IsEnd}
-use Rattle.grid_paths.proofs.Routing.{across_ends, across_first, across_second}
+use Rattle.grid_paths.proofs.RouteCosts.{across_ends, across_first, across_second}
 use Rattle.grid_paths.proofs.Shortest.{visits_on}
 use Rattle.grid_connect.specs.Plans.{all_ends}
 

@@ -1,10 +1,10 @@
 -- The lists that the code makes.
-use Rattle.std.proofs.Common.{◌≡◌, refl, sym, ap, ◌∙◌, subst, ℕ, zero, suc, ◌+◌, ◌<◌, ◌≤◌, Bool, true, false, cond, ◌&&◌, ◌||◌, List, [], ◌∷◌, ◌++◌, length, inl, inr, arith, take, get_or, replicate, length-append}
+use Rattle.std.proofs.Common.{◌≡◌, refl, sym, ap, ◌∙◌, subst, ℕ, zero, suc, ◌+◌, ◌<◌, ◌≤◌, Bool, true, false, cond, ◌&&◌, ◌||◌, List, [], ◌∷◌, ◌++◌, length, inl, inr, arith, take, get_or, replicate}
 use Rattle.std.proofs.Math.ListN.{get_or-replicate, length-replicate, get_or-eq_default}
 use Rattle.std.proofs.lemmas.Bool.{cases_eq, cases_lt, eq-eqb, ne_eqb, and_parts}
 use Rattle.std.specs.Prelude.{eqb, slice_get, map, filter}
 use Rattle.std.specs.List.{list_any, list_all, slice_index_or}
-use Rattle.std.proofs.lemmas.List.{take_more, map-append, take_all, length-map}
+use Rattle.std.proofs.lemmas.List.{take_more, map-append, take_all}
 use Rattle.std.proofs.lemmas.List.Folds.{list_any-append}
 use Rattle.grid_graph.proofs.Reach.{In}
 use Rattle.grid_level.specs.declared.Switch.{Switch}
@@ -13,12 +13,10 @@ use Rattle.grid_level.specs.declared.Placed.{Placed}
 use Rattle.grid_level.specs.VoltageLevel.{VoltageLevel}
 use Rattle.grid_level.specs.Passing.{switch_edge, internal_edge, edges, ends, nodes, positioned, with_opened, is_operable, is_busbar, stands_at, carries_busbar}
 use Rattle.grid_level.specs.Kept.{KeepsLimits, among, ends_among}
-use Rattle.grid_level.proofs.Positions.{length_opened}
 use Rattle.grid_groups.specs.Labels.{index_in}
 use Rattle.grid_groups.proofs.Indices.{among_In, index_below, index_apart}
-use Rattle.grid_groups.proofs.Standing.{nodes-positioned}
-use Rattle.grid_paths.specs.declared.PathEdge.{PathEdge}
-use Rattle.grid_paths.specs.Routes.{is_goal, EndsBelow}
+use Rattle.grid_groups.proofs.PassingEdges.{nodes-positioned}
+use Rattle.grid_paths.specs.Routes.{PathEdge, is_goal, EndsBelow}
 use Rattle.grid_connect.specs.Plans.{opened_at, is_open}
 use Rattle.grid_connect.specs.Indexed.{path_edge, switch_path_edge, internal_path_edge, path_edges_of, switch_path_edges, AreBusbars}
 
@@ -70,18 +68,6 @@ unfolding edges
 ends_below level flags made keeps e h =
     let P : List PathEdge → Type 0 = λ z. EndsBelow z (length (nodes level)) in
     subst P (sym (h ∙ made_edges level flags e)) (edges_below (nodes level) level.switches flags level.internals e keeps.ends_are_nodes)
-
-pub few_edges : (level : VoltageLevel) (flags : List Bool) (made : List PathEdge) → KeepsLimits level → made ≡ path_edges_of (positioned level flags) → length made ≤ 4096
-unfolding path_edges_of positioned edges
-few_edges level flags made keeps e =
-    let es = map switch_edge (with_opened level.switches flags) ++ map internal_edge level.internals in
-    let a = ap length e in
-    let b = length-map es (path_edge (nodes (positioned level flags))) in
-    let c = length-append (map switch_edge (with_opened level.switches flags)) (map internal_edge level.internals) in
-    let d = length-append (map switch_edge level.switches) (map internal_edge level.internals) in
-    let f = length-map (with_opened level.switches flags) switch_edge in
-    let g = length-map level.switches switch_edge in
-    omega (arith, a, b, c, d, f, g, length_opened level.switches flags, keeps.few_edges)
 
 -- ---- busbars
 

@@ -19,10 +19,10 @@ use Rattle.grid_groups.specs.Labels.{index_in, graph_under, label_of, labels_whe
 use Rattle.grid_groups.proofs.Lists.{In_filtered}
 use Rattle.grid_groups.proofs.Indices.{at_index, index_below}
 use Rattle.grid_groups.proofs.Bridge.{labels_long, same_label}
-use Rattle.grid_groups.proofs.Standing.{nodes-positioned, passing_core, passing_ends}
+use Rattle.grid_groups.proofs.PassingEdges.{nodes-positioned, passing_core, passing_ends}
 use Rattle.grid_groups.proofs.Under.{Stands, labels-where, among as labelled_among}
 use Rattle.grid_paths.specs.Paths.{has_node}
-use Rattle.grid_connect.proofs.Connecting.{In_rising}
+use Rattle.grid_connect.proofs.ConnectPlans.{In_rising}
 use Rattle.grid_connect.specs.Plans.{core_of}
 use Rattle.grid_connect.specs.Indexed.{marks_where, core_flags, is_marked}
 

@@ -1,10 +1,9 @@
 -- A level's nodes by their indices: its edges as edges of paths, and one mark per node.
-use Rattle.std.specs.Prelude.{◌≡◌, ℕ, ◌+◌, Bool, not, ◌&&◌, ◌||◌, ◌==◌, if◌then◌else◌, IsTrue, Option, List, [], ◌∷◌, map, find}
+use Rattle.std.specs.Prelude.{◌≡◌, ℕ, ◌+◌, Bool, not, ◌&&◌, ◌||◌, ◌==◌, if◌then◌else◌, IsTrue, Option, List, [], ◌∷◌, length, map, find}
 use Rattle.std.specs.List.{zip, list_any}
 use Rattle.grid_paths.specs.declared.Way.{Way}
 use Rattle.grid_paths.specs.declared.Way.TheVariants.{Free, Closable, Barred}
-use Rattle.grid_paths.specs.declared.PathEdge.{PathEdge}
-use Rattle.grid_paths.specs.Routes.{is_goal}
+use Rattle.grid_paths.specs.Routes.{PathEdge, is_goal}
 use Rattle.grid_level.specs.declared.Switch.{Switch}
 use Rattle.grid_level.specs.declared.Internal.{Internal}
 use Rattle.grid_level.specs.declared.Placed.{Placed}
@@ -12,6 +11,8 @@ use Rattle.grid_level.specs.VoltageLevel.{VoltageLevel}
 use Rattle.grid_level.specs.Passing.{Edge, switch_edge, internal_edge, edges, nodes, is_operable, is_busbar, carries_busbar}
 use Rattle.grid_level.specs.Kept.{among}
 use Rattle.grid_groups.specs.Labels.{index_in, label_of, labels_where}
+use Rattle.grid_groups.specs.Nets.{net_where, closed_flags}
+use Rattle.grid_queue.specs.Net.{NetShape}
 
 -- ---- edges of paths
 
@@ -35,6 +36,11 @@ path_edges_of level = map (path_edge (nodes level)) (edges level)
 -- the switches in these positions
 unfoldable pub switch_path_edges : List ℕ → List Switch → List Bool → List PathEdge
 switch_path_edges ns switches states = map (λ pair. switch_path_edge ns pair.0 pair.1) (zip switches states)
+
+-- this is the net of the level where its closed switches pass
+pub record IsBusNet (level : VoltageLevel) (states : List Bool) (net : NetShape) : Type 0 where
+  pub flags : length states ≡ length level.switches
+  pub same : net ≡ net_where level (closed_flags states)
 
 -- ---- one mark per node
 

@@ -1,114 +1,25 @@
 // The plan that connects a node.
-ghost use Rattle.std.specs.Prelude.{◌≡◌, ◌<◌, ◌≤◌, ◌||◌, ◌&&◌, ◌==◌, ◌∷◌, ◌++◌, ℕ, List, length, map, filter, IfOk, OnOk, IsTrue, false, slice_index_or};
+ghost use Rattle.std.specs.Prelude.{◌≡◌, ◌<◌, ◌≤◌, ◌||◌, ◌&&◌, ◌==◌, ℕ, length, filter, IfOk, IsTrue, false, slice_index_or};
 ghost use Rattle.grid_graph.specs.Graph.{labels_of};
 ghost use Rattle.grid_level.specs.Kept.{among};
 ghost use Rattle.grid_level.specs.Passing as passing;
-ghost use Rattle.grid_level.specs.Passing.{nodes, bus, positioned};
-ghost use Rattle.grid_groups.specs.Labels.{graph_under};
+ghost use Rattle.grid_level.specs.Passing.{nodes, positioned};
+ghost use Rattle.grid_groups.specs.Nets.{net_where, closed_flags};
+ghost use Rattle.grid_queue.specs.Net.{passing_graph};
 ghost use Rattle.grid_paths.specs.Routes.{is_goal};
 ghost use Rattle.grid_connect.specs.Plans.{connect_plan_of};
 ghost use Rattle.grid_connect.specs.Effects.{Connects};
-ghost use Rattle.grid_connect.specs.Indexed.{way_through, switch_path_edge, internal_path_edge, switch_path_edges, path_edges_of, AreBusbars};
+ghost use Rattle.grid_connect.specs.Indexed.{AreBusbars};
 
-use crate::ConnectPlan;
 use crate::joined::{is_busbar, is_connected, is_connected_by};
-use grid_groups::{NodeIndices, index_of};
+use crate::paths::{LevelPaths, bus_net};
+use crate::{ConnectPlan, LabelledNet};
+use grid_groups::index_of;
 use grid_ids::Memory;
-use grid_kinds::SwitchKind;
-use grid_labels::Labels;
-use grid_level::{Internal, Level, Switch};
-use grid_paths::{PathEdge, Places, Way, least_path};
+use grid_level::Level;
+use grid_paths::{Places, least_path};
+use grid_queue::Net;
 use std::alloc::Global;
-
-// Whether the switch is a breaker that is not fictitious.
-#[tactic(auto, unfolding(grid_level::specs::Passing::is_operable, grid_level::specs::Passing::is_breaker))]
-pub(crate) fn is_operable(switch: &Switch) -> bool
-    ensures { result ≡ passing.is_operable switch.now }
-{
-    match switch.kind {
-        SwitchKind::Breaker => !switch.fictitious,
-        SwitchKind::Disconnector => false,
-        SwitchKind::LoadBreakSwitch => false,
-    }
-}
-
-// How the switch may be passed in this position.
-fn way_of(switch: &Switch, opened: bool) -> Way
-    ensures { result ≡ way_through switch.now opened }
-{
-    if !opened {
-        return Way::Free;
-    }
-    if is_operable(switch) {
-        Way::Closable
-    } else {
-        Way::Barred
-    }
-}
-
-// The switch in this position, as an edge of paths.
-fn switch_edge(indices: &NodeIndices, switch: &Switch, opened: bool) -> PathEdge
-    requires first { IsTrue (among (nodes indices.now) switch.now.node1) }
-    requires second { IsTrue (among (nodes indices.now) switch.now.node2) }
-    ensures { result ≡ switch_path_edge (nodes indices.now) switch.now opened }
-{
-    PathEdge {
-        a: indices.of_node(switch.node1),
-        b: indices.of_node(switch.node2),
-        way: way_of(switch, opened),
-    }
-}
-
-// The internal connection, as an edge of paths.
-fn internal_edge(indices: &NodeIndices, internal: &Internal) -> PathEdge
-    requires first { IsTrue (among (nodes indices.now) internal.now.node1) }
-    requires second { IsTrue (among (nodes indices.now) internal.now.node2) }
-    ensures { result ≡ internal_path_edge (nodes indices.now) internal.now }
-{
-    PathEdge {
-        a: indices.of_node(internal.node1),
-        b: indices.of_node(internal.node2),
-        way: Way::Free,
-    }
-}
-
-// The switches in these positions, as edges of paths.
-fn switch_edges(
-    alloc: Global,
-    indices: &NodeIndices,
-    states: &[bool],
-) -> Result<Vec<PathEdge>, Memory>
-    requires { length states.now ≡ length indices.now.switches }
-    ensures { IfOk result (λ edges. edges.items
-        ≡ switch_path_edges (nodes indices.now) indices.now.switches states.now) }
-{
-    let level = indices.level();
-    level.keeps();
-    let mut edges = Vec::with_capacity(alloc, level.edge_count() as usize)?;
-    for (place, switch) in level.switches().iter().enumerate() {
-        edges.push(switch_edge(indices, switch, states[place]))?;
-    }
-    Ok(edges)
-}
-
-// The edges of the level as it stands: its switches, then its internal connections.
-fn path_edges(
-    alloc: Global,
-    indices: &NodeIndices,
-    states: &[bool],
-) -> Result<Vec<PathEdge>, Memory>
-    requires { length states.now ≡ length indices.now.switches }
-    ensures { IfOk result (λ edges. edges.items
-        ≡ path_edges_of (positioned indices.now states.now)) }
-{
-    let level = indices.level();
-    level.keeps();
-    let mut edges = switch_edges(alloc, indices, states)?;
-    for internal in level.internals() {
-        edges.push(internal_edge(indices, internal))?;
-    }
-    Ok(edges)
-}
 
 // Marks an index, if a busbar section stands there.
 fn mark_if(marks: &mut Vec<bool>, index: u32, busbar: bool)
@@ -164,35 +75,26 @@ fn open_places(alloc: Global, states: &[bool], path: &[u32]) -> Result<Places, M
     Ok(opens)
 }
 
-// The plan that connects a node, of which it is known whether it is connected.
-fn connect_unless(
+// The plan that connects a node which is not connected.
+fn connect_over(
     alloc: Global,
     level: &Level,
     states: &[bool],
     node: u16,
-    connected: bool,
+    net: &Net,
 ) -> Result<ConnectPlan, Memory>
     requires flags { length states.now ≡ length level.now.switches }
     requires node { IsTrue (among (nodes level.now) node) }
-    requires connected { connected ≡ passing.is_connected (positioned level.now states.now) node }
+    requires net { net.now ≡ net_where level.now (closed_flags states.now) }
+    requires apart { passing.is_connected (positioned level.now states.now) node ≡ false }
     ensures plan { IfOk result (λ plan. plan
         ≡ connect_plan_of (positioned level.now states.now) node) }
     ensures connects { IfOk result (λ plan. Connects (positioned level.now states.now) node plan) }
 {
     level.keeps();
-    if connected {
-        return Ok(ConnectPlan::AlreadyConnected);
-    }
-    let indices = NodeIndices::of(alloc, level)?;
-    let edges = path_edges(alloc, &indices, states)?;
     let goals = busbars(alloc, level)?;
-    match least_path(
-        alloc,
-        level.node_count(),
-        edges.as_slice(),
-        index_of(level, node),
-        goals.as_slice(),
-    )? {
+    let paths = LevelPaths::over(level, states, net);
+    match least_path(alloc, &paths, index_of(level, node), goals.as_slice())? {
         Some(path) => {
             let opens = open_places(alloc, states, path.slice())?;
             Ok(ConnectPlan::Close(opens))
@@ -217,26 +119,32 @@ pub fn plan_connect(
         ≡ connect_plan_of (positioned level.now states.now) node) }
     ensures connects { IfOk result (λ plan. Connects (positioned level.now states.now) node plan) }
 {
-    let connected = is_connected(alloc, level, states, node)?;
-    connect_unless(alloc, level, states, node, connected)
+    if is_connected(alloc, level, states, node)? {
+        return Ok(ConnectPlan::AlreadyConnected);
+    }
+    let net = bus_net(alloc, level, states)?;
+    connect_over(alloc, level, states, node, &net)
 }
 
-/// The same plan by labels that are kept: those of the level's nodes, by index, where the closed switches pass. Where
-/// the node is connected, it searches nothing.
+/// The same plan by the level's net that is kept with its labels, where the closed switches pass. Where the node is
+/// connected, it searches nothing.
 pub fn plan_connect_from(
     alloc: Global,
     level: &Level,
     states: &[bool],
     node: u16,
-    labels: &Labels,
+    kept: &LabelledNet,
 ) -> Result<ConnectPlan, Memory>
     requires flags { length states.now ≡ length level.now.switches }
     requires node { IsTrue (among (nodes level.now) node) }
-    requires labels { labels.now ≡ labels_of (graph_under bus (positioned level.now states.now)) }
+    requires net { kept.now.net.now ≡ net_where level.now (closed_flags states.now) }
+    requires labels { kept.now.labels.now ≡ labels_of (passing_graph kept.now.net.now) }
     ensures plan { IfOk result (λ plan. plan
         ≡ connect_plan_of (positioned level.now states.now) node) }
     ensures connects { IfOk result (λ plan. Connects (positioned level.now states.now) node plan) }
 {
-    let connected = is_connected_by(level, states, labels.numbers(), node);
-    connect_unless(alloc, level, states, node, connected)
+    if is_connected_by(level, states, kept.labels.numbers(), node) {
+        return Ok(ConnectPlan::AlreadyConnected);
+    }
+    connect_over(alloc, level, states, node, kept.net)
 }

@@ -3,18 +3,18 @@ ghost use Rattle.std.specs.Prelude.{◌≡◌, length, IfOk, IsTrue};
 ghost use Rattle.grid_graph.specs.Graph.{labels_of};
 ghost use Rattle.grid_level.specs.Kept.{among};
 ghost use Rattle.grid_level.specs.Passing as passing;
-ghost use Rattle.grid_level.specs.Passing.{nodes, bus, positioned};
-ghost use Rattle.grid_groups.specs.Labels.{graph_under};
+ghost use Rattle.grid_level.specs.Passing.{nodes, positioned};
+ghost use Rattle.grid_groups.specs.Nets.{net_where, closed_flags};
+ghost use Rattle.grid_queue.specs.Net.{passing_graph};
 ghost use Rattle.grid_connect.specs.Plans.{disconnect_plan_of};
 ghost use Rattle.grid_connect.specs.Effects.{Disconnects};
 ghost use Rattle.grid_connect.specs.Indexed.{core_flags, leaves_marked, leaving_marked};
 
-use crate::DisconnectPlan;
-use crate::connect::is_operable;
 use crate::joined::{first_busbar, has_mark, is_connected, is_connected_by, joined_to};
+use crate::paths::is_operable;
+use crate::{DisconnectPlan, LabelledNet};
 use grid_groups::NodeIndices;
 use grid_ids::{Duplicate, Memory};
-use grid_labels::Labels;
 use grid_level::{Level, Switch};
 use grid_paths::Places;
 use std::alloc::Global;
@@ -117,22 +117,23 @@ pub fn plan_disconnect(
     disconnect_if(alloc, level, states, node, connected)
 }
 
-/// The same plan by labels that are kept: those of the level's nodes, by index, where the closed switches pass. Where
-/// the node is not connected, it searches nothing.
+/// The same plan by the level's net that is kept with its labels, where the closed switches pass. Where the node is not
+/// connected, it searches nothing.
 pub fn plan_disconnect_from(
     alloc: Global,
     level: &Level,
     states: &[bool],
     node: u16,
-    labels: &Labels,
+    kept: &LabelledNet,
 ) -> Result<DisconnectPlan, Memory>
     requires flags { length states.now ≡ length level.now.switches }
     requires node { IsTrue (among (nodes level.now) node) }
-    requires labels { labels.now ≡ labels_of (graph_under bus (positioned level.now states.now)) }
+    requires net { kept.now.net.now ≡ net_where level.now (closed_flags states.now) }
+    requires labels { kept.now.labels.now ≡ labels_of (passing_graph kept.now.net.now) }
     ensures plan { IfOk result (λ plan. plan
         ≡ disconnect_plan_of (positioned level.now states.now) node) }
     ensures disconnects { IfOk result (Disconnects (positioned level.now states.now) node) }
 {
-    let connected = is_connected_by(level, states, labels.numbers(), node);
+    let connected = is_connected_by(level, states, kept.labels.numbers(), node);
     disconnect_if(alloc, level, states, node, connected)
 }

@@ -26,7 +26,7 @@ pub(crate) fn is_busbar(stand: &Stand) -> bool
 }
 
 // Which switches pass: the closed ones.
-fn closed(alloc: Global, opened: &[bool]) -> Result<Vec<bool>, Memory>
+pub(crate) fn closed(alloc: Global, opened: &[bool]) -> Result<Vec<bool>, Memory>
     ensures { IfOk result (λ closed. closed.items ≡ map not opened.now) }
 {
     Ok(opened.iter().map(|opened| !*opened).collect(alloc)?)

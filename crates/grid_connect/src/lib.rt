@@ -7,11 +7,21 @@ mod connect;
 mod disconnect;
 mod joined;
 mod parts;
+mod paths;
 
 pub use connect::{plan_connect, plan_connect_from};
 pub use disconnect::{plan_disconnect, plan_disconnect_from};
+use grid_labels::Labels;
 use grid_level::Terminal;
 use grid_paths::Places;
+use grid_queue::Net;
+
+/// A level's net in which its closed switches pass, with the labels of its nodes, as they are kept.
+#[derive(Drop)]
+pub struct LabelledNet<'a> {
+    pub net: &'a Net,
+    pub labels: &'a Labels,
+}
 
 /// What connects a node. A breaker is operated only where it is not fictitious. The rule is this project's own.
 #[derive(Clone, Debug, Drop)]

@@ -1,3 +1,3 @@
-pub mod Gathered
+pub mod ItemLoops
 pub mod Branches
 pub mod Once

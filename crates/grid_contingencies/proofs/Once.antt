@@ -17,7 +17,7 @@ use Rattle.grid_contingencies.specs.declared.Role.{Role}
 use Rattle.grid_contingencies.specs.declared.Role.TheVariants as roles
 use Rattle.grid_contingencies.specs.Made.{same_piece, same_role, same_each, has_item, is_first, distinct, made_of, made_by}
 use Rattle.grid_contingencies.specs.Pieces.{pieces_of}
-use Rattle.grid_contingencies.proofs.Gathered.{passed_more, passed_left}
+use Rattle.grid_contingencies.proofs.ItemLoops.{passed_more, passed_left}
 
 -- ---- items that are the same
 

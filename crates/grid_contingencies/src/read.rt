@@ -14,7 +14,7 @@ use grid_json::{
     Format, FromJson, JobFault, ReadError, Reason, few, job_member, member, member_otherwise,
     object, only, optional,
 };
-use grid_structure::Structure;
+use grid_structure::{Seeded, Structure};
 use grid_value::{ByteFault, Scratch, Tree, Value};
 use std::alloc::Global;
 
@@ -300,12 +300,13 @@ fn each_of(
 
 // The job of a value in the first format, with its contingencies.
 #[tactic(auto, unfolding(crate::specs::Jobs::first_root_at))]
-fn read_first(alloc: Global, value: &Value) -> Result<ScreenJob, ReadError>
+fn read_first(seeded: Seeded, value: &Value) -> Result<ScreenJob, ReadError>
     ensures job { Gives result (first_root_at (view value.now)) }
     ensures total { IfOk result (λ screen. command_total screen.job.scripts ≤ max_commands) }
 {
+    let alloc = seeded.alloc;
     only(alloc, value, &["format", "job", "contingencies"])?;
-    let job = job_member(alloc, value)?;
+    let job = job_member(seeded, value)?;
     let contingencies = contingencies_of(alloc, Format::One, value)?;
     Ok(ScreenJob {
         format: Format::One,
@@ -319,16 +320,17 @@ fn read_first(alloc: Global, value: &Value) -> Result<ScreenJob, ReadError>
 
 // The job of a value in the second format, with its contingencies.
 #[tactic(auto, unfolding(crate::specs::Jobs::second_root_at))]
-fn read_second(alloc: Global, value: &Value) -> Result<ScreenJob, ReadError>
+fn read_second(seeded: Seeded, value: &Value) -> Result<ScreenJob, ReadError>
     ensures job { Gives result (second_root_at (view value.now)) }
     ensures total { IfOk result (λ screen. command_total screen.job.scripts ≤ max_commands) }
 {
+    let alloc = seeded.alloc;
     only(
         alloc,
         value,
         &["format", "job", "variant", "contingencies", "each", "only"],
     )?;
-    let job = job_member(alloc, value)?;
+    let job = job_member(seeded, value)?;
     let variant = optional(alloc, Format::Two, value, "variant")?;
     let contingencies = contingencies_of(alloc, Format::Two, value)?;
     let each = each_of(alloc, &job.network, contingencies.len(), value)?;
@@ -344,28 +346,28 @@ fn read_second(alloc: Global, value: &Value) -> Result<ScreenJob, ReadError>
 }
 
 // The job of a value in a format.
-fn read_in(alloc: Global, format: Format, value: &Value) -> Result<ScreenJob, ReadError>
+fn read_in(seeded: Seeded, format: Format, value: &Value) -> Result<ScreenJob, ReadError>
     ensures job { Gives result (root_at format (view value.now)) }
     ensures total { IfOk result (λ screen. command_total screen.job.scripts ≤ max_commands) }
 {
     match format {
-        Format::One => read_first(alloc, value),
-        Format::Two => read_second(alloc, value),
-        Format::Three => read_second(alloc, value),
-        Format::Four => read_second(alloc, value),
-        Format::Five => read_second(alloc, value),
+        Format::One => read_first(seeded, value),
+        Format::Two => read_second(seeded, value),
+        Format::Three => read_second(seeded, value),
+        Format::Four => read_second(seeded, value),
+        Format::Five => read_second(seeded, value),
     }
 }
 
 // The job of a value, with its contingencies.
 #[tactic(auto, unfolding(crate::specs::Jobs::screen_at))]
-fn read_root(alloc: Global, value: &Value) -> Result<ScreenJob, ReadError>
+fn read_root(seeded: Seeded, value: &Value) -> Result<ScreenJob, ReadError>
     ensures job { Gives result (screen_at (view value.now)) }
     ensures total { IfOk result (λ screen. command_total screen.job.scripts ≤ max_commands) }
 {
-    object(alloc, value)?;
-    let format = format_member(alloc, value)?;
-    read_in(alloc, format, value)
+    object(seeded.alloc, value)?;
+    let format = format_member(seeded.alloc, value)?;
+    read_in(seeded, format, value)
 }
 
 /// The job of the bytes with its contingencies: BadJson exactly where `serde_json` has no reading of them, BadJob
@@ -378,17 +380,18 @@ fn read_root(alloc: Global, value: &Value) -> Result<ScreenJob, ReadError>
 /// contingencies and those that the loaded network has by the items are more than 20,000 together, that is
 /// TooManyContingencies at `each`. `only` is `all` or `losses`. The rules and their order are this project's own.
 #[tactic(auto, unfolding(crate::specs::Jobs::screen_job_of))]
-pub fn read_screen(alloc: Global, bytes: &[u8]) -> Result<ScreenJob, JobFault>
+pub fn read_screen(seeded: Seeded, bytes: &[u8]) -> Result<ScreenJob, JobFault>
     ensures job { JobGives result (screen_job_of bytes.now) }
     ensures total { IfOk result (λ screen. command_total screen.job.scripts ≤ max_commands) }
 {
+    let alloc = seeded.alloc;
     let mut scratch = Scratch::new(alloc);
     let tree = match Tree::from_slice(alloc, bytes, &mut scratch) {
         Ok(tree) => tree,
         Err(ByteFault::NotJson) => return Err(JobFault::BadJson),
         Err(ByteFault::Memory) => return Err(JobFault::Memory),
     };
-    match read_root(alloc, &tree.root()) {
+    match read_root(seeded, &tree.root()) {
         Ok(screen) => Ok(screen),
         Err(ReadError::Memory) => Err(JobFault::Memory),
         Err(ReadError::Fault(fault)) => Err(JobFault::BadJob {

@@ -13,7 +13,7 @@ use Rattle.grid_core.specs.declared.kept.SlotKept.{SlotKept}
 use Rattle.grid_core.specs.declared.kept.Kept.{Kept}
 use Rattle.grid_core.specs.declared.kept_levels.KeptLevels.{KeptLevels}
 use Rattle.grid_core.specs.Kept.{AreSlotBuses, AreBySlot, IsKept, forgotten}
-use Rattle.grid_core.proofs.Sharing.{no_copies}
+use Rattle.grid_core.proofs.LevelCopies.{no_copies}
 
 -- ---- items by place
 

@@ -37,7 +37,7 @@ use Rattle.grid_core.specs.declared.machine.Machine.{Machine}
 use Rattle.grid_core.specs.Verdicts.{puts, DecidesSome}
 use Rattle.grid_core.specs.Kept.{AreBySlot, IsKept, leaves, edit_leaves}
 use Rattle.grid_core.proofs.Fits.{substation-alike}
-use Rattle.grid_core.proofs.Sharing.{copies_same}
+use Rattle.grid_core.proofs.LevelCopies.{copies_same}
 
 -- ---- networks with the same levels and branches
 

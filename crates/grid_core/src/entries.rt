@@ -1,12 +1,12 @@
 // Entries of the journal.
-ghost use Rattle.std.specs.Prelude.{◌≡◌, ◌<◌, [], ◌∷◌, ◌++◌, length, OnOk, IfOk, IfSome};
+ghost use Rattle.std.specs.Prelude.{◌≡◌, ◌<◌, [], ◌∷◌, ◌++◌, length, OnOk, IfOk, IfSome, IsTrue};
 ghost use Rattle.std.specs.Vec.{vec_len, vec_capacity};
 ghost use Rattle.grid_core.specs.Journals.{entry_made};
 ghost use Rattle.grid_core.specs.Machines.{WorksOn};
 
 use crate::machine::{Machine, Made};
 use crate::{Entry, Reply, Request};
-use grid_ids::{Duplicate, Id, Memory, Same};
+use grid_ids::{Duplicate, Id, Memory};
 
 /// What an entry of the journal has before its step.
 #[derive(Drop)]
@@ -44,12 +44,16 @@ fn near(journal: &[Entry]) -> &[Entry] {
 }
 
 /// A part of an entry whose copies share what is long in it.
-pub(crate) trait Part: Duplicate + Same + Drop {
+pub(crate) trait Part: Duplicate + Drop {
     /// The part of an entry.
     fn of(entry: &Entry) -> &Self;
 
     /// Whether its copies share anything.
     fn is_shared(&self) -> bool;
+
+    /// Whether it is known to be equal to another part. Of parts whose copies share nothing this is not asked.
+    fn is_like(&self, other: &Self) -> bool
+        ensures { IsTrue result → self.now ≡ other.now };
 }
 
 // The part, shared with one of the last entries where that has an equal one.
@@ -71,7 +75,7 @@ fn near_equal<P: Part>(journal: &[Entry], part: &P) -> Option<P>
 {
     for entry in near(journal).iter().rev() {
         let near = P::of(entry);
-        if near.same(part) {
+        if near.is_like(part) {
             return near.copy().ok();
         }
     }

@@ -5,7 +5,7 @@ ghost use Rattle.std.proofs.Common.{rules};
 use crate::Entry;
 use crate::entries::Part;
 use grid_events::{Event, Events};
-use grid_ids::{Duplicate, Memory, Same, same_items};
+use grid_ids::{Duplicate, Memory, same_items};
 use grid_shared::Shared;
 use std::alloc::{AllocError, Global};
 use std::marker::Model;
@@ -101,12 +101,6 @@ impl Duplicate for EventList {
     ghost clone_equals = { Prim.search rules };
 }
 
-impl Same for EventList {
-    fn same(&self, other: &EventList) -> bool {
-        same_items(self.slice(), other.slice())
-    }
-}
-
 impl Part for EventList {
     fn of(entry: &Entry) -> &EventList {
         &entry.events
@@ -114,5 +108,9 @@ impl Part for EventList {
 
     fn is_shared(&self) -> bool {
         matches!(&self.held, Held::Shared(_))
+    }
+
+    fn is_like(&self, other: &EventList) -> bool {
+        same_items(self.slice(), other.slice())
     }
 }

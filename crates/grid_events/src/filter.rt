@@ -5,7 +5,7 @@ ghost use Rattle.std.proofs.Common.{rules};
 ghost use Rattle.grid_events.specs.Filters as filters;
 
 use crate::Event;
-use grid_ids::{Duplicate, Id, Same, Seq};
+use grid_ids::{Duplicate, Id, Seq};
 
 /// The kinds of events that a listener wants, and the one variant that it wants them of, where one is given.
 #[derive(Clone, Debug, Drop)]
@@ -24,18 +24,6 @@ pub type Filters = Seq<Filter>;
 
 impl Duplicate for Filter {
     ghost clone_equals = { Prim.search rules };
-}
-
-impl Same for Filter {
-    fn same(&self, other: &Filter) -> bool {
-        self.created == other.created
-            && self.removed == other.removed
-            && self.updated == other.updated
-            && self.variant_created == other.variant_created
-            && self.variant_overwritten == other.variant_overwritten
-            && self.variant_removed == other.variant_removed
-            && self.variant.same(&other.variant)
-    }
 }
 
 impl Filter {

@@ -8,7 +8,7 @@ use Rattle.grid_unions.specs.Summed.{no_sums}
 use Rattle.grid_unions.specs.Sweep.{IsFound}
 use Rattle.grid_unions.specs.declared.summed.Sums.{Sums}
 use Rattle.grid_unions.specs.declared.sweeps.Found.{Found}
-use Rattle.grid_unions.proofs.Embedding.{placed, IsEmbedded, large_fit, groups_embedded, greatest_many}
+use Rattle.grid_unions.proofs.Subgraphs.{placed, IsEmbedded, large_fit, groups_embedded, greatest_many}
 use Rattle.grid_unions.proofs.MainComponent.{count_of_main, sum_of_main, sum_of_first}
 use Rattle.grid_figures.specs.Figures.{main_sum}
 use Rattle.grid_figures.specs.Seen.{IsMain, IsFirstMain, IsSeen}

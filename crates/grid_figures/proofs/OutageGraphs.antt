@@ -16,7 +16,7 @@ use Rattle.grid_unions.specs.declared.summed.Sums.{Sums}
 use Rattle.grid_unions.specs.declared.sweeps.Change.{Change}
 use Rattle.grid_unions.specs.declared.sweeps.Found.{Found}
 use Rattle.grid_unions.proofs.Orders.{AreAmong}
-use Rattle.grid_unions.proofs.Embedding.{placed, IsEmbedded}
+use Rattle.grid_unions.proofs.Subgraphs.{placed, IsEmbedded}
 use Rattle.grid_unions.specs.Summed.{no_sums}
 use Rattle.grid_figures.specs.Layouts.{part, part_at, no_part, parts_of, kept_parts, changed_parts, first_part, part_of, seat_of, seats_of, HasSeat, HaveSeats, IsLaidOut, IsChangeOf}
 use Rattle.grid_figures.specs.Outages.{level_sums, sums_before, sums_under, number_of, LinkAt, no_link, link_at, links_left, pair_of, pairs_under, IsThere, LinksThere, is_changed, OutageFits}

@@ -1,9 +1,10 @@
 pub mod Lists
-pub mod Filling
-pub mod Holding
+pub mod GroupMembers
+pub mod IndexTables
 pub mod Indices
 pub mod Bridge
-pub mod Placing
-pub mod Standing
+pub mod TerminalNodes
+pub mod PassingEdges
 pub mod Steps
 pub mod Under
+pub mod NetEdges

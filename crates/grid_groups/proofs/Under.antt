@@ -14,8 +14,8 @@ use Rattle.grid_groups.specs.declared.grouping.Group.{Group}
 use Rattle.grid_groups.specs.Groups.{group_under, leaders, leader_of}
 use Rattle.grid_groups.specs.Labels.{graph_among, graph_under, passing_where, labels_where, places_with, items_at, label_of, labels_placed, leading, group_at, groups_by}
 use Rattle.grid_groups.proofs.Lists.{items_passing, map_items, both_made, all_made}
-use Rattle.grid_groups.proofs.Placing.{placed_node}
-use Rattle.grid_groups.proofs.Standing.{nodes-positioned, nodes-stood, passing_bus, passing_breaker, passing_ends}
+use Rattle.grid_groups.proofs.TerminalNodes.{placed_node}
+use Rattle.grid_groups.proofs.PassingEdges.{nodes-positioned, nodes-stood, passing_bus, passing_breaker, passing_ends}
 use Rattle.grid_groups.proofs.Bridge.{labels_long, label_below, group_items, placed_label, leading_items, leading_is, leader_is}
 
 -- a level as it stands: its nodes and terminals are the same, and what passes joins its nodes

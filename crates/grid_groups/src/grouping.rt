@@ -53,11 +53,11 @@ pub fn terminal_labels(alloc: Global, level: &Level, labels: &[u32]) -> Result<P
     ensures few { IfOk result (λ keys. length keys ≤ 1024) }
 {
     level.keeps();
-    let mut keys = Places::from_vec(Vec::with_capacity(alloc, level.placed().len())?);
+    let mut keys = Vec::with_capacity(alloc, level.placed().len())?;
     for placed in level.placed() {
-        keys.push(labels[index_of(level, placed.node) as usize])?;
+        keys.push_reserved(labels[index_of(level, placed.node) as usize]);
     }
-    Ok(keys)
+    Ok(Places::from_vec(keys))
 }
 
 // The group of a leader with nothing in it yet, and with room for so many nodes and terminals.
@@ -80,19 +80,16 @@ fn empty_group(
 }
 
 // The groups by rising leader with nothing in them yet, and with room for what has their labels. At each leader, the
-// number of its group is written.
+// number of its group takes the place of the count of its terminals.
 fn empty_groups(
     alloc: Global,
     level: &Level,
     labels: &[u32],
-    keys: &[u32],
     numbers: &mut Vec<u32>,
 ) -> Result<Vec<Group>, Memory>
     requires long { length labels.now ≡ length (nodes_of level.now) }
     requires below { (k : ℕ) → k < length labels.now
         → slice_index labels.now k < length labels.now }
-    requires keys { (k : ℕ) → k < length keys.now → slice_index keys.now k < length labels.now }
-    requires few { length keys.now ≤ 1024 }
     requires numbers { length numbers.old.items ≡ length labels.now }
     ensures groups { IfOk result (λ groups. groups.items
         ≡ map (λ l. group_of level.now l [] []) (leading labels.now)) }
@@ -101,13 +98,13 @@ fn empty_groups(
 {
     let count = level.node_count();
     let nodes = counts_of(alloc, labels, count)?;
-    let terminals = counts_of(alloc, keys, count)?;
     let mut groups = Vec::new(alloc);
     for leader in 0..count {
         let index = leader as usize;
         if labels[index] == leader {
+            let terminals = numbers[index];
             numbers[index] = groups.len() as u32;
-            groups.push(empty_group(alloc, level, leader, nodes[index], terminals[index])?)?;
+            groups.push(empty_group(alloc, level, leader, nodes[index], terminals)?)?;
         }
     }
     Ok(groups)
@@ -194,8 +191,8 @@ pub fn group_nodes(alloc: Global, level: &Level, labels: &[u32]) -> Result<Group
 {
     level.keeps();
     let keys = terminal_labels(alloc, level, labels)?;
-    let mut numbers = vec![in alloc; 0u32; labels.len()]?;
-    let mut groups = empty_groups(alloc, level, labels, keys.slice(), &mut numbers)?;
+    let mut numbers = counts_of(alloc, keys.slice(), level.node_count())?;
+    let mut groups = empty_groups(alloc, level, labels, &mut numbers)?;
     put_nodes(&mut groups, level, labels, numbers.as_slice())?;
     put_terminals(&mut groups, labels, numbers.as_slice(), keys.slice())?;
     Ok(Groups::from_vec(groups))
@@ -208,11 +205,11 @@ pub fn terminals_at(alloc: Global, level: &Level, places: &[u32]) -> Result<Term
         ≡ map (λ p. p.terminal) (items_at level.now.placed places.now)) }
 {
     let placed = level.placed();
-    let mut terminals = Terminals::from_vec(Vec::with_capacity(alloc, places.len())?);
+    let mut terminals = Vec::with_capacity(alloc, places.len())?;
     for place in places {
-        terminals.push(placed[*place as usize].terminal.copy()?)?;
+        terminals.push_reserved(placed[*place as usize].terminal.copy()?);
     }
-    Ok(terminals)
+    Ok(Terminals::from_vec(terminals))
 }
 
 /// The least node joined to a node of the level.

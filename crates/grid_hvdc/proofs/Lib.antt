@@ -1,5 +1,5 @@
-pub mod Checking
-pub mod Naming
-pub mod Numbering
-pub mod Stationed
-pub mod Writing
+pub mod LineChecks
+pub mod BusNames
+pub mod ComponentNumbers
+pub mod StationSites
+pub mod VariantTexts

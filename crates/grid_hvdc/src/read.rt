@@ -11,7 +11,7 @@ ghost use Rattle.grid_hvdc.specs.Jobs.{hvdc_at, hvdc_job_of};
 use crate::checks::check_lines;
 use crate::{HvdcJob, HvdcLine, HvdcLines};
 use grid_json::{Format, FromJson, JobFault, ReadError, job_member, member, only};
-use grid_structure::Structure;
+use grid_structure::{Seeded, Structure};
 use grid_value::{ByteFault, Scratch, Tree, Value};
 use std::alloc::Global;
 
@@ -46,12 +46,13 @@ fn check_member(alloc: Global, structure: &Structure, lines: &[HvdcLine]) -> Res
 
 // The job of a value, with its HVDC lines.
 #[tactic(auto, unfolding(crate::specs::Jobs::hvdc_at))]
-fn read_root(alloc: Global, value: &Value) -> Result<HvdcJob, ReadError>
+fn read_root(seeded: Seeded, value: &Value) -> Result<HvdcJob, ReadError>
     ensures job { Gives result (hvdc_at (view value.now)) }
     ensures total { IfOk result (λ hvdc. command_total hvdc.job.scripts ≤ max_commands) }
 {
+    let alloc = seeded.alloc;
     only(alloc, value, &["job", "hvdc"])?;
-    let job = job_member(alloc, value)?;
+    let job = job_member(seeded, value)?;
     let lines: HvdcLines = member(alloc, Format::One, value, "hvdc")?;
     check_member(alloc, &job.network, lines.slice())?;
     Ok(HvdcJob { job, lines })
@@ -63,17 +64,18 @@ fn read_root(alloc: Global, value: &Value) -> Result<HvdcJob, ReadError>
 /// then the ids of side 1 and of side 2 are each that of a converter station that no line or side before names. The
 /// rules and their order are this project's own.
 #[tactic(auto, unfolding(crate::specs::Jobs::hvdc_job_of))]
-pub fn read_hvdc(alloc: Global, bytes: &[u8]) -> Result<HvdcJob, JobFault>
+pub fn read_hvdc(seeded: Seeded, bytes: &[u8]) -> Result<HvdcJob, JobFault>
     ensures job { JobGives result (hvdc_job_of bytes.now) }
     ensures total { IfOk result (λ hvdc. command_total hvdc.job.scripts ≤ max_commands) }
 {
+    let alloc = seeded.alloc;
     let mut scratch = Scratch::new(alloc);
     let tree = match Tree::from_slice(alloc, bytes, &mut scratch) {
         Ok(tree) => tree,
         Err(ByteFault::NotJson) => return Err(JobFault::BadJson),
         Err(ByteFault::Memory) => return Err(JobFault::Memory),
     };
-    match read_root(alloc, &tree.root()) {
+    match read_root(seeded, &tree.root()) {
         Ok(hvdc) => Ok(hvdc),
         Err(ReadError::Memory) => Err(JobFault::Memory),
         Err(ReadError::Fault(fault)) => Err(JobFault::BadJob {

@@ -4,7 +4,7 @@ use Rattle.grid_graph.specs.Components.{component_number, component_numbers}
 use Rattle.grid_graph.specs.Graph.{graph, EndsBelow}
 use Rattle.grid_graph.proofs.Below.{pairs_below}
 use Rattle.grid_graph.proofs.Counts.{at_place, long_places}
-use Rattle.grid_islands.proofs.Sized.{number_below}
+use Rattle.grid_islands.proofs.ComponentSizes.{number_below}
 
 module _ (count : ℕ) (pairs : List (ℕ × ℕ)) (ends : EndsBelow pairs count) where
   pub numbers_long : (numbers : List ℕ) → numbers ≡ component_numbers count pairs → length numbers ≡ count

@@ -20,8 +20,8 @@ use Rattle.grid_structure.specs.Sites.{find_level, level_named, levels, site, te
 use Rattle.grid_structure.specs.Soundness.{IsSound}
 use Rattle.grid_structure.specs.Standing.{stands}
 use Rattle.grid_structure.specs.Indexed.{has_terminal, level_of_terminal}
-use Rattle.grid_structure.proofs.Changing.{find_at}
-use Rattle.grid_structure.proofs.Cleared.{above_found}
+use Rattle.grid_structure.proofs.LevelChanges.{find_at}
+use Rattle.grid_structure.proofs.TerminalRemovals.{above_found}
 use Rattle.grid_structure.proofs.Found.{level_below, terminal_nowhere, terminal_somewhere, terminal_test}
 use Rattle.grid_structure.proofs.OneNode.{one_node, walk_finds}
 use Rattle.grid_structure.proofs.Places.{position_found, position_none}

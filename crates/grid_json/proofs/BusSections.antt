@@ -18,13 +18,13 @@ use Rattle.grid_structure.specs.declared.EditFault.TheVariants as faults
 use Rattle.grid_structure.specs.Network.{Network}
 use Rattle.grid_structure.specs.Sites.{levels, level_named, taken}
 use Rattle.grid_structure.specs.Editing.{apply, edit_fault, with_level}
-use Rattle.grid_structure.proofs.Framing.{is_same, put, stands}
+use Rattle.grid_structure.proofs.Frames.{is_same, put, stands}
 use Rattle.grid_structure.proofs.Levels.{levels-with_levels}
 use Rattle.grid_structure.proofs.OneLevel.{fits, found}
 use Rattle.grid_json.specs.Reading.{under}
 use Rattle.grid_json.specs.Loading.{buses_load, edited}
 use Rattle.grid_json.specs.BusPositions.{BusesAreSections}
-use Rattle.grid_json.proofs.BusLoading.{accepted}
+use Rattle.grid_json.proofs.BusLoops.{accepted}
 use Rattle.grid_json.proofs.Results.{bound, inside}
 
 -- ---- a level in the place of one

@@ -19,8 +19,11 @@ use Rattle.grid_json.specs.declared.kinds.EventKind.{EventKind}
 use Rattle.grid_json.specs.declared.kinds.EventKind.TheVariants as events
 use Rattle.grid_json.specs.Reading.{◌>>=◌, here, word_at}
 
+abbrev pub switch_words : List (List ℕ × SwitchKind)
+switch_words = (codes "BREAKER", Breaker) ∷ (codes "DISCONNECTOR", Disconnector) ∷ (codes "LOAD_BREAK_SWITCH", LoadBreakSwitch) ∷ []
+
 abbrev pub switch_kind_at : Format → Data → Result SwitchKind Fault
-switch_kind_at format = word_at ((codes "BREAKER", Breaker) ∷ (codes "DISCONNECTOR", Disconnector) ∷ (codes "LOAD_BREAK_SWITCH", LoadBreakSwitch) ∷ [])
+switch_kind_at format = word_at switch_words
 
 abbrev pub injection_words : List (List ℕ × InjectionKind)
 injection_words =

@@ -1,8 +1,9 @@
 // Kinds by their words.
-ghost use Rattle.grid_value.specs.View.{view};
-ghost use Rattle.grid_json.specs.Reading.{Gives, word_at};
+ghost use Rattle.std.specs.Prelude.{◌≡◌};
+ghost use Rattle.serde_json.specs.Data.{string};
+ghost use Rattle.grid_json.specs.Reading.{or_fault, word_among};
 ghost use Rattle.grid_json.specs.Kinds as kinds;
-ghost use Rattle.grid_json.specs.Kinds.{injection_words};
+ghost use Rattle.grid_json.specs.Kinds.{switch_words, injection_words, injection_kind_at};
 
 use crate::format::Format;
 use crate::{FromJson, ReadError, Reason};
@@ -56,6 +57,18 @@ pub enum EventKind {
     VariantRemoved,
 }
 
+/// The kind of switches that a word names.
+pub(crate) fn switch_kind_of(word: &str) -> Option<SwitchKind>
+    ensures { or_fault Reason.Unknown result ≡ word_among switch_words word.now }
+{
+    match word {
+        "BREAKER" => Some(SwitchKind::Breaker),
+        "DISCONNECTOR" => Some(SwitchKind::Disconnector),
+        "LOAD_BREAK_SWITCH" => Some(SwitchKind::LoadBreakSwitch),
+        _ => None,
+    }
+}
+
 impl FromJson for SwitchKind {
     ghost use Rattle.grid_json.specs.Kinds.{switch_kind_at};
 
@@ -65,57 +78,56 @@ impl FromJson for SwitchKind {
         let Some(word) = value.as_str() else {
             return Err(ReadError::here(alloc, Reason::WrongKind));
         };
-        match word {
-            "BREAKER" => Ok(SwitchKind::Breaker),
-            "DISCONNECTOR" => Ok(SwitchKind::Disconnector),
-            "LOAD_BREAK_SWITCH" => Ok(SwitchKind::LoadBreakSwitch),
-            _ => Err(ReadError::here(alloc, Reason::Unknown)),
+        match switch_kind_of(word) {
+            Some(kind) => Ok(kind),
+            None => Err(ReadError::here(alloc, Reason::Unknown)),
         }
     }
 }
 
-// The kind of injections that a word of any format names.
-fn injection_kind_of(alloc: Global, value: &Value) -> Result<InjectionKind, ReadError>
-    ensures { Gives result (word_at injection_words (view value.now)) }
+/// The kind of injections that a word of any format names.
+fn injection_named(word: &str) -> Option<InjectionKind>
+    ensures { or_fault Reason.Unknown result ≡ word_among injection_words word.now }
 {
-    let Some(word) = value.as_str() else {
-        return Err(ReadError::here(alloc, Reason::WrongKind));
-    };
     match word {
-        "LOAD" => Ok(InjectionKind::Load),
-        "GENERATOR" => Ok(InjectionKind::Generator),
-        "BATTERY" => Ok(InjectionKind::Battery),
-        "SHUNT_COMPENSATOR" => Ok(InjectionKind::ShuntCompensator),
-        "STATIC_VAR_COMPENSATOR" => Ok(InjectionKind::StaticVarCompensator),
-        "CONVERTER_STATION" => Ok(InjectionKind::ConverterStation),
-        _ => Err(ReadError::here(alloc, Reason::Unknown)),
+        "LOAD" => Some(InjectionKind::Load),
+        "GENERATOR" => Some(InjectionKind::Generator),
+        "BATTERY" => Some(InjectionKind::Battery),
+        "SHUNT_COMPENSATOR" => Some(InjectionKind::ShuntCompensator),
+        "STATIC_VAR_COMPENSATOR" => Some(InjectionKind::StaticVarCompensator),
+        "CONVERTER_STATION" => Some(InjectionKind::ConverterStation),
+        _ => None,
     }
 }
 
-// The kind of injections, where the format has it.
-fn known_injection(
-    alloc: Global,
-    kind: InjectionKind,
-    format: Format,
-) -> Result<InjectionKind, ReadError>
-    ensures { Gives result (kinds.known_injection kind format) }
+/// The kind of injections, where the format has it.
+fn known_injection(kind: InjectionKind, format: Format) -> Option<InjectionKind>
+    ensures { or_fault Reason.Unknown result ≡ kinds.known_injection kind format }
 {
     match (kind, format) {
-        (InjectionKind::ConverterStation, Format::One | Format::Two | Format::Three) => {
-            Err(ReadError::here(alloc, Reason::Unknown))
-        }
-        (kind, _) => Ok(kind),
+        (InjectionKind::ConverterStation, Format::One | Format::Two | Format::Three) => None,
+        (kind, _) => Some(kind),
     }
+}
+
+/// The kind of injections that a word of the format names.
+pub(crate) fn injection_kind_of(format: Format, word: &str) -> Option<InjectionKind>
+    ensures { or_fault Reason.Unknown result ≡ injection_kind_at format (string word.now) }
+{
+    known_injection(injection_named(word)?, format)
 }
 
 impl FromJson for InjectionKind {
-    ghost use Rattle.grid_json.specs.Kinds.{injection_kind_at};
-
     ghost reads = { injection_kind_at };
 
     fn from_json(alloc: Global, format: Format, value: &Value) -> Result<InjectionKind, ReadError> {
-        let kind = injection_kind_of(alloc, value)?;
-        known_injection(alloc, kind, format)
+        let Some(word) = value.as_str() else {
+            return Err(ReadError::here(alloc, Reason::WrongKind));
+        };
+        match injection_kind_of(format, word) {
+            Some(kind) => Ok(kind),
+            None => Err(ReadError::here(alloc, Reason::Unknown)),
+        }
     }
 }
 

@@ -12,7 +12,7 @@ use crate::network::{
 };
 use crate::{ReadError, Reason};
 use grid_ids::{Duplicate, Id, Seq};
-use grid_structure::{ApplyFault, Edit, Structure};
+use grid_structure::{ApplyFault, Edit, Seeded, Structure};
 use std::alloc::Global;
 
 /// What loading makes edits of, within the thing that owns it. It is given up then.
@@ -260,10 +260,11 @@ fn load_parts(alloc: Global, draft: NetworkDraft, loader: &mut Loader) -> Result
 
 /// The network of a draft.
 #[tactic(auto, unfolding(crate::specs::Loading::network_load))]
-pub fn load_network(alloc: Global, draft: NetworkDraft) -> Result<Structure, ReadError>
+pub fn load_network(seeded: Seeded, draft: NetworkDraft) -> Result<Structure, ReadError>
     ensures { Gives result (network_load draft) }
 {
-    let mut loader = Loader::empty(alloc, draft.id.copy()?);
+    let alloc = seeded.alloc;
+    let mut loader = Loader::empty(seeded, draft.id.copy()?);
     match load_parts(alloc, draft, &mut loader) {
         Ok(()) => Ok(loader.structure),
         Err(e) => Err(e.under(alloc, "network")),

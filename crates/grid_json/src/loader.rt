@@ -11,7 +11,7 @@ use crate::network::LevelDraft;
 use crate::seen::SeenIds;
 use crate::{ReadError, Reason};
 use grid_ids::Id;
-use grid_structure::{End, Structure};
+use grid_structure::{End, Seeded, Structure};
 use std::alloc::Global;
 
 /// A network that is being loaded, and which of its levels have configured buses.
@@ -23,12 +23,12 @@ pub struct Loader {
 
 impl Loader {
     /// A network of this id with nothing in it. It takes no memory.
-    pub fn empty(alloc: Global, id: Id) -> Loader
+    pub fn empty(seeded: Seeded, id: Id) -> Loader
         ensures { loaded_of result ≡ nothing_of id }
     {
         Loader {
-            structure: Structure::empty(alloc, id),
-            bus_levels: SeenIds::empty(alloc),
+            structure: Structure::empty(seeded, id),
+            bus_levels: SeenIds::empty(seeded.alloc),
         }
     }
 

@@ -8,12 +8,12 @@ ghost use Rattle.grid_json.specs.Kept.{first_unknown, second_unknown};
 ghost use Rattle.grid_json.specs.Streams.{Streams, Among, Fills, Offered, WhereTaken, IsObject, disjoint};
 
 use crate::format::Format;
-use crate::kinds::InjectionKind;
+use crate::kinds::{InjectionKind, injection_kind_of, switch_kind_of};
 use crate::network::TransformerDraft;
 use crate::read::FromJson;
 use grid_ids::{Id, Seq};
 use grid_kinds::SwitchKind;
-use grid_value::{Tree, Value};
+use grid_value::{Tree, Value, next_flag, next_text, next_whole};
 use json::{Reader, Token};
 use std::alloc::Global;
 
@@ -56,56 +56,56 @@ pub fn leaf<T: FromJson>(alloc: Global, format: Format, reader: &mut Reader<'_>)
 
 impl FromTokens for i64 {
     fn from_tokens(
-        alloc: Global,
-        format: Format,
+        _alloc: Global,
+        _format: Format,
         reader: &mut Reader<'_>,
         _depth: usize,
     ) -> Option<i64> {
-        leaf(alloc, format, reader)
+        next_whole(reader)
     }
 }
 
 impl FromTokens for bool {
     fn from_tokens(
-        alloc: Global,
-        format: Format,
+        _alloc: Global,
+        _format: Format,
         reader: &mut Reader<'_>,
         _depth: usize,
     ) -> Option<bool> {
-        leaf(alloc, format, reader)
+        next_flag(reader)
     }
 }
 
 impl FromTokens for Id {
     fn from_tokens(
         alloc: Global,
-        format: Format,
+        _format: Format,
         reader: &mut Reader<'_>,
         _depth: usize,
     ) -> Option<Id> {
-        leaf(alloc, format, reader)
+        Id::new(alloc, next_text(reader)?).ok()
     }
 }
 
 impl FromTokens for SwitchKind {
     fn from_tokens(
-        alloc: Global,
-        format: Format,
+        _alloc: Global,
+        _format: Format,
         reader: &mut Reader<'_>,
         _depth: usize,
     ) -> Option<SwitchKind> {
-        leaf(alloc, format, reader)
+        switch_kind_of(next_text(reader)?)
     }
 }
 
 impl FromTokens for InjectionKind {
     fn from_tokens(
-        alloc: Global,
+        _alloc: Global,
         format: Format,
         reader: &mut Reader<'_>,
         _depth: usize,
     ) -> Option<InjectionKind> {
-        leaf(alloc, format, reader)
+        injection_kind_of(format, next_text(reader)?)
     }
 }
 

@@ -16,7 +16,7 @@ use crate::stream::{Stop, stream_draft};
 use crate::{Place, ReadError, Reason};
 use grid_events::Filters;
 use grid_requests::Scripts;
-use grid_structure::Structure;
+use grid_structure::{Seeded, Structure};
 use grid_value::{ByteFault, Scratch, Tree, Value, is_grammatical};
 use std::alloc::Global;
 
@@ -108,11 +108,11 @@ fn read_bytes(alloc: Global, bytes: &[u8]) -> Result<JobDraft, JobFault>
 
 /// The second pass: the draft with its network loaded.
 #[tactic(auto, unfolding(crate::specs::Whole::loaded))]
-fn load(alloc: Global, draft: JobDraft) -> Result<Job, ReadError>
+fn load(seeded: Seeded, draft: JobDraft) -> Result<Job, ReadError>
     ensures job { Gives result (loaded draft) }
     ensures scripts { IfOk result (λ job. job.scripts ≡ draft.scripts) }
 {
-    let network = load_network(alloc, draft.network)?;
+    let network = load_network(seeded, draft.network)?;
     Ok(Job {
         network,
         filters: draft.filters,
@@ -122,32 +122,33 @@ fn load(alloc: Global, draft: JobDraft) -> Result<Job, ReadError>
 }
 
 /// The second pass, with the fault of a job.
-fn read_second(alloc: Global, draft: JobDraft) -> Result<Job, JobFault>
+fn read_second(seeded: Seeded, draft: JobDraft) -> Result<Job, JobFault>
     ensures job { JobGives result (or_bad_job (loaded draft)) }
     ensures scripts { IfOk result (λ job. job.scripts ≡ draft.scripts) }
 {
-    of_job(load(alloc, draft))
+    of_job(load(seeded, draft))
 }
 
 /// The job of a value: both passes.
 #[tactic(auto, unfolding(crate::specs::Whole::whole_job_at))]
-fn read_whole(alloc: Global, value: &Value) -> Result<Job, ReadError>
+fn read_whole(seeded: Seeded, value: &Value) -> Result<Job, ReadError>
     ensures job { Gives result (whole_job_at (view value.now)) }
     ensures total { IfOk result (λ job. command_total job.scripts ≤ max_commands) }
 {
-    let draft = read_draft(alloc, value)?;
-    load(alloc, draft)
+    let draft = read_draft(seeded.alloc, value)?;
+    load(seeded, draft)
 }
 
 /// The job that is the member `job` of an object, which must be there: both passes over it, with `/job` before the
 /// place of its first fault.
-pub fn job_member(alloc: Global, value: &Value) -> Result<Job, ReadError>
+pub fn job_member(seeded: Seeded, value: &Value) -> Result<Job, ReadError>
     ensures job { Gives result (member_at whole_job_at (codes "job") (view value.now)) }
     ensures total { IfOk result (λ job. command_total job.scripts ≤ max_commands) }
 {
+    let alloc = seeded.alloc;
     match value.get("job") {
         None => Err(ReadError::here(alloc, Reason::Missing).under(alloc, "job")),
-        Some(found) => match read_whole(alloc, &found) {
+        Some(found) => match read_whole(seeded, &found) {
             Ok(job) => Ok(job),
             Err(e) => Err(e.under(alloc, "job")),
         },
@@ -155,22 +156,22 @@ pub fn job_member(alloc: Global, value: &Value) -> Result<Job, ReadError>
 }
 
 /// The job of a value: BadJob exactly where the job has a fault, with the first one; never BadJson.
-pub fn read_value(alloc: Global, value: &Value) -> Result<Job, JobFault>
+pub fn read_value(seeded: Seeded, value: &Value) -> Result<Job, JobFault>
     ensures job { JobGives result (or_bad_job (whole_job_at (view value.now))) }
     ensures total { IfOk result (λ job. command_total job.scripts ≤ max_commands) }
 {
-    of_job(read_whole(alloc, value))
+    of_job(read_whole(seeded, value))
 }
 
 /// The job of the bytes: BadJson exactly where `serde_json` has no reading of them, BadJob exactly where the job has a
 /// fault, with the first one.
 #[tactic(auto, unfolding(crate::specs::Whole::job_of))]
-pub fn read_job(alloc: Global, bytes: &[u8]) -> Result<Job, JobFault>
+pub fn read_job(seeded: Seeded, bytes: &[u8]) -> Result<Job, JobFault>
     ensures job { JobGives result (job_of bytes.now) }
     ensures total { IfOk result (λ job. command_total job.scripts ≤ max_commands) }
 {
-    match read_bytes(alloc, bytes) {
-        Ok(draft) => read_second(alloc, draft),
+    match read_bytes(seeded.alloc, bytes) {
+        Ok(draft) => read_second(seeded, draft),
         Err(fault) => Err(fault),
     }
 }

@@ -1,7 +1,7 @@
-pub mod Coming
+pub mod RemainingLines
 pub mod Commands
-pub mod Counted
-pub mod Escaped
+pub mod StepNumbers
+pub mod TextEscapes
 pub mod Objects
 pub mod Plain
 pub mod Reasons

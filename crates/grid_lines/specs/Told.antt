@@ -1,12 +1,13 @@
 -- Of which status a line on standard error tells.
 use Rattle.std.specs.Prelude.{ℕ}
 use Rattle.grid_lines.specs.declared.fault.Fault.{Fault}
-use Rattle.grid_lines.specs.declared.fault.Fault.TheVariants.{Usage, ReadFault, TooLong, BadJson, BadJob, WriteFault, NoMemory}
+use Rattle.grid_lines.specs.declared.fault.Fault.TheVariants.{Usage, ReadFault, NoRandomBytes, TooLong, BadJson, BadJob, WriteFault, NoMemory}
 
 -- the exit status of the program that tells a line
 abbrev pub told_number : Fault → ℕ
 told_number (Usage why hint) = 2
 told_number (ReadFault is_directory) = 3
+told_number NoRandomBytes = 3
 told_number TooLong = 4
 told_number (BadJson why) = 5
 told_number (BadJob place owner why) = 6

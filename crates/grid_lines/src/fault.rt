@@ -29,6 +29,9 @@ pub enum Fault {
     ReadFault {
         is_directory: bool,
     },
+    /// The system has no random bytes, by which tables of ids are hashed. It has the number of a source that failed.
+    #[error("grid: the system gave no random bytes; nothing was read")]
+    NoRandomBytes,
     /// The input is too long.
     #[error("grid: the input is longer than 33,554,432 bytes; nothing was written")]
     TooLong,

@@ -13,18 +13,18 @@ use Rattle.grid_structure.specs.Sites.{levels, branches, level_ids, branch_ids, 
 use Rattle.grid_structure.specs.Editing.{apply, max_levels}
 use Rattle.grid_structure.specs.declared.NamedBranch.{NamedBranch}
 use Rattle.grid_structure.specs.declared.Edit.TheVariants as edits
-use Rattle.grid_structure.proofs.Adding.{bare, apply_bare}
+use Rattle.grid_structure.proofs.SoundSubstations.{bare, apply_bare}
 use Rattle.grid_structure.proofs.Counts.{times, times-append, differ-times, not_there}
-use Rattle.grid_structure.proofs.Framing.{ids_of, locals, sub_ids, ids_counted, switch_total, switch_total-append}
-use Rattle.grid_structure.proofs.Homed.{none_there}
+use Rattle.grid_structure.proofs.Frames.{ids_of, locals, sub_ids, ids_counted, switch_total, switch_total-append}
+use Rattle.grid_structure.proofs.LevelHomes.{none_there}
 use Rattle.grid_structure.proofs.Substations.{names, levels_in, levels_at, transformers_at}
 use Rattle.grid_print.specs.Loads.{growing}
-use Rattle.grid_print.proofs.Filling.{ending, earlier, levels_before, ids_ending, not_taken_before, none_earlier, substation_found, level_put}
+use Rattle.grid_print.proofs.LastLevels.{ending, earlier, levels_before, ids_ending, not_taken_before, none_earlier, substation_found, level_put}
 use Rattle.grid_make.specs.Draws.{later, in_turn}
 use Rattle.grid_make.specs.MadeNetwork.{substation_name, level_name, part_name, nominal, level_edits, unrefused}
 use Rattle.grid_make.proofs.Turns.{and_then}
-use Rattle.grid_make.proofs.Numbered.{is_tail, numbers_apart, tails_decide}
-use Rattle.grid_make.proofs.Filled.{edit_of, all_tails, ids_with, ids_full, id_full, Room, filled}
+use Rattle.grid_make.proofs.IdNumbers.{is_tail, numbers_apart, tails_decide}
+use Rattle.grid_make.proofs.LevelParts.{edit_of, all_tails, ids_with, ids_full, id_full, Room, filled}
 use Rattle.grid_make.proofs.MadeLevel.{Flags, flags, parts, empty_level, filled_level, level_edits_are, parts_pass, tails_pass, tails_differ, part_count, switch_count}
 
 abbrev pub made : List Substation → Network

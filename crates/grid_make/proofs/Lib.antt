@@ -1,7 +1,7 @@
 pub mod Turns
 pub mod Commands
-pub mod Numbered
-pub mod Filled
+pub mod IdNumbers
+pub mod LevelParts
 pub mod MadeLevel
 pub mod LevelsMade
 pub mod LinesMade

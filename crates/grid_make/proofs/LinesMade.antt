@@ -16,14 +16,14 @@ use Rattle.grid_structure.specs.declared.NamedBranch.{NamedBranch}
 use Rattle.grid_structure.specs.declared.Branch.TheVariants.{Line}
 use Rattle.grid_structure.specs.declared.Edit.{Edit}
 use Rattle.grid_structure.proofs.Counts.{times, times-append}
-use Rattle.grid_structure.proofs.Framing.{ids_counted}
+use Rattle.grid_structure.proofs.Frames.{ids_counted}
 use Rattle.grid_structure.proofs.Sides.{Side, has, has-append, sides_of, sides_in}
 use Rattle.grid_structure.proofs.Substations.{levels_in, transformers_in}
 use Rattle.grid_print.proofs.BranchLoad.{part_of, partly, ids_partly, Ready, branch_loaded}
 use Rattle.grid_make.specs.Draws.{later, same, in_turn}
 use Rattle.grid_make.specs.MadeNetwork.{level_name, line_name, line_end, line_edits, level_edits, made_edits, blank, made_network, unrefused, MadeEditsAreAccepted}
 use Rattle.grid_make.proofs.Turns.{and_then, unrefused_after}
-use Rattle.grid_make.proofs.Numbered.{numbers_apart}
+use Rattle.grid_make.proofs.IdNumbers.{numbers_apart}
 use Rattle.grid_make.proofs.MadeLevel.{flags, joined_level, joined_passes, joined_kept, forth_side, back_side}
 use Rattle.grid_make.proofs.LevelsMade.{made, apart_letter, join_once, Before, sub_with, made_subs, levels_made}
 

@@ -17,8 +17,8 @@ use Rattle.grid_structure.specs.declared.Edit.TheVariants as edits
 use Rattle.grid_print.proofs.EndsLoad.{kept}
 use Rattle.grid_make.specs.Draws.{next, is_odd, in_turn}
 use Rattle.grid_make.specs.MadeNetwork.{substation_name, level_name, nominal, feeder_injection, busbar_edits, coupler_edit, switch_edit, internal_edit, injection_edit, feeder_edits, outlet_edits, level_edits}
-use Rattle.grid_make.proofs.Numbered.{is_tail}
-use Rattle.grid_make.proofs.Filled.{Part, busbar, switch, internal, injection, edit_of, full, all_tails, all_pass}
+use Rattle.grid_make.proofs.IdNumbers.{is_tail}
+use Rattle.grid_make.proofs.LevelParts.{Part, busbar, switch, internal, injection, edit_of, full, all_tails, all_pass}
 
 -- ---- parts
 

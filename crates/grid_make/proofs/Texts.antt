@@ -8,7 +8,7 @@ use Rattle.std.proofs.lemmas.List.{length-append}
 use Rattle.std.proofs.lemmas.List.Folds.{list_all-append}
 use Rattle.grid_ids.specs.Fault.{is_control, id_fault}
 use Rattle.grid_make.specs.Pieces.{is_visible, is_piece}
-use Rattle.grid_make.proofs.Numbered.{decimal_all}
+use Rattle.grid_make.proofs.IdNumbers.{decimal_all}
 
 no_control : (text : List ℕ) → list_all is_visible text ≡ true → find is_control text ≡ None
 no_control [] h = refl

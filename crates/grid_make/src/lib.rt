@@ -18,13 +18,13 @@ use crate::network::make_network;
 use crate::scripts::make_scripts;
 use grid_ids::{Memory, Seq};
 use grid_json::Job;
-use std::alloc::Global;
+use grid_structure::Seeded;
 
 /// The job of a seed up to 65,536 and a size from 1 to 1,000: a network of so many levels in a row, and four workers,
 /// each with four commands per level on a variant of its own. It has no listeners and no order. The network of a job
 /// that is made has every edit, none of them refused. The only other answer is Memory.
 #[tactic(auto, unfolding(crate::specs::MadeJob::made_job))]
-pub fn make_job(alloc: Global, seed: u32, size: u32) -> Result<Job, Memory>
+pub fn make_job(seeded: Seeded, seed: u32, size: u32) -> Result<Job, Memory>
     requires seed { seed ≤ 65536 }
     requires some { 1 ≤ size }
     requires few { size ≤ 1000 }
@@ -35,7 +35,8 @@ pub fn make_job(alloc: Global, seed: u32, size: u32) -> Result<Job, Memory>
     ensures total { IfOk result (λ job. command_total job.scripts ≤ max_commands) }
 {
     let mut draws = Draws::new(seed);
-    let network = make_network(alloc, &mut draws, size)?;
+    let alloc = seeded.alloc;
+    let network = make_network(seeded, &mut draws, size)?;
     let scripts = make_scripts(alloc, &mut draws, size)?;
     Ok(Job {
         network,

@@ -10,7 +10,7 @@ use crate::draws::Draws;
 use crate::names::{feeder_injection, feeder_switch, id_of, numbered, part};
 use grid_ids::Memory;
 use grid_kinds::{Injection, SwitchKind};
-use grid_structure::{ApplyFault, BoxedBranch, Branch, Edit, End, Structure};
+use grid_structure::{ApplyFault, BoxedBranch, Branch, Edit, End, Seeded, Structure};
 use std::alloc::Global;
 
 /// How many feeders a level has.
@@ -317,13 +317,14 @@ fn add_lines(alloc: Global, structure: &mut Structure, count: u32) -> Result<(),
 }
 
 /// The network of this size, from the draw after the last one on.
-pub fn make_network(alloc: Global, draws: &mut Draws, size: u32) -> Result<Structure, Memory>
+pub fn make_network(seeded: Seeded, draws: &mut Draws, size: u32) -> Result<Structure, Memory>
     requires some { 1 ≤ size }
     requires few { size ≤ 1000 }
     ensures network { IfOk result (λ network. IsUnrefused draws.old size network) }
     ensures draws { OnOk result (draws.new ≡ later (5 * size) draws.old) }
 {
-    let mut structure = Structure::empty(alloc, id_of(alloc, "M")?);
+    let alloc = seeded.alloc;
+    let mut structure = Structure::empty(seeded, id_of(alloc, "M")?);
     add_levels(alloc, &mut structure, draws, size)?;
     add_lines(alloc, &mut structure, size - 1)?;
     Ok(structure)

@@ -37,8 +37,8 @@ use Rattle.grid_outages.specs.Effects.{bus_at, link_of_buses, joined_of, joined_
 use Rattle.grid_outages.specs.Parts.{ChangeAt, changed_part, row_of, joined_at, own_among, own_at}
 use Rattle.grid_outages.specs.Tables.{is_end, ends_at}
 use Rattle.grid_outages.proofs.Members.{Among, among_got, got_among, among_left, among_right, among_parts, among_filter, filter_among, any_among, any_found, among_map, map_among, among_flat, flat_among}
-use Rattle.grid_outages.proofs.Placed.{row_has, row_is, place_has, place_is}
-use Rattle.grid_outages.proofs.Showing.{nothing_past}
+use Rattle.grid_outages.proofs.LevelPlaces.{row_has, row_is, place_has, place_is}
+use Rattle.grid_outages.proofs.ShownLevels.{nothing_past}
 use Rattle.grid_outages.proofs.There.{is_present, present_is, places_rise}
 
 -- ---- lists

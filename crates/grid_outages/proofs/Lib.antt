@@ -1,10 +1,10 @@
 pub mod Again
-pub mod Changing
-pub mod Linked
+pub mod OutageChanges
+pub mod BranchLinks
 pub mod Members
-pub mod Showing
+pub mod ShownLevels
 pub mod There
-pub mod Placed
+pub mod LevelPlaces
 pub mod Effects
 pub mod Looks
-pub mod Keeping
+pub mod KeptSums

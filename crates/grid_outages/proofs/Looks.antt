@@ -7,7 +7,7 @@ use Rattle.grid_level.specs.VoltageLevel.{VoltageLevel}
 use Rattle.grid_level.specs.Passing.{positioned}
 use Rattle.grid_powers.specs.Listed.{Listed}
 use Rattle.grid_busview.specs.Views.{bus_of, bus_view_of, bus_leasts, node_buses_of}
-use Rattle.grid_islands.proofs.Counting.{places_fit}
+use Rattle.grid_islands.proofs.LevelNumbers.{places_fit}
 use Rattle.grid_watts.specs.Watts.{level_watts}
 use Rattle.grid_sums.specs.Sums.{bus_sums, buses_under, sums_of}
 use Rattle.grid_outages.specs.declared.outage.Changed.{Changed}

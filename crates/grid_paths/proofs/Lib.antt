@@ -1,8 +1,9 @@
 pub mod Least
-pub mod Routing
+pub mod RouteCosts
 pub mod Shortest
-pub mod Rows
-pub mod Searching
-pub mod Walking
-pub mod Tied
-pub mod Renamed
+pub mod Nexts
+pub mod Answered
+pub mod PathSearches
+pub mod CostWalks
+pub mod PathTies
+pub mod RenamedPaths

@@ -6,11 +6,10 @@ use Rattle.std.specs.Ordering.{nat_cmp, is_lt}
 use Rattle.std.specs.Cmp.Lexicographic.{slice_cmp}
 use Rattle.std.proofs.lemmas.Bool.{false≢true, cases_lt, and_from, eqb-true, or_cases}
 use Rattle.grid_lemmas.proofs.Bools.{not_if, not_true}
-use Rattle.grid_paths.specs.declared.PathEdge.{PathEdge}
 use Rattle.grid_paths.specs.Paths.{has_node, all_differ, across, visited, differ_if_some, is_path, last_in, last_node}
-use Rattle.grid_paths.specs.Routes.{ends_of, all_ends, passes, is_goal, is_route, IsLeastRoute, EndsBelow}
+use Rattle.grid_paths.specs.Routes.{PathEdge, ends_of, all_ends, passes, is_goal, is_route, IsLeastRoute, EndsBelow}
 use Rattle.grid_paths.specs.Search.{far, Leads, cost_at, AreLeastCosts, Walks}
-use Rattle.grid_paths.proofs.Routing.{Leads_back, Leads_same, Leads_weight, Leads_passes, Leads_below, weight_positive, cost, cost_most, not_better, greater, tied, Runs, routed, edge_ends}
+use Rattle.grid_paths.proofs.RouteCosts.{Leads_back, Leads_same, Leads_weight, Leads_passes, Leads_below, weight_positive, cost, cost_most, not_better, greater, tied, Runs, routed, edge_ends}
 
 -- ---- no run costs less, if it costs no more than the limit
 

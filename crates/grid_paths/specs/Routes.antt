@@ -3,8 +3,13 @@ use Rattle.std.specs.Prelude.{ℕ, ◌<◌, Bool, true, false, not, ◌&&◌, Op
 use Rattle.std.specs.List.{list_all, slice_index_or}
 use Rattle.grid_paths.specs.declared.Way.{Way}
 use Rattle.grid_paths.specs.declared.Way.TheVariants.{Free, Closable, Barred}
-use Rattle.grid_paths.specs.declared.PathEdge.{PathEdge}
 use Rattle.grid_paths.specs.Paths.{is_path, last_node, is_better}
+
+-- an edge that joins two nodes, and what it takes to pass it from either
+pub record PathEdge : Type 0 where
+  pub a : ℕ
+  pub b : ℕ
+  pub way : Way
 
 abbrev pub ends_of : PathEdge → ℕ × ℕ
 ends_of edge = (edge.a, edge.b)

@@ -1,13 +1,13 @@
--- What the search for the least route keeps: for each node the chain of edges that leave it, and the least cost that was found.
+-- What the search for the least route goes over and keeps: the edges at each node, and the least cost that was found.
 use Rattle.std.specs.Prelude.{◌≡◌, ◌≢◌, ℕ, ◌+◌, ◌*◌, ◌<◌, ◌≤◌, Bool, true, false, Option, Some, None, List, [], ◌∷◌, length, slice_get, slice_index, ◌⊎◌, sum, slice_set}
 use Rattle.std.specs.List.Sorted.{IsPermutation}
 use Rattle.std.specs.List.{Contains, slice_index_or}
 use Rattle.grid_paths.specs.declared.Way.{Way}
 use Rattle.grid_paths.specs.declared.Way.TheVariants.{Free, Closable, Barred}
-use Rattle.grid_paths.specs.declared.PathEdge.{PathEdge}
-use Rattle.grid_paths.specs.declared.Step.{Step}
+use Rattle.grid_queue.specs.declared.net.Next.{Next}
+use Rattle.grid_queue.specs.Net.{next_to}
 use Rattle.grid_paths.specs.Paths.{across}
-use Rattle.grid_paths.specs.Routes.{ends_of, is_goal}
+use Rattle.grid_paths.specs.Routes.{PathEdge, ends_of, is_goal}
 
 -- more than any route costs
 abbrev pub far : ℕ
@@ -60,47 +60,39 @@ Walks edges goals found u [] = is_goal goals u ≡ true
 Walks edges goals found u (place ∷ rest) =
     (v : ℕ) × (weight : ℕ) × Leads edges u place v weight × (weight + cost_at found v ≡ cost_at found u) × IsLeastPlace edges found u place × Walks edges goals found v rest
 
--- ---- the chains of edges
+-- ---- the edges at a node
 
--- a link other than 0 is one more than the place of an edge that leads on from u
-abbrev pub IsLed : List PathEdge → ℕ → ℕ → Type 0
-IsLed edges u link = (place : ℕ) → link ≡ place + 1 → (v : ℕ) × (weight : ℕ) × Leads edges u place v weight
+-- the edge leads on from u, to that node
+pub record IsNext (pairs : List (ℕ × ℕ)) (u : ℕ) (next : Next) : Type 0 where
+  pub pair : ℕ × ℕ
+  pub at : slice_get pairs next.edge ≡ Some pair
+  pub over : across u pair ≡ Some next.node
 
--- of the first edges that lead on from u the link is to the last, or 0 if there is none
-pub record IsLink (edges : List PathEdge) (u count link : ℕ) : Type 0 where
-  pub within : link ≤ count
-  pub led : IsLed edges u link
-  pub none : (place v weight : ℕ) → link ≤ place → place < count → Leads edges u place v weight → ⊥
+-- of edges by their ends, those that lead on from u, in order of place
+pub record AreNexts (pairs : List (ℕ × ℕ)) (u : ℕ) (nexts : List Next) : Type 0 where
+  pub each : (i : ℕ) (next : Next) → slice_get nexts i ≡ Some next → IsNext pairs u next
+  pub all : (place v : ℕ) → IsNext pairs u (next_to place v) → (i : ℕ) × (slice_get nexts i ≡ Some (next_to place v))
+  pub rising : (i j : ℕ) (next other : Next) → i ≤ j → slice_get nexts i ≡ Some next → slice_get nexts j ≡ Some other → next.edge ≤ other.edge
 
--- the links from an edge at its two ends
-abbrev pub AreLinks : List PathEdge → PathEdge → ℕ → ℕ × ℕ → Type 0
-AreLinks edges edge place links = IsLink edges edge.a place links.0 × IsLink edges edge.b place links.1
+unfoldable pub weight_of_edge : Option PathEdge → Option ℕ
+weight_of_edge (Some edge) = weight_of_lem edge.way
+weight_of_edge None = None
 
--- the chains of the first edges
-pub record AreChainsTo (edges : List PathEdge) (count : ℕ) (firsts : List ℕ) (nexts : List (ℕ × ℕ)) : Type 0 where
-  pub long : length nexts ≡ count
-  pub first : (u d : ℕ) → u < length firsts → IsLink edges u count (slice_index_or firsts u d)
-  pub next : (place : ℕ) (edge : PathEdge) (d : ℕ × ℕ) → place < count → slice_get edges place ≡ Some edge → AreLinks edges edge place (slice_index_or nexts place d)
-
-abbrev pub AreChains : List PathEdge → List ℕ → List (ℕ × ℕ) → Type 0
-AreChains edges firsts nexts = AreChainsTo edges (length edges) firsts nexts
-
--- the step at a link of the chain of u, and the next link
-pub record Passes (edges : List PathEdge) (u link : ℕ) (step : Step) (next : ℕ) : Type 0 where
-  pub here : link ≡ step.place + 1
-  pub leads : Leads edges u step.place step.to step.weight
-  pub follows : IsLink edges u step.place next
+-- the weight of the edge at a place, if it isn't barred
+unfoldable pub step_weight : List PathEdge → ℕ → Option ℕ
+step_weight edges place = weight_of_edge (slice_get edges place)
 
 -- ---- the best step
 
-abbrev pub IsTight : List ℕ → ℕ → Step → Type 0
-IsTight found here s = s.weight + cost_at found s.to ≡ here
+-- the step costs just this much
+abbrev pub IsTight : List PathEdge → List ℕ → ℕ → Next → Type 0
+IsTight edges found here next = (weight : ℕ) × (step_weight edges next.edge ≡ Some weight) × (weight + cost_at found next.node ≡ here)
 
--- of the steps from u that cost just this much, from a place on, the one of least place
-abbrev pub IsBestFrom : List PathEdge → List ℕ → ℕ → ℕ → ℕ → Option Step → Type 0
-IsBestFrom edges found u here link None = (place v weight : ℕ) → link ≤ place → Leads edges u place v weight → weight + cost_at found v ≡ here → ⊥
-IsBestFrom edges found u here link (Some s) =
-    Leads edges u s.place s.to s.weight × IsTight found here s × ((place v weight : ℕ) → link ≤ place → Leads edges u place v weight → weight + cost_at found v ≡ here → s.place ≤ place)
+-- of the steps from u that cost just what was found at u, the one of least place
+abbrev pub IsBest : List PathEdge → List ℕ → ℕ → Option Next → Type 0
+IsBest edges found u None = (place v weight : ℕ) → Leads edges u place v weight → weight + cost_at found v ≡ cost_at found u → ⊥
+IsBest edges found u (Some next) =
+    (weight : ℕ) × Leads edges u next.edge next.node weight × (weight + cost_at found next.node ≡ cost_at found u) × IsLeastPlace edges found u next.edge
 
 -- ---- the search
 
@@ -128,10 +120,10 @@ pub record IsStarted (goals : List Bool) (count : ℕ) (found : List ℕ) (front
 abbrev pub potential : List ℕ → List (ℕ × ℕ) → ℕ
 potential found front = 2 * sum found + length front
 
--- a step from a node that costs this much was taken: its end costs no more than by it
-pub record Takes (step : Step) (cost : ℕ) (found : List ℕ) (front : List (ℕ × ℕ)) (found' : List ℕ) (front' : List (ℕ × ℕ)) : Type 0 where
-  pub cases : ((cost_at found step.to ≤ step.weight + cost) × (found' ≡ found) × (front' ≡ front))
-      ⊎ ((step.weight + cost < cost_at found step.to) × (found' ≡ slice_set found step.to (step.weight + cost)) × IsPermutation ((step.weight + cost, step.to) ∷ front) front')
+-- a step of some weight, if it isn't barred, from a node that costs this much was taken: its end costs no more than by it
+pub record Takes (weight : Option ℕ) (to cost : ℕ) (found : List ℕ) (front : List (ℕ × ℕ)) (found' : List ℕ) (front' : List (ℕ × ℕ)) : Type 0 where
+  pub cases : (((w : ℕ) → weight ≡ Some w → cost_at found to ≤ w + cost) × (found' ≡ found) × (front' ≡ front))
+      ⊎ ((w : ℕ) × (weight ≡ Some w) × (w + cost < cost_at found to) × (found' ≡ slice_set found to (w + cost)) × IsPermutation ((w + cost, to) ∷ front) front')
   pub falls : potential found' front' ≤ potential found front
 
 pub record Spreads (edges : List PathEdge) (x cost : ℕ) (found : List ℕ) (front : List (ℕ × ℕ)) (found' : List ℕ) (front' : List (ℕ × ℕ)) : Type 0 where

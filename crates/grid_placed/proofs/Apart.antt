@@ -27,12 +27,12 @@ use Rattle.grid_placed.specs.Views.{outlets_among, nodes_among}
 use Rattle.grid_placed.specs.Apart.{bus_alone, outlet_alone, joint_shown, apart_view}
 use Rattle.grid_placed.specs.Laws.{records_retained}
 use Rattle.grid_placed.proofs.Nodes.{numbers_from, filter_map_of, filter_alike, not_not, level_nodes, level_passing, spokes}
-use Rattle.grid_placed.proofs.Hanging.{outlet_of}
-use Rattle.grid_placed.proofs.Joined.{any_none, pairs_of, node_total, nodes_joined, places_split, joined_alone, least_bus, least_hanging}
-use Rattle.grid_placed.proofs.Grouped.{filter_numbered, group_is, outlet_is, standing_alone}
-use Rattle.grid_placed.proofs.Parting.{none_kept, within_none}
-use Rattle.grid_placed.proofs.Flagged.{level_in_positions, places_positioned}
-use Rattle.grid_placed.proofs.Viewing.{group_nodes, group_terminals}
+use Rattle.grid_placed.proofs.BusTerminals.{outlet_of}
+use Rattle.grid_placed.proofs.JoinedNodes.{any_none, pairs_of, node_total, nodes_joined, places_split, joined_alone, least_bus, least_hanging}
+use Rattle.grid_placed.proofs.GroupMembers.{filter_numbered, group_is, outlet_is, standing_alone}
+use Rattle.grid_placed.proofs.DisconnectPlans.{none_kept, within_none}
+use Rattle.grid_placed.proofs.PresentLevels.{level_in_positions, places_positioned}
+use Rattle.grid_placed.proofs.BusViews.{group_nodes, group_terminals}
 
 -- ---- lists
 

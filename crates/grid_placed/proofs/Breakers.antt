@@ -17,7 +17,7 @@ use Rattle.grid_connect.specs.Plans.{all_ends}
 use Rattle.grid_placed.specs.Places.{Joint, Outlet, PlacedLevel, PlacesFit}
 use Rattle.grid_placed.specs.Translation.{joint_breaker, outlet_breaker, outlets_at, translated_level}
 use Rattle.grid_placed.proofs.Nodes.{StandsWell}
-use Rattle.grid_placed.proofs.Hanging.{absent}
+use Rattle.grid_placed.proofs.BusTerminals.{absent}
 
 -- what stands where no switch does
 abbrev no_joint : Joint

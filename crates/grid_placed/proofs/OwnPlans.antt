@@ -9,10 +9,10 @@ use Rattle.grid_connect.specs.declared.DisconnectPlan.TheVariants.{Opens, Alread
 use Rattle.grid_placed.specs.Places.{Outlet, PlacedLevel, PlacesFit, positioned}
 use Rattle.grid_placed.specs.Translation.{bus_terminal, translated_level}
 use Rattle.grid_placed.specs.Laws.{HasOwnPlans}
-use Rattle.grid_placed.proofs.Hanging.{absent}
-use Rattle.grid_placed.proofs.Flagged.{level_in_positions, places_positioned}
-use Rattle.grid_placed.proofs.Connecting.{connect_closes, connect_stays, connect_bus}
-use Rattle.grid_placed.proofs.Parting.{disconnect_opens, disconnect_stays, disconnect_bus}
+use Rattle.grid_placed.proofs.BusTerminals.{absent}
+use Rattle.grid_placed.proofs.PresentLevels.{level_in_positions, places_positioned}
+use Rattle.grid_placed.proofs.ConnectPlans.{connect_closes, connect_stays, connect_bus}
+use Rattle.grid_placed.proofs.DisconnectPlans.{disconnect_opens, disconnect_stays, disconnect_bus}
 
 module _ (level : PlacedLevel) (fit : PlacesFit level) where
   connects_by : (k : ℕ) → k < length level.outlets → (flag : Bool) → (get_or level.outlets k absent).connected ≡ flag

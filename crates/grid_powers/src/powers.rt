@@ -3,7 +3,7 @@ ghost use Rattle.std.specs.Prelude.{◌≡◌, ◌↔◌, ◌+ℤ◌, pos, neg_�
 ghost use Rattle.std.proofs.Common.{rules};
 ghost use Rattle.grid_powers.specs.Listed.{value_in, with_value, without_value, IsByOrder, opening_of, shifted};
 
-use grid_ids::{Duplicate, Id, Memory, Same};
+use grid_ids::{Duplicate, Id, Memory};
 use std::alloc::{AllocError, Global};
 use std::collections::BTreeMap;
 use std::marker::Model;
@@ -132,19 +132,4 @@ impl Clone for Powers {
 
 impl Duplicate for Powers {
     ghost clone_equals = { Prim.search rules };
-}
-
-// Whether two lists have equal pairs.
-fn same_values(values: &BTreeMap<Id, i64>, others: &BTreeMap<Id, i64>) -> bool
-    ensures { IsTrue result ↔ (values.now.entries ≡ others.now.entries) }
-{
-    values == others
-}
-
-impl Same for Powers {
-    fn same(&self, other: &Powers) -> bool {
-        same_values(&self.values, &other.values)
-            && self.load == other.load
-            && self.generation == other.generation
-    }
 }

@@ -1,5 +1,5 @@
 use super::*;
-use grid_ids::{Duplicate, Id, Same};
+use grid_ids::{Duplicate, Id};
 use std::test::Fail;
 
 // Tells that a value may be used and kept by other threads.
@@ -17,7 +17,6 @@ fn values_are_put_replaced_and_forgotten(rt: HostRuntime) -> Result<(), Fail> {
     assert_eq!(rt; powers.value(&load), Some(6));
     assert_eq!(rt; powers.len(), 2);
     assert_eq!(rt; copy.value(&load), Some(5));
-    assert!(rt; !copy.same(&powers));
     assert_eq!(rt; powers.forget(&load), Some(6));
     assert_eq!(rt; powers.value(&load), None);
     assert_eq!(rt; copy.len(), 2);

@@ -24,8 +24,8 @@ use Rattle.grid_structure.specs.declared.Branch.TheVariants.{Line, TwoWindings, 
 use Rattle.grid_structure.specs.declared.End.{End}
 use Rattle.grid_structure.specs.declared.Edit.TheVariants as edits
 use Rattle.grid_structure.proofs.Counts.{times, times-append}
-use Rattle.grid_structure.proofs.Framing.{is_same, ids_of, put, local, locals, ids_counted, level_ids_once, frame, frame-with_levels, same_sub_ids, same_level_ids, same_branch_ids}
-use Rattle.grid_structure.proofs.Homed.{none_there}
+use Rattle.grid_structure.proofs.Frames.{is_same, ids_of, put, local, locals, ids_counted, level_ids_once, frame, frame-with_levels, same_sub_ids, same_level_ids, same_branch_ids}
+use Rattle.grid_structure.proofs.LevelHomes.{none_there}
 use Rattle.grid_structure.proofs.Levels.{levels-with_levels}
 use Rattle.grid_structure.proofs.OneLevel.{names_of}
 use Rattle.grid_structure.proofs.Sides.{Side, has, has-append, side_of, sides_of, sides_in, same_side_is}

@@ -21,15 +21,15 @@ use Rattle.grid_structure.specs.Network.{Network, Substation}
 use Rattle.grid_structure.specs.Sites.{levels, switches, all_ids}
 use Rattle.grid_structure.specs.Editing.{max_levels, max_switches}
 use Rattle.grid_structure.proofs.Counts.{times, differ-times}
-use Rattle.grid_structure.proofs.Framing.{local}
+use Rattle.grid_structure.proofs.Frames.{local}
 use Rattle.grid_structure.proofs.OneLevel.{names_of}
-use Rattle.grid_structure.proofs.Removing.{names_filter}
+use Rattle.grid_structure.proofs.SoundRemovals.{names_filter}
 use Rattle.grid_json.specs.declared.fault.Fault.{Fault}
 use Rattle.grid_json.specs.Loading.{load_items, refused, busbar_load, switch_load, internal_load, injection_load, level_load}
 use Rattle.grid_print.specs.Laws.{switch_draft, internal_draft, busbar_draft_of, injection_draft_of, level_draft}
 use Rattle.grid_print.specs.Loads.{growing, more, bare, LevelsAreLoaded}
 use Rattle.grid_print.proofs.LevelRoom.{below, above, placing_in, first_within, around, around_within}
-use Rattle.grid_print.proofs.Filling.{ending, ids_ending, switches_ending, length_before}
+use Rattle.grid_print.proofs.LastLevels.{ending, ids_ending, switches_ending, length_before}
 use Rattle.grid_print.proofs.LevelParts.{part, IsReady, none_is, name_missing, level_made, busbar_put, injection_put, switch_put, internal_put}
 
 -- ---- tests of what stands at a node

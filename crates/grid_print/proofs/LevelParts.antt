@@ -21,14 +21,14 @@ use Rattle.grid_structure.specs.Sites.{levels, switches, all_ids}
 use Rattle.grid_structure.specs.Editing.{apply, with_single, stand_fault, max_levels, max_switches}
 use Rattle.grid_structure.specs.declared.Edit.TheVariants as edits
 use Rattle.grid_structure.proofs.Counts.{times, times-append}
-use Rattle.grid_structure.proofs.Framing.{is_same, ids_of, local, switch_ids_of, switch_total}
+use Rattle.grid_structure.proofs.Frames.{is_same, ids_of, local, switch_ids_of, switch_total}
 use Rattle.grid_structure.proofs.OneLevel.{names_of}
 use Rattle.grid_structure.proofs.Singles.{busbar_is, injection_is, terminal_of}
-use Rattle.grid_structure.proofs.Naming.{names_both}
-use Rattle.grid_structure.proofs.Removing.{names_filter}
+use Rattle.grid_structure.proofs.NameCounts.{names_both}
+use Rattle.grid_structure.proofs.SoundRemovals.{names_filter}
 use Rattle.grid_print.specs.Loads.{growing}
 use Rattle.grid_print.proofs.LevelRoom.{below, above, switch_done, internal_done, terminal_done}
-use Rattle.grid_print.proofs.Filling.{ending, earlier, own_once, not_taken, not_taken_before, none_earlier, named_last, put_last, switches_ending, substation_found, level_put}
+use Rattle.grid_print.proofs.LastLevels.{ending, earlier, own_once, not_taken, not_taken_before, none_earlier, named_last, put_last, switches_ending, substation_found, level_put}
 
 -- the level with these of its parts
 abbrev pub part : VoltageLevel → List Switch → List Internal → List Placed → VoltageLevel

@@ -19,9 +19,9 @@ use Rattle.grid_structure.specs.declared.Branch.{Branch}
 use Rattle.grid_structure.specs.declared.Branch.TheVariants.{Line, TwoWindings, ThreeWindings}
 use Rattle.grid_structure.specs.declared.Edit.TheVariants as edits
 use Rattle.grid_structure.proofs.Counts.{times, times-differ, differ-times}
-use Rattle.grid_structure.proofs.Framing.{is_same, ids_of, locals, locals-append, level_ids_once, switch_total, switch_total-append, switches_counted}
-use Rattle.grid_structure.proofs.Homed.{none_there}
-use Rattle.grid_structure.proofs.Removing.{sides_by}
+use Rattle.grid_structure.proofs.Frames.{is_same, ids_of, locals, locals-append, level_ids_once, switch_total, switch_total-append, switches_counted}
+use Rattle.grid_structure.proofs.LevelHomes.{none_there}
+use Rattle.grid_structure.proofs.SoundRemovals.{sides_by}
 use Rattle.grid_structure.proofs.Sides.{Side, has, side_of}
 use Rattle.grid_structure.proofs.Substations.{levels_in, transformers_in, levels_at}
 use Rattle.grid_json.specs.declared.network.TransformerDraft.{TransformerDraft}
@@ -29,7 +29,7 @@ use Rattle.grid_json.specs.declared.network.LineDraft.{LineDraft}
 use Rattle.grid_json.specs.declared.network.AnyLevelDraft.TheVariants as drafts
 use Rattle.grid_json.specs.Loading.{load_items, level_load}
 use Rattle.grid_json.specs.OlderFormats.{is_of_nodes, transformer_at_nodes, line_at_nodes, substation_of_nodes, network_of_nodes, transformer_edit, line_edit, level_edits, substation_edits, parts_edits, network_edits}
-use Rattle.grid_json.proofs.OlderLoading.{nodes_load}
+use Rattle.grid_json.proofs.OlderNetworks.{nodes_load}
 use Rattle.grid_print.specs.Laws.{level_draft, transformer_draft_of, line_draft_of, substation_draft, network_draft}
 use Rattle.grid_print.specs.Loads.{bare, growing, more, LevelsAreLoaded, NetworksAreLoaded}
 use Rattle.grid_print.proofs.LevelLoad.{level_is_loaded}

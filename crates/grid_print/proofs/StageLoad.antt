@@ -22,10 +22,10 @@ use Rattle.grid_structure.specs.declared.Branch.{Branch}
 use Rattle.grid_structure.specs.declared.Branch.TheVariants.{Line, TwoWindings, ThreeWindings}
 use Rattle.grid_structure.specs.declared.End.{End}
 use Rattle.grid_structure.specs.declared.Edit.TheVariants as edits
-use Rattle.grid_structure.proofs.Branching.{with_transformer}
+use Rattle.grid_structure.proofs.SoundBranches.{with_transformer}
 use Rattle.grid_structure.proofs.Counts.{times, times-append, differ-times, there}
-use Rattle.grid_structure.proofs.Framing.{is_same, ids_of, locals, locals-append, ids_counted, level_ids_once}
-use Rattle.grid_structure.proofs.Removing.{sides_by}
+use Rattle.grid_structure.proofs.Frames.{is_same, ids_of, locals, locals-append, ids_counted, level_ids_once}
+use Rattle.grid_structure.proofs.SoundRemovals.{sides_by}
 use Rattle.grid_structure.proofs.Sides.{Side, has, has-append, side_of, sides_at, sides_of, sides_in, sides_in-append, same_side_is}
 use Rattle.grid_structure.proofs.Substations.{names, changed_at, levels_in, transformers_in, levels_at, transformers_at, sub_passes, sub_ids_once, all_implied}
 use Rattle.grid_structure.proofs.Uniquely.{names_of_branches, some_branch}

@@ -97,7 +97,7 @@ fn value_of(
 }
 
 /// The text of a value, with a newline after it.
-#[tactic(auto, using(crate::proofs::Returning::line_returns))]
+#[tactic(auto, using(crate::proofs::NewlineTexts::line_returns))]
 fn line(alloc: Global, value: &Value) -> Result<Vec<u8>, Memory>
     requires whole { has_float (view value.now) ≡ false }
     requires shallow { depth (view value.now) ≤ max_depth }
@@ -130,7 +130,7 @@ pub fn print_job(alloc: Global, job: &Job) -> Result<Vec<u8>, Memory>
 
 /// The text of a job of this network alone, with no listeners, no workers and no order. Reading it gives that job: its
 /// network is equal to this one. Memory comes only for want of memory.
-#[tactic(auto, unfolding(crate::specs::Job::network_text), using(crate::proofs::Wholes::job_has_no_float, crate::proofs::Wholes::job_is_shallow, crate::proofs::Drafted::printed_is_back))]
+#[tactic(auto, unfolding(crate::specs::Job::network_text), using(crate::proofs::Wholes::job_has_no_float, crate::proofs::Wholes::job_is_shallow, crate::proofs::NetworkDrafts::printed_is_back))]
 pub fn print_network(alloc: Global, network: &Structure) -> Result<Vec<u8>, Memory>
     ensures text { IfOk result (λ bytes. bytes.items ≡ network_text network.now) }
     ensures read { IfOk result (λ bytes. reading bytes.items

@@ -4,7 +4,7 @@ ghost use Rattle.grid_print.specs.Loads.{NetworksAreLoaded};
 
 /// The first pass over a network that is written gives the network again, before it is loaded: alone, and in the job of
 /// that network.
-#[tactic(auto, using(crate::proofs::Rereading::networks_are_read, crate::proofs::Rereading::network_jobs_are_read))]
+#[tactic(auto, using(crate::proofs::RoundTrips::networks_are_read, crate::proofs::RoundTrips::network_jobs_are_read))]
 pub fn networks_are_read()
     ensures networks { NetworksAreRead }
     ensures jobs { NetworkJobsAreRead }

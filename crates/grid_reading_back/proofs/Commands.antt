@@ -25,7 +25,7 @@ use Rattle.grid_print.specs.Command.{add_branch_value, edit_value, request_value
 use Rattle.grid_print.specs.Readable.{IsId, IsWhole}
 use Rattle.grid_print.specs.Formats.{number_of, item_format, edit_format, first_format}
 use Rattle.grid_print.proofs.Each.{each_of}
-use Rattle.grid_print.proofs.Rereading.{ends_are_read}
+use Rattle.grid_print.proofs.RoundTrips.{ends_are_read}
 use Rattle.grid_reading_back.specs.Requests.{shape_ids, edit_ids, request_ids, given_number, item_numbers, shape_numbers, edit_numbers, request_numbers, IsReadableRequest, IsKnownIn}
 use Rattle.grid_reading_back.proofs.Values.{whole_back, each_format}
 use Rattle.grid_reading_back.proofs.Formats.{known_in_fourth}

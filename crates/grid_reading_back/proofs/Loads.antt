@@ -44,7 +44,7 @@ use Rattle.grid_json.proofs.Results.{bound, inside}
 use Rattle.grid_reading_back.specs.Requests.{item_numbers, shape_ids}
 use Rattle.grid_reading_back.proofs.Networks.{NetworkKeeps, rated_numbers}
 use Rattle.grid_reading_back.proofs.Options.{same_read}
-use Rattle.grid_reading_back.proofs.Editing.{substation_added, level_added, busbar_added, switch_added, internal_added, injection_added, branch_added}
+use Rattle.grid_reading_back.proofs.EditRules.{substation_added, level_added, busbar_added, switch_added, internal_added, injection_added, branch_added}
 
 -- ---- what went well
 

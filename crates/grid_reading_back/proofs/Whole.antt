@@ -15,7 +15,7 @@ use Rattle.grid_print.specs.Objects.{members_from, natural}
 use Rattle.grid_print.specs.Formats.{number_of}
 use Rattle.grid_print.specs.Job.{job_value, listener_value}
 use Rattle.grid_print.specs.Readable.{IsReadable}
-use Rattle.grid_print.proofs.Rereading.{networks_are_read}
+use Rattle.grid_print.proofs.RoundTrips.{networks_are_read}
 use Rattle.grid_print.proofs.NetworkLoad.{networks_are_loaded}
 use Rattle.grid_reading_back.specs.Jobs.{job_draft, IsReadableFilter, IsScheduleOf, HasReadableParts, IsReadableJob}
 use Rattle.grid_reading_back.proofs.Lists.{few_back}

@@ -39,12 +39,12 @@ use Rattle.grid_print.specs.Job.{kinds_value, listener_value, script_value, job_
 use Rattle.grid_reading_back.specs.Requests.{shape_ids, shape_numbers, item_numbers, given_number}
 use Rattle.grid_reading_back.specs.Jobs.{IsScheduleOf}
 use Rattle.grid_reading_back.specs.Spelling.{IsSpelled, ItemsAreSpelled, MembersAreSpelled}
-use Rattle.grid_reading_back.proofs.Spelling.{put_spelled}
+use Rattle.grid_reading_back.proofs.ValueTexts.{put_spelled}
 use Rattle.grid_reading_back.proofs.Networks.{SwitchKeeps, InternalKeeps, PlacedKeeps, EndKeeps, LevelKeeps, BranchKeeps, SubstationKeeps, NetworkKeeps, EditKeeps, RequestKeeps}
 use Rattle.grid_reading_back.proofs.Legible.{IsSigned}
-use Rattle.grid_reading_back.proofs.Editing.{join}
+use Rattle.grid_reading_back.proofs.EditRules.{join}
 use Rattle.grid_reading_back.proofs.Formats.{least_has_all}
-use Rattle.grid_reading_back.proofs.Received.{IsKeptId, JobKeeps}
+use Rattle.grid_reading_back.proofs.ReadableJobs.{IsKeptId, JobKeeps}
 
 -- ---- objects and arrays
 

@@ -7,7 +7,7 @@ ghost use Rattle.grid_reading_back.specs.Laws.{ReadJobsReturn, PrintedJobsAreRea
 /// which has no more listeners, workers and commands than a job may have, and whose order, if any, is one of its
 /// scripts: of its text where its ids are UTF-8, and of all bytes that spell its JSON value, as those that `print_job`
 /// gives.
-#[tactic(auto, using(crate::proofs::Whole::spelled_back, crate::proofs::Texts::printed_back, crate::proofs::Returned::read_jobs_return))]
+#[tactic(auto, using(crate::proofs::Whole::spelled_back, crate::proofs::Texts::printed_back, crate::proofs::RoundTrips::read_jobs_return))]
 pub fn printed_jobs_are_read()
     ensures returns { ReadJobsReturn }
     ensures printed { PrintedJobsAreRead }

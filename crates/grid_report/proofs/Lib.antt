@@ -1,11 +1,11 @@
-mod Renewed
+mod LevelTexts
 pub mod Begun
-pub mod Coming
-pub mod Listening
-pub mod Ordered
-pub mod Parted
-pub mod Planned
+pub mod RemainingText
+pub mod JournalReports
+pub mod ScriptOrders
+pub mod BlockParts
+pub mod ReportPlans
 pub mod Scripts
 pub mod Turns
-pub mod Writing
-pub mod Stepping
+pub mod WriteBuffers
+pub mod ScriptCursors

@@ -15,7 +15,7 @@ use Rattle.grid_core.specs.History.{Command, command, asked_by}
 use Rattle.grid_core.specs.Journals.{journal_of, entry_of}
 use Rattle.grid_report.specs.Outcomes.{steps_by}
 use Rattle.grid_report.specs.Histories.{next_of, steps_of, script_of, IsOrder, ReportShowsScripts}
-use Rattle.grid_report.proofs.Ordered.{last_first, asked_own, asked_other, steps_none}
+use Rattle.grid_report.proofs.ScriptOrders.{last_first, asked_own, asked_other, steps_none}
 use Rattle.grid_report.proofs.Turns.{has_next, steps_taken}
 
 -- ---- requests of a journal

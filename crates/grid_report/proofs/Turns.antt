@@ -12,7 +12,7 @@ use Rattle.std.proofs.lemmas.List.Elements.{All-cons}
 use Rattle.grid_requests.specs.declared.request.Request.{Request}
 use Rattle.grid_core.specs.History.{Command, command}
 use Rattle.grid_report.specs.Histories.{next_of, steps_of, history_of, told_order, script_of, in_turn, in_turn_from, IsOrder, OrdersMakeHistories, StepsTellOrder, InTurnIsOrder}
-use Rattle.grid_report.proofs.Ordered.{steps_longer, told_last, told_none, steps_none}
+use Rattle.grid_report.proofs.ScriptOrders.{steps_longer, told_last, told_none, steps_none}
 
 -- ---- places of an order
 

@@ -12,9 +12,10 @@ impl Shown for Terminal {
 
     ghost shown = { terminal_text };
 
+    #[inline(always)]
     fn show(&self, out: &mut Text) -> Result<(), Memory> {
         out.put(self.equipment.text())?;
-        out.put(".")?;
+        out.put_byte(b'.')?;
         out.put_unsigned(u64::from(self.side))
     }
 }

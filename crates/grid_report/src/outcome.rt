@@ -5,7 +5,7 @@ ghost use Rattle.std.proofs.Common.{rules};
 use grid_busview::BusView;
 use grid_core::Journal;
 use grid_events::Filters;
-use grid_ids::{Duplicate, Id, Same, Seq};
+use grid_ids::{Duplicate, Id, Seq};
 use grid_shared::Shared;
 use std::alloc::AllocError;
 
@@ -55,10 +55,4 @@ impl Clone for VariantView {
 
 impl Duplicate for VariantView {
     ghost clone_equals = { Prim.search rules };
-}
-
-impl Same for VariantView {
-    fn same(&self, other: &VariantView) -> bool {
-        self.name.same(&other.name) && self.views.same(&other.views)
-    }
 }

@@ -66,6 +66,21 @@ impl Text {
         }
     }
 
+    /// Puts a byte last.
+    #[inline(always)]
+    pub fn put_byte(&mut self, byte: u8) -> Result<(), Memory>
+        ensures ok { OnOk result (self.new ≡ self.old ++ byte ∷ []) }
+        ensures err { OnErr result (self.new ≡ []) }
+    {
+        match self.bytes.push(byte) {
+            Ok(()) => Ok(()),
+            Err(_) => {
+                self.bytes.clear();
+                Err(Memory)
+            }
+        }
+    }
+
     /// Puts a text last, between two others.
     #[inline(always)]
     pub fn put_between(&mut self, before: &str, text: &str, behind: &str) -> Result<(), Memory>
@@ -78,7 +93,21 @@ impl Text {
     }
 
     /// Puts a number last, in decimal digits without a leading zero.
+    #[inline(always)]
     pub fn put_unsigned(&mut self, number: u64) -> Result<(), Memory>
+        ensures ok { OnOk result (self.new ≡ self.old ++ decimal number) }
+        ensures err { OnErr result (self.new ≡ []) }
+    {
+        if number < 10 {
+            self.put_byte(b'0' + number as u8)
+        } else {
+            self.put_digits(number)
+        }
+    }
+
+    // The same through a buffer, whatever the count of digits.
+    #[inline(never)]
+    fn put_digits(&mut self, number: u64) -> Result<(), Memory>
         ensures ok { OnOk result (self.new ≡ self.old ++ decimal number) }
         ensures err { OnErr result (self.new ≡ []) }
     {

@@ -4,7 +4,7 @@ ghost use Rattle.grid_level.specs.Passing.{nodes};
 ghost use Rattle.grid_bench.specs.Contents.{content};
 ghost use Rattle.grid_bench.specs.Stores.{kept_for};
 
-use crate::networks::{DUO, read};
+use crate::networks::{DUO, read, seeded};
 use grid_bench::Bench;
 use grid_ids::{Duplicate, Id, Memory};
 use grid_level::Level;
@@ -105,7 +105,7 @@ fn follow_coupler<L: Ledger, W: Ledger>(
 #[test]
 fn labels_follow_the_coupler(rt: HostRuntime) -> Result<(), Fail> {
     let alloc = rt.alloc();
-    let job = read(alloc, DUO.as_bytes())?;
+    let job = read(seeded(&rt)?, DUO.as_bytes())?;
     let Some(level) = first_level(alloc, &job.network)? else {
         return Ok(assert!(rt; false));
     };

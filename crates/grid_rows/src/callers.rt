@@ -1,7 +1,7 @@
 ghost use Rattle.std.specs.Prelude.{◌≡◌};
 
 use crate::cases::{CASES, Case, Parts, parts_of};
-use crate::networks::{FOUR, read};
+use crate::networks::{FOUR, read, seeded};
 use grid_bench::Bench;
 use grid_core::{Journal, Reply, Request, Script};
 use grid_events::Filters;
@@ -9,7 +9,7 @@ use grid_ids::{Duplicate, Memory};
 use grid_manager::{Blank, Gate, Manager, Named, Seat};
 use grid_report::{Outcome, VariantViews, write_report};
 use grid_source::SureSink;
-use grid_structure::Structure;
+use grid_structure::{Seeded, Structure};
 use std::alloc::Global;
 use std::marker::Brand;
 use std::process::Abort;
@@ -201,11 +201,12 @@ fn left_of<R: Threads + Wait + Sync>(
 /// What two callers leave who make a job's first two scripts at once.
 fn left_of_two<R: Threads + Wait + Sync>(
     rt: &R,
-    alloc: Global,
+    seeded: Seeded,
     text: &str,
     gate: &Hold,
 ) -> Result<Left, Fail> {
-    let job = read(alloc, text.as_bytes())?;
+    let alloc = seeded.alloc;
+    let job = read(seeded, text.as_bytes())?;
     let none = Script::empty(alloc);
     let parts = Parts {
         before_by_0: &none,
@@ -246,18 +247,19 @@ fn expect_all_told(rt: &impl Abort, left: &Left) -> Result<(), Fail> {
 #[test]
 fn each_is_told_of_all_steps(rt: HostRuntime) -> Result<(), Fail> {
     let gate = Hold::new(true);
-    let left = left_of_two(&rt, rt.alloc(), FOUR, &gate)?;
+    let left = left_of_two(&rt, seeded(&rt)?, FOUR, &gate)?;
     expect_all_told(&rt, &left)
 }
 
 /// A case by two callers, of whom the gate holds worker 1 at work until worker 0's calls between have returned.
 fn by_callers<R: Threads + Wait + Sync + Abort>(
     rt: &R,
-    alloc: Global,
+    seeded: Seeded,
     case: &Case,
     wanted: &str,
 ) -> Result<(), Fail> {
-    let job = case.job(alloc)?;
+    let alloc = seeded.alloc;
+    let job = case.job(seeded)?;
     let Some(parts) = parts_of(job.scripts.slice()) else {
         return Ok(assert!(rt; false));
     };
@@ -271,10 +273,10 @@ fn by_callers<R: Threads + Wait + Sync + Abort>(
 
 #[test]
 fn a_step_that_was_held_sees_what_came_between(rt: HostRuntime) -> Result<(), Fail> {
-    let alloc = rt.alloc();
+    let seeded = seeded(&rt)?;
     for case in CASES {
         if let Some(wanted) = case.report {
-            by_callers(&rt, alloc, &case, wanted)?;
+            by_callers(&rt, seeded, &case, wanted)?;
         }
     }
     Ok(())

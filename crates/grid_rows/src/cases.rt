@@ -2,7 +2,7 @@
 use crate::networks::{DUO, FOUR, read, with_scripts};
 use grid_core::Script;
 use grid_json::Job;
-use std::alloc::Global;
+use grid_structure::Seeded;
 use std::test::Fail;
 
 /// A request by worker 1, what worker 0 commits before worker 1 does, and what comes of it.
@@ -294,10 +294,10 @@ end
 
 impl Case {
     /// The case's network with its scripts.
-    pub(crate) fn job(&self, alloc: Global) -> Result<Job, Fail> {
+    pub(crate) fn job(&self, seeded: Seeded) -> Result<Job, Fail> {
         let other = if self.of_four { FOUR } else { DUO };
-        let bytes = with_scripts(alloc, other, self.scripts)?;
-        read(alloc, bytes.as_slice())
+        let bytes = with_scripts(seeded.alloc, other, self.scripts)?;
+        read(seeded, bytes.as_slice())
     }
 }
 

@@ -1,5 +1,5 @@
 // Runs of whole jobs with gates.
-use crate::networks::{FOUR, with_scripts};
+use crate::networks::{FOUR, seeded, with_scripts};
 use grid_bench::Bench;
 use grid_cli::grid;
 use grid_forms::Status;
@@ -7,7 +7,7 @@ use grid_ids::Id;
 use grid_manager::Gate;
 use grid_report::Text;
 use grid_source::{Input, SureSink, SureSource};
-use std::alloc::Global;
+use grid_structure::Seeded;
 use std::process::Abort;
 use std::sync::Wait;
 use std::sync::atomic::{AtomicBool, AtomicUsize, Ordering};
@@ -18,10 +18,11 @@ use std::thread::Threads;
 /// What a run of a job with a gate writes.
 fn ran<R: Threads + Wait + Sync + Abort, G: Gate>(
     rt: &R,
-    alloc: Global,
+    seeded: Seeded,
     job: Vec<u8>,
     gate: &G,
 ) -> Result<String, Fail> {
+    let alloc = seeded.alloc;
     let mut words = Vec::new(alloc);
     words.push(String::from_str(alloc, "run")?)?;
     let mut input = Input::new(alloc, SureSource::new(job, 4096));
@@ -29,7 +30,7 @@ fn ran<R: Threads + Wait + Sync + Abort, G: Gate>(
     let mut warning = Text::empty(alloc);
     let status = grid(
         rt,
-        alloc,
+        seeded,
         words.as_slice(),
         &mut input,
         &mut sink,
@@ -117,7 +118,7 @@ fn third_turn(line: &str, worker: &str) -> Option<usize> {
 fn the_order_is_the_one_that_happened(rt: HostRuntime) -> Result<(), Fail> {
     let alloc = rt.alloc();
     let gate = Crossing::new();
-    let report = ran(&rt, alloc, FOUR.as_bytes().to_vec(alloc)?, &gate)?;
+    let report = ran(&rt, seeded(&rt)?, FOUR.as_bytes().to_vec(alloc)?, &gate)?;
     assert!(rt; !gate.used_up.load(Ordering::SeqCst));
     let line = report.as_str().lines().next().unwrap_or("");
     let (Some(held), Some(before)) = (third_turn(line, "0"), third_turn(line, "1")) else {
@@ -152,11 +153,12 @@ impl Gate for Looking {
 /// Runs a script on the four levels, and asserts which of two levels the bench keeps at each call that has a task.
 fn expect_kept<R: Threads + Wait + Sync + Abort>(
     rt: &R,
-    alloc: Global,
+    seeded: Seeded,
     script: &str,
     levels: (&str, &str),
     wanted: &'static [(bool, bool)],
 ) -> Result<(), Fail> {
+    let alloc = seeded.alloc;
     let gate = Looking {
         one: Id::new(alloc, levels.0)?,
         other: Id::new(alloc, levels.1)?,
@@ -164,7 +166,7 @@ fn expect_kept<R: Threads + Wait + Sync + Abort>(
         calls: AtomicUsize::new(0),
         differs: AtomicBool::new(false),
     };
-    ran(rt, alloc, with_scripts(alloc, FOUR, script)?, &gate)?;
+    ran(rt, seeded, with_scripts(alloc, FOUR, script)?, &gate)?;
     assert_eq!(rt; gate.calls.load(Ordering::SeqCst), wanted.len());
     Ok(assert!(rt; !gate.differs.load(Ordering::SeqCst)))
 }
@@ -174,7 +176,7 @@ fn a_bench_is_kept_from_step_to_step(rt: HostRuntime) -> Result<(), Fail> {
     // A refusal between the two leaves the bench as it is.
     expect_kept(
         &rt,
-        rt.alloc(),
+        seeded(&rt)?,
         r#"[{"do":"bus_view","level":"A"},{"do":"bus_view","level":"ZZ"},{"do":"bus_view","level":"D"}]"#,
         ("A", "D"),
         &[(true, false), (true, true)],
@@ -186,7 +188,7 @@ fn tasks_keep_what_they_need(rt: HostRuntime) -> Result<(), Fail> {
     // Each in a variant of its own, with a bench of its own. Components ask no bench.
     expect_kept(
         &rt,
-        rt.alloc(),
+        seeded(&rt)?,
         r#"[
           {"do": "clone", "from": "InitialState", "to": "V1"},
           {"do": "use", "variant": "V1"},

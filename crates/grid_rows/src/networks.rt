@@ -1,7 +1,9 @@
 // Worked networks, and jobs on them.
 use grid_ids::Memory;
 use grid_json::{Job, read_job};
+use grid_structure::Seeded;
 use std::alloc::{AllocError, Global};
+use std::hash::RandomState;
 use std::test::Fail;
 
 /// A level of two busbar sections with a coupler between them, and no worker.
@@ -145,9 +147,17 @@ pub(crate) fn with_scripts(
     Ok(job.into_bytes())
 }
 
+/// The allocator, and a seed for tables of ids.
+pub(crate) fn seeded(rt: &HostRuntime) -> Result<Seeded, Fail> {
+    Ok(Seeded {
+        alloc: rt.alloc(),
+        hasher: RandomState::new(rt)?,
+    })
+}
+
 /// The job of these bytes.
-pub(crate) fn read(alloc: Global, bytes: &[u8]) -> Result<Job, Fail> {
-    let job = match read_job(alloc, bytes) {
+pub(crate) fn read(seeded: Seeded, bytes: &[u8]) -> Result<Job, Fail> {
+    let job = match read_job(seeded, bytes) {
         Ok(job) => Ok(job),
         Err(_) => Err(Memory),
     };

@@ -3,12 +3,13 @@ ghost use Rattle.std.specs.Prelude.{◌≡◌, ◌<◌};
 ghost use Rattle.grid_bench.specs.Answers.{IsTaskOf};
 
 use crate::cases::{CASES, Case, Parts, parts_of};
+use crate::networks::seeded;
 use grid_bench::{Answer, Base, Bench, Task};
 use grid_board::{Board, CommitFault};
 use grid_core::{Reply, Request, Script};
 use grid_ids::Duplicate;
 use grid_queue::Counts;
-use grid_structure::Structure;
+use grid_structure::{Seeded, Structure};
 use std::alloc::Global;
 use std::marker::Brand;
 use std::process::Abort;
@@ -105,8 +106,9 @@ impl Desk {
 }
 
 /// Whether worker 1's answer is out of date in a case.
-fn is_late_in(rt: &impl Abort, alloc: Global, case: &Case) -> Result<bool, Fail> {
-    let job = case.job(alloc)?;
+fn is_late_in(rt: &impl Abort, seeded: Seeded, case: &Case) -> Result<bool, Fail> {
+    let alloc = seeded.alloc;
+    let job = case.job(seeded)?;
     let Some(parts) = parts_of(job.scripts.slice()) else {
         panic!(rt; "the scripts of a case");
     };
@@ -116,9 +118,9 @@ fn is_late_in(rt: &impl Abort, alloc: Global, case: &Case) -> Result<bool, Fail>
 
 #[test]
 fn what_comes_between_makes_an_answer_stale(rt: HostRuntime) -> Result<(), Fail> {
-    let alloc = rt.alloc();
+    let seeded = seeded(&rt)?;
     for case in CASES {
-        assert_eq!(rt; is_late_in(&rt, alloc, &case)?, case.stale);
+        assert_eq!(rt; is_late_in(&rt, seeded, &case)?, case.stale);
     }
     Ok(())
 }

@@ -1,9 +1,10 @@
 // Worlds that tell listeners what happens.
-use crate::networks::{DUO, read, with_scripts};
+use crate::networks::{DUO, read, seeded, with_scripts};
 use grid_core::{Journal, Request, Script, World};
 use grid_events::{Event, Events, Filter, Listener, Subscriptions};
 use grid_ids::{Duplicate, Id, Memory, Same};
 use grid_json::Job;
+use grid_structure::Seeded;
 use std::alloc::Global;
 use std::test::Fail;
 
@@ -62,9 +63,9 @@ fn tell<L: Listener>(
 }
 
 /// The job of the level with that script.
-fn job_that_opens(alloc: Global) -> Result<Job, Fail> {
-    let bytes = with_scripts(alloc, DUO, OPENS)?;
-    read(alloc, bytes.as_slice())
+fn job_that_opens(seeded: Seeded) -> Result<Job, Fail> {
+    let bytes = with_scripts(seeded.alloc, DUO, OPENS)?;
+    read(seeded, bytes.as_slice())
 }
 
 /// Whether the one listener has heard this event alone.
@@ -81,7 +82,7 @@ fn heard_just(listeners: &Subscriptions<Recorder>, event: &Event) -> bool {
 #[test]
 fn a_recorder_hears_the_one_event(rt: HostRuntime) -> Result<(), Fail> {
     let alloc = rt.alloc();
-    let job = job_that_opens(alloc)?;
+    let job = job_that_opens(seeded(&rt)?)?;
     let Some(script) = job.scripts.get(0) else {
         return Ok(assert!(rt; false));
     };
@@ -108,7 +109,7 @@ fn a_recorder_hears_the_one_event(rt: HostRuntime) -> Result<(), Fail> {
 #[test]
 fn a_boxed_recorder_is_told(rt: HostRuntime) -> Result<(), Fail> {
     let alloc = rt.alloc();
-    let job = job_that_opens(alloc)?;
+    let job = job_that_opens(seeded(&rt)?)?;
     let Some(script) = job.scripts.get(0) else {
         return Ok(assert!(rt; false));
     };

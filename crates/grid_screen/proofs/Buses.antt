@@ -19,14 +19,14 @@ use Rattle.grid_watts.specs.Watts.{level_watts}
 use Rattle.grid_islands.specs.Islands.{NetworkBus, holds, buses_in}
 use Rattle.grid_islands.specs.Numbering.{counted_from, number_of_node}
 use Rattle.grid_islands.proofs.Blocks.{position_in}
-use Rattle.grid_islands.proofs.Counting.{level_at, level_within}
-use Rattle.grid_islands.proofs.Linking.{buses_as, number_as}
+use Rattle.grid_islands.proofs.LevelNumbers.{level_at, level_within}
+use Rattle.grid_islands.proofs.BusPlaces.{buses_as, number_as}
 use Rattle.grid_outages.specs.declared.outage.Changed.{Changed}
 use Rattle.grid_unions.specs.declared.summed.Sums.{Sums}
 use Rattle.grid_sums.specs.Sums.{bus_sums, buses_under, sums_of}
 use Rattle.grid_outages.specs.Changes.{Changes, change_at, buses_over, level_sums, present_sums, sums_in, sums_before, IsLooked, IsLookedAt}
 use Rattle.grid_outages.specs.Steps.{Stands}
-use Rattle.grid_outages.proofs.Showing.{Change, level_changed, level_kept, row_changed, row_kept, length-shown_levels}
+use Rattle.grid_outages.proofs.ShownLevels.{Change, level_changed, level_kept, row_changed, row_kept, length-shown_levels}
 use Rattle.std.proofs.lemmas.Option.{slice_get_within}
 
 -- ---- lists by place

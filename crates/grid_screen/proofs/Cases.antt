@@ -4,7 +4,7 @@ use Rattle.grid_core.specs.declared.case.Case.{Case}
 use Rattle.grid_core.specs.Cases.{case_seen, case_of}
 use Rattle.grid_core.specs.History.{is_live}
 use Rattle.grid_core.specs.Replies.{state_of}
-use Rattle.grid_core.proofs.Keeping.{state_of-fits}
+use Rattle.grid_core.proofs.SoundStates.{state_of-fits}
 use Rattle.grid_screen.specs.Findings.{CaseFits}
 use Rattle.grid_screen.specs.Laws.{CasesFit}
 

@@ -8,7 +8,7 @@ use Rattle.std.proofs.lemmas.List.{append-nil, take_more}
 use Rattle.std.proofs.lemmas.Option.{slice_get_past}
 use Rattle.std.proofs.lemmas.List.Sums.{fold-append}
 use Rattle.grid_groups.proofs.Steps.{passed_next, skipped_next}
-use Rattle.grid_islands.proofs.Pairing.{gathered_more}
+use Rattle.grid_islands.proofs.BranchPairs.{gathered_more}
 use Rattle.grid_lemmas.proofs.Lists.{all_at, length_map}
 use Rattle.grid_ids.specs.Name.{has_id}
 use Rattle.grid_json.specs.Seen.{Knows}
@@ -39,13 +39,13 @@ use Rattle.grid_outages.specs.Changes.{level_without}
 use Rattle.grid_screen.specs.Walks.{Touches, touched_at, hits_in, hits_by, hits, IsNode, IsTouched, AreTouched, IsSettled}
 use Rattle.grid_screen.specs.Zones.{site_at, network_sites, sites_of}
 use Rattle.grid_screen.proofs.Got.{got_or}
-use Rattle.grid_screen.proofs.Growing.{got_below, node_there}
-use Rattle.grid_screen.proofs.Listed.{filter_last}
+use Rattle.grid_screen.proofs.WalkSteps.{got_below, node_there}
+use Rattle.grid_screen.proofs.HitSites.{filter_last}
 use Rattle.grid_outages.proofs.Members.{Among, among_got, got_among, filter_among, filter_agrees, map_among, flat_among, enumerate_among}
-use Rattle.grid_screen.proofs.Passed.{keeps_of}
-use Rattle.grid_screen.proofs.Running.{map_back}
-use Rattle.grid_screen.proofs.Scened.{zone_found}
-use Rattle.grid_screen.proofs.Tripping.{filter_none, zone_hits, long_in, tripped_found}
+use Rattle.grid_screen.proofs.FaultEdges.{keeps_of}
+use Rattle.grid_screen.proofs.WalkResults.{map_back}
+use Rattle.grid_screen.proofs.FaultScenes.{zone_found}
+use Rattle.grid_screen.proofs.BreakerTrips.{filter_none, zone_hits, long_in, tripped_found}
 
 -- ---- one after the other
 

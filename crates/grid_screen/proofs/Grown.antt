@@ -18,7 +18,7 @@ use Rattle.grid_screen.specs.declared.walk.Touched.{Touched}
 use Rattle.grid_screen.specs.Grounds.{Ground, IsGround, fault_flags}
 use Rattle.grid_outages.specs.Changes.{level_without}
 use Rattle.grid_screen.specs.Walks.{label_by, label_in, hits_in, is_end_in, ends_in, AreEnds, CanList, IsTouched, IsUntouched, CanHit, IsHitIn}
-use Rattle.grid_screen.proofs.Passed as passed
+use Rattle.grid_screen.proofs.FaultEdges as passed
 
 -- ---- the ends of branches
 

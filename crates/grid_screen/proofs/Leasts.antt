@@ -4,7 +4,7 @@ use Rattle.std.specs.Prelude.{filter, flat_map, fold, slice_set}
 use Rattle.std.specs.List.{enumerate_from}
 use Rattle.std.proofs.lemmas.Bool.{and_parts, and_from, or_cases, or_left, or_right}
 use Rattle.std.proofs.lemmas.List.{length-set}
-use Rattle.grid_core.proofs.Looking.{flags_fit}
+use Rattle.grid_core.proofs.VariantViews.{flags_fit}
 use Rattle.grid_core.proofs.Ranges.{rows_of_levels}
 use Rattle.grid_core.specs.declared.case.Case.{Case}
 use Rattle.grid_ids.specs.Name.{has_id}
@@ -25,7 +25,7 @@ use Rattle.grid_outages.specs.Steps.{rows_by, rows_with_out, rows_after}
 use Rattle.grid_screen.specs.Zones.{sites_at, network_sites, sites_of, passes_fault, passing_fault, level_ties, branch_ties, fault_ties, is_hit, zone_over}
 use Rattle.grid_outages.proofs.Members.{Among, among_got, got_among, among_left, among_right, among_parts, among_map, map_among, among_filter, filter_among, among_flat, flat_among}
 use Rattle.grid_screen.proofs.Outcomes.{outcome}
-use Rattle.grid_screen.proofs.Zoned.{IsPast, zone_least, zone_held, zone_begun, starts_are_nodes}
+use Rattle.grid_screen.proofs.FaultZones.{IsPast, zone_least, zone_held, zone_begun, starts_are_nodes}
 
 -- ---- rows keep their lengths
 

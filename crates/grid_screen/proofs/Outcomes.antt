@@ -17,10 +17,10 @@ use Rattle.grid_sums.specs.Sums.{bus_sums}
 use Rattle.grid_outages.specs.Changes.{Changes, buses_over, level_sums, level_places, sums_before, network_links, link_pairs}
 use Rattle.grid_outages.specs.Steps.{Stands, levels_after, rows_after}
 use Rattle.grid_screen.proofs.Buses.{all_sums}
-use Rattle.grid_screen.proofs.Figured.{figured, pairs_below}
-use Rattle.grid_screen.proofs.Outed.{pairs_left}
-use Rattle.grid_outages.proofs.Showing.{stands_as}
-use Rattle.grid_screen.proofs.Stepped.{Outcome, none_out, all_more, buses_of_state}
+use Rattle.grid_screen.proofs.SumFigures.{figured, pairs_below}
+use Rattle.grid_screen.proofs.EquipmentOutages.{pairs_left}
+use Rattle.grid_outages.proofs.ShownLevels.{stands_as}
+use Rattle.grid_screen.proofs.OutageSteps.{Outcome, none_out, all_more, buses_of_state}
 
 -- the state after the outage, with what the levels and rows by list are
 pub outcome : (first : State) (ids : List (List ℕ)) → IsSound first.structure → Outcome first (state_without first ids) (levels_after first.structure ids (levels first.structure)) (rows_after first.structure ids first.opened)

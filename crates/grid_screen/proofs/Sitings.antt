@@ -20,9 +20,9 @@ use Rattle.grid_structure.specs.Sites.{levels, site, find_switch, first_found, t
 use Rattle.grid_structure.specs.Soundness.{IsSound}
 use Rattle.grid_screen.specs.Zones.{site_at, sites_of_switch, sites_of_equipment}
 use Rattle.grid_screen.specs.Walks.{IsNode, IsSwitchOf, switch_place, site_of_side}
-use Rattle.grid_outages.proofs.Changing.{switch_in}
-use Rattle.grid_screen.proofs.Passed.{keeps_of}
-use Rattle.grid_screen.proofs.Growing.{got_below}
+use Rattle.grid_outages.proofs.OutageChanges.{switch_in}
+use Rattle.grid_screen.proofs.FaultEdges.{keeps_of}
+use Rattle.grid_screen.proofs.WalkSteps.{got_below}
 
 -- ---- the first that is found
 

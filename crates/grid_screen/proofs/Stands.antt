@@ -25,12 +25,12 @@ use Rattle.grid_structure.specs.Network.{Network}
 use Rattle.grid_structure.specs.Sites.{levels, branches, branch_ends, branch_ids, single_ids, equipment_ids, site, find_level, all_ids}
 use Rattle.grid_structure.specs.Soundness.{IsSound, record_sides, placed_sides, sides_from, same_side, all_among}
 use Rattle.grid_structure.specs.Indexed.{has_terminal, level_of_terminal}
-use Rattle.grid_structure.proofs.Cleared.{mentions, unmentioned}
+use Rattle.grid_structure.proofs.TerminalRemovals.{mentions, unmentioned}
 use Rattle.grid_structure.proofs.Counts.{times, not_there, differ-times}
 use Rattle.grid_structure.proofs.Found.{any-flat_map, some_position, terminal_somewhere, terminal_tested, terminal_test}
-use Rattle.grid_structure.proofs.Framing.{is_same, level_ids_once}
+use Rattle.grid_structure.proofs.Frames.{is_same, level_ids_once}
 use Rattle.grid_structure.proofs.Places.{position_found}
-use Rattle.grid_structure.proofs.Removing.{sides_by}
+use Rattle.grid_structure.proofs.SoundRemovals.{sides_by}
 use Rattle.grid_structure.proofs.Sides.{Side, has, has-append, same_side_is, is_same_side, sides_of, sides_at, sides_in}
 use Rattle.grid_structure.proofs.Uniquely.{side_in, one_home, one_place, some_branch, names_of_branches, recorded}
 

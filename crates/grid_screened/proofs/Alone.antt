@@ -12,12 +12,12 @@ use Rattle.grid_structure.specs.Network.{Network}
 use Rattle.grid_structure.specs.Sites.{levels}
 use Rattle.grid_structure.specs.Soundness.{IsSound}
 use Rattle.grid_structure.proofs.Counts.{times, there}
-use Rattle.grid_structure.proofs.Framing.{is_same, local, locals}
+use Rattle.grid_structure.proofs.Frames.{is_same, local, locals}
 use Rattle.grid_structure.proofs.Uniquely.{local_once}
 use Rattle.grid_busview.specs.Views.{is_load, is_generation}
-use Rattle.grid_screen.proofs.Ended.{is_end, branch_of_end}
+use Rattle.grid_screen.proofs.BranchEnds.{is_end, branch_of_end}
 use Rattle.grid_outages.proofs.Members.{Among, got_among, among_map, among_filter}
-use Rattle.grid_screen.proofs.Owned.{among_has}
+use Rattle.grid_screen.proofs.SwitchPlaces.{among_has}
 
 -- ---- what stands once
 

@@ -12,7 +12,7 @@ use Rattle.grid_level.specs.Passing.{positioned, placed_among}
 use Rattle.grid_groups.specs.Groups.{terminals_at}
 use Rattle.grid_powers.specs.Listed.{Listed}
 use Rattle.grid_states.specs.Rows.{row_at}
-use Rattle.grid_structure.proofs.Framing.{is_same}
+use Rattle.grid_structure.proofs.Frames.{is_same}
 use Rattle.grid_busview.specs.declared.ViewBus.{ViewBus}
 use Rattle.grid_busview.specs.Views.{bus_of, bus_leasts, bus_view_of}
 use Rattle.grid_watts.specs.Watts.{level_watts}
@@ -20,9 +20,9 @@ use Rattle.grid_islands.specs.Islands.{NetworkBus}
 use Rattle.grid_screen.specs.Figures.{total_over}
 use Rattle.grid_sums.specs.Sums.{buses_under}
 use Rattle.grid_outages.specs.Changes.{buses_over}
-use Rattle.grid_screened.proofs.Bused.{in_group, in_bus}
+use Rattle.grid_screened.proofs.BusNodes.{in_group, in_bus}
 use Rattle.grid_outages.proofs.Members.{Among, any_among, any_found, among_map, map_among, among_flat, flat_among, among_filter, filter_among, among_enumerate, enumerate_among}
-use Rattle.grid_screened.proofs.Summed.{sum_of, fold_sum, sum-map, sum-flat}
+use Rattle.grid_screened.proofs.ListSums.{sum_of, fold_sum, sum-map, sum-flat}
 
 -- a terminal of the equipment stands in the bus
 abbrev pub has_equipment : List ℕ → ViewBus → Bool

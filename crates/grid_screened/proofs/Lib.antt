@@ -1,11 +1,11 @@
 pub mod Alone
-pub mod Bused
-pub mod Disconnecting
+pub mod BusNodes
+pub mod InjectionTrips
 pub mod InBuses
 pub mod Lesser
 pub mod Lost
-pub mod Saying
-pub mod Scanned
-pub mod Summed
+pub mod FindingLines
+pub mod QuotedTexts
+pub mod ListSums
 pub mod Told
-pub mod Unconnected
+pub mod UnconnectedWatts

@@ -24,12 +24,12 @@ use Rattle.grid_screen.specs.Figures.{total_over}
 use Rattle.grid_sums.specs.Sums.{buses_under}
 use Rattle.grid_outages.specs.Changes.{level_without, buses_over}
 use Rattle.grid_screened.proofs.Alone.{one_place, one_node}
-use Rattle.grid_screened.proofs.Bused.{IsLeft, in_bus, was_in_bus}
+use Rattle.grid_screened.proofs.BusNodes.{IsLeft, in_bus, was_in_bus}
 use Rattle.grid_screened.proofs.InBuses.{has_equipment, held, holding, level_by_level}
 use Rattle.grid_screened.proofs.Lesser.{left_of_level}
 use Rattle.grid_outages.proofs.Members.{Among, among_filter, filter_among, enumerate_among}
-use Rattle.grid_screen.proofs.Running.{map_back}
-use Rattle.grid_screened.proofs.Summed.{sum_of, passing_only, sum-filter, sum-flat, sum-less}
+use Rattle.grid_screen.proofs.WalkResults.{map_back}
+use Rattle.grid_screened.proofs.ListSums.{sum_of, passing_only, sum-filter, sum-flat, sum-less}
 
 -- ---- sums by places
 

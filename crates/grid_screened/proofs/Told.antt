@@ -33,10 +33,10 @@ use Rattle.grid_screened.specs.Laws.{LinesAreTold, PairsAreTold}
 use Rattle.grid_screen.proofs.Clearings.{switch_read}
 use Rattle.grid_outages.proofs.Members.{Among, flat_among, map_among, filter_among, enumerate_among}
 use Rattle.grid_screen.proofs.Outcomes.{outcome}
-use Rattle.grid_screen.proofs.Owned.{switch_own}
-use Rattle.grid_screen.proofs.Running.{map_back}
-use Rattle.grid_screened.proofs.Saying.{front_told, line_of, line_told}
-use Rattle.grid_screen.proofs.Tripping.{positioned_long}
+use Rattle.grid_screen.proofs.SwitchPlaces.{switch_own}
+use Rattle.grid_screen.proofs.WalkResults.{map_back}
+use Rattle.grid_screened.proofs.FindingLines.{front_told, line_of, line_told}
+use Rattle.grid_screen.proofs.BreakerTrips.{positioned_long}
 
 -- ---- lines
 

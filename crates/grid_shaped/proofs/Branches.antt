@@ -21,12 +21,12 @@ use Rattle.grid_json.specs.declared.ends.Two.{Two}
 use Rattle.grid_json.specs.declared.ends.Three.{Three}
 use Rattle.grid_json.specs.declared.fault.Fault.{Fault}
 use Rattle.grid_json.specs.Loading.{Loaded, by_bus_in, edited, end_breaker, end_check, end_fits, end_fits_in, is_by_bus, level_of, next_behind, placed_end, three_breakers, three_check, three_load, three_nodes, three_placed, two_breakers, two_check, two_load, two_nodes, two_placed, with_network}
-use Rattle.grid_json.proofs.BusLoading.{accepted}
+use Rattle.grid_json.proofs.BusLoops.{accepted}
 use Rattle.grid_json.proofs.BusPlaces.{no_level}
 use Rattle.grid_json.proofs.Results.{bound}
 use Rattle.grid_shaped.specs.Drafts.{branch_outlets, joint_of, placed_with}
-use Rattle.grid_shaped.proofs.Changing.{Stays}
-use Rattle.grid_shaped.proofs.Adding.{branch_joined, home_stays, joined_stays}
+use Rattle.grid_shaped.proofs.LevelChanges.{Stays}
+use Rattle.grid_shaped.proofs.Additions.{branch_joined, home_stays, joined_stays}
 use Rattle.grid_shaped.proofs.Parts.{nodes_counted, part, plain_of}
 use Rattle.grid_shaped.proofs.Ends.{EndFits, PartAt}
 use Rattle.grid_shaped.proofs.Sides.{AllFit, Broken, breakers_more, ends_more, join_plain, sided, sided_plain}

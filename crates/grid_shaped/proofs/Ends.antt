@@ -26,8 +26,8 @@ use Rattle.grid_json.specs.declared.buses.EndDraft.TheVariants as ends
 use Rattle.grid_json.specs.Loading.{bus_at, breaker_load, breaker_told, end_breaker, is_by_bus, level_of}
 use Rattle.grid_json.proofs.Results.{bound}
 use Rattle.grid_shaped.specs.Drafts.{end_outlet, end_outlets}
-use Rattle.grid_shaped.proofs.Changing.{Changed, Stays, changed_homes, changed_stays, end_changed, stays_itself, switch_changed}
-use Rattle.grid_shaped.proofs.Adding.{IsHome, home_stays}
+use Rattle.grid_shaped.proofs.LevelChanges.{Changed, Stays, changed_homes, changed_stays, end_changed, stays_itself, switch_changed}
+use Rattle.grid_shaped.proofs.Additions.{IsHome, home_stays}
 use Rattle.grid_shaped.proofs.Parts.{Plain, breaker_edit, breaker_more, bus_is_at, part, terminal_edit, terminal_more}
 
 -- ---- breakers

@@ -31,12 +31,12 @@ use Rattle.grid_json.specs.declared.buses.BusLevelDraft.{BusLevelDraft}
 use Rattle.grid_json.specs.declared.fault.Fault.{Fault}
 use Rattle.grid_json.specs.Reading.{under}
 use Rattle.grid_json.specs.Loading.{bus_at, bus_injection_load, bus_level_load, bus_switch_load, busbar_load, buses_load, differing, edited, injection_load, internal_load, level_load, load_items, load_member, next_node, short_id, switch_load}
-use Rattle.grid_json.proofs.BusLoading.{accepted}
+use Rattle.grid_json.proofs.BusLoops.{accepted}
 use Rattle.grid_json.proofs.BusSections.{buses_are_sections}
 use Rattle.grid_json.proofs.Results.{bound, inside}
 use Rattle.grid_shaped.specs.Drafts.{injection_outlet, joint_of, place_among, placed_with}
-use Rattle.grid_shaped.proofs.Changing.{Changed, SameHomes, Stays, busbar_changed, changed_homes, changed_stays, injection_changed, internal_changed, stays_then, switch_changed}
-use Rattle.grid_shaped.proofs.Adding.{home_stays, level_opened}
+use Rattle.grid_shaped.proofs.LevelChanges.{Changed, SameHomes, Stays, busbar_changed, changed_homes, changed_stays, injection_changed, internal_changed, stays_then, switch_changed}
+use Rattle.grid_shaped.proofs.Additions.{home_stays, level_opened}
 use Rattle.grid_shaped.proofs.Items.{items_add, items_keep}
 use Rattle.grid_shaped.proofs.Parts.{IsAt, breaker_edit, breaker_more, bus_is_at, joint_edit, joint_more, next_is, part, plain_of, terminal_more}
 use Rattle.grid_shaped.proofs.Ends.{PartAt, breaker_changed, switch_edit}

@@ -1,10 +1,10 @@
-pub mod Changing
-pub mod Adding
+pub mod LevelChanges
+pub mod Additions
 pub mod Parts
 pub mod Ends
 pub mod Sides
 pub mod Branches
 pub mod Items
 pub mod Levels
-pub mod Shaped
-pub mod Counted
+pub mod LevelShapes
+pub mod NodeCounts

@@ -34,7 +34,7 @@ use Rattle.grid_json.specs.Loading.{bus_at, bus_place, next_node, place_in}
 use Rattle.grid_json.proofs.BusPositions.{places_are_positions}
 use Rattle.grid_json.proofs.BusSections.{node_is}
 use Rattle.grid_shaped.specs.Drafts.{place_among, placed_with}
-use Rattle.grid_shaped.proofs.Changing.{Changed, changed_named}
+use Rattle.grid_shaped.proofs.LevelChanges.{Changed, changed_named}
 
 -- ---- the level
 

@@ -17,9 +17,9 @@ use Rattle.grid_structure.specs.Cutting.{network_of}
 use Rattle.grid_structure.specs.Editing.{IsTold}
 use Rattle.grid_structure.specs.Kept.{IsKept}
 use Rattle.grid_structure.proofs.Found.{taken_by}
-use Rattle.grid_structure.proofs.Cutting.{kept_levels}
+use Rattle.grid_structure.proofs.FlatNetworks.{kept_levels}
 use Rattle.grid_structure.proofs.Counts.{times, times-append, differ-times, times-differ}
-use Rattle.grid_structure.proofs.Dropping.{place_sure}
+use Rattle.grid_structure.proofs.BranchRemovals.{place_sure}
 
 -- no two levels have one id
 level_once : (net : Network) (q : List ℕ) → ids_differ (all_ids net) ≡ true → times q (level_ids net) ≤ 1

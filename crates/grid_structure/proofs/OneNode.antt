@@ -15,9 +15,9 @@ use Rattle.grid_structure.specs.Sites.{levels, branches}
 use Rattle.grid_structure.specs.Soundness.{IsSound, same_side}
 use Rattle.grid_structure.specs.Standing.{stands, HasOneNode}
 use Rattle.grid_structure.proofs.Counts.{times}
-use Rattle.grid_structure.proofs.Framing.{singles_of, locals}
+use Rattle.grid_structure.proofs.Frames.{singles_of, locals}
 use Rattle.grid_structure.proofs.Sides.{Side, has, sides_at, sides_of, is_same_side}
-use Rattle.grid_structure.proofs.Removing.{sides_by}
+use Rattle.grid_structure.proofs.SoundRemovals.{sides_by}
 use Rattle.grid_structure.proofs.Uniquely.{names_of_branches, some_branch, one_side, side_in, recorded, branch_once, local_once}
 
 -- ---- what stands at a node is a busbar section or an injection, or a branch end

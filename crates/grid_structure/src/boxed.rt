@@ -3,7 +3,7 @@ ghost use Rattle.std.specs.Prelude.{◌≡◌, IfOk};
 ghost use Rattle.std.proofs.Common.{rules};
 
 use crate::Branch;
-use grid_ids::{Duplicate, Memory, Same};
+use grid_ids::{Duplicate, Memory};
 use std::alloc::{AllocError, Global};
 use std::marker::Model;
 
@@ -52,10 +52,4 @@ impl Clone for BoxedBranch {
 
 impl Duplicate for BoxedBranch {
     ghost clone_equals = { Prim.search rules };
-}
-
-impl Same for BoxedBranch {
-    fn same(&self, other: &BoxedBranch) -> bool {
-        self.branch().same(other.branch())
-    }
 }

@@ -1,2 +1,2 @@
-pub mod Placing
-pub mod Feeding
+pub mod NodeBuses
+pub mod BusSums

@@ -9,7 +9,7 @@ use Rattle.grid_told.specs.Trees.{HasWholes}
 use Rattle.grid_told.specs.Shapes.{IsReadable}
 use Rattle.grid_told.specs.Splits.{split_at_newlines}
 use Rattle.grid_told.proofs.Apart.{lines_are_split}
-use Rattle.grid_told.proofs.Reading.{tree_told}
+use Rattle.grid_told.proofs.TreeTexts.{tree_told}
 
 abbrev text_or : List ℕ → List (List ℕ) → List ℕ
 text_or d [] = d

@@ -9,7 +9,7 @@ use Rattle.grid_jsonl.specs.Outcomes.{objects}
 use Rattle.grid_told.specs.Trees.{by_name}
 use Rattle.grid_told.specs.Shapes.{IsReadable, IsReadBack}
 use Rattle.grid_told.specs.Laws.{ObjectsAreReadBack}
-use Rattle.grid_told.proofs.Reading.{tree_read}
+use Rattle.grid_told.proofs.TreeTexts.{tree_read}
 use Rattle.grid_told.proofs.Written.{tree_utf8}
 use Rattle.grid_told.proofs.Objects.{objects_readable}
 

@@ -11,7 +11,7 @@ pub fn lines_are_apart()
 
 /// The text of a tree of whole numbers is read as the value with the same members: none is lost, none comes in, and no
 /// number becomes a float.
-#[tactic(auto, using(crate::proofs::Reading::tree_read, crate::proofs::Kept::members_are_kept, crate::proofs::Kept::wholes_kept))]
+#[tactic(auto, using(crate::proofs::TreeTexts::tree_read, crate::proofs::Kept::members_are_kept, crate::proofs::Kept::wholes_kept))]
 pub fn trees_are_read_back()
     ensures values { TreesAreReadBack }
     ensures members { MembersAreKept }
@@ -19,7 +19,7 @@ pub fn trees_are_read_back()
 {}
 
 /// The text of a tree of whole numbers tells the tree.
-#[tactic(auto, using(crate::proofs::Reading::tree_told))]
+#[tactic(auto, using(crate::proofs::TreeTexts::tree_told))]
 pub fn texts_tell_trees()
     ensures { TextsTellTrees }
 {}

@@ -3,4 +3,4 @@ pub mod Findings
 pub mod Rows
 pub mod Views
 pub mod Reports
-pub mod Fitting
+pub mod HistoryReplies

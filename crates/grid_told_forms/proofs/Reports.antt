@@ -24,8 +24,8 @@ use Rattle.grid_told.proofs.Fields.{text_of, natural_of, list_of, at}
 use Rattle.grid_told.proofs.Readable.{word_readable, text_readable, natural_readable, array_readable, ordered_readable, deeper}
 use Rattle.grid_told.proofs.Commands.{request_readable}
 use Rattle.grid_told.proofs.CommandsTold.{request_in, request_back}
-use Rattle.grid_told.proofs.Picked.{Passing, front, back}
-use Rattle.grid_told.proofs.Merging.{own, grouped, told_by_groups}
+use Rattle.grid_told.proofs.ObjectFilters.{Passing, front, back}
+use Rattle.grid_told.proofs.WorkerMerges.{own, grouped, told_by_groups}
 use Rattle.grid_told.proofs.Lines.{wholes_of}
 use Rattle.grid_told.proofs.ReadBack.{all_read}
 use Rattle.grid_told_forms.specs.Reports.{IsView, IsTold, IsLive, IsHeld, Fits, IsFitting}

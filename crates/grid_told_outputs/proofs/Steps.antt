@@ -27,7 +27,7 @@ use Rattle.grid_told.proofs.Readable.{word_readable, text_readable, natural_read
 use Rattle.grid_told.proofs.Commands.{request_readable}
 use Rattle.grid_told.proofs.Replies.{reply_readable}
 use Rattle.grid_told.proofs.Objects.{IsStep, steps_held}
-use Rattle.grid_told.proofs.Saying.{said_in, said_back}
+use Rattle.grid_told.proofs.CommandObjects.{said_in, said_back}
 use Rattle.grid_told_outputs.specs.Steps.{IsJournal, StepSaid, step_said, StepsAlike}
 
 -- ---- the reply of a refused step

@@ -16,7 +16,7 @@ use Rattle.grid_unions.specs.Halves.{HaveSame}
 use Rattle.grid_unions.specs.declared.summed.Sums.{Sums}
 use Rattle.grid_unions.specs.declared.sweeps.Found.{Found}
 use Rattle.grid_unions.proofs.Orders.{AreAmong, AreAlike, alike_joined, alike_least, alike_count}
-use Rattle.grid_unions.proofs.Uniting.{count_groups}
+use Rattle.grid_unions.proofs.UnionCounts.{count_groups}
 use Rattle.grid_unions.proofs.Pairs.{among_from_same}
 
 -- ---- from the same pairs

@@ -19,7 +19,7 @@ use Rattle.grid_unions.specs.declared.summed.Sums.{Sums}
 use Rattle.grid_unions.specs.declared.summed.Replaced.{Replaced}
 use Rattle.grid_unions.specs.Summed.{weighted, no_sums, add_joined, class_sum, AreSumsOf, sum_of_both, IsSummed, sums_before, AreSummed}
 use Rattle.grid_unions.specs.Unions.{with_newest}
-use Rattle.grid_unions.proofs.Uniting.{newest_ends, newest_pair, IsAmong, among, least_in_either, least_in_neither, kept_least, parts_least, anyway}
+use Rattle.grid_unions.proofs.UnionCounts.{newest_ends, newest_pair, IsAmong, among, least_in_either, least_in_neither, kept_least, parts_least, anyway}
 
 -- ---- sums over the numbers that a test picks
 

@@ -12,7 +12,7 @@ use Rattle.grid_graph.proofs.Counts.{at_place, long_places}
 use Rattle.grid_graph.proofs.Filtered.{counts_none}
 use Rattle.grid_graph.proofs.Least.{least_below, least_same, joined_from_least, leads_itself}
 use Rattle.grid_components.specs.Ranks.{is_key, is_above, rank_in}
-use Rattle.grid_components.proofs.Ranking.{rank_is}
+use Rattle.grid_components.proofs.ComponentRanks.{rank_is}
 use Rattle.grid_components.proofs.Sizes.{counts_map, size_of, size_leads, size_other, joined_some}
 use Rattle.grid_components.proofs.Tallies.{counts_same, In_at}
 use Rattle.grid_unions.specs.Ranks.{IsGreatest}

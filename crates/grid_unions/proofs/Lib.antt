@@ -1,9 +1,9 @@
-pub mod Uniting
+pub mod UnionCounts
 pub mod Trees
-pub mod Taking
+pub mod JoinReversals
 pub mod Orders
-pub mod Ranked
-pub mod Embedding
+pub mod TreeRanks
+pub mod Subgraphs
 pub mod Greatest
 pub mod WeightSums
 pub mod MainComponent

@@ -11,7 +11,7 @@ use Rattle.grid_components.proofs.Sizes.{joined_some}
 use Rattle.grid_unions.specs.Ranks.{IsGreatest}
 use Rattle.grid_unions.specs.Summed.{class_sum, no_sums}
 use Rattle.grid_unions.specs.declared.summed.Sums.{Sums}
-use Rattle.grid_unions.proofs.Embedding.{placed, IsEmbedded, small_fit, large_fit, count_embedded, greatest_many, greatest_single, count_single}
+use Rattle.grid_unions.proofs.Subgraphs.{placed, IsEmbedded, small_fit, large_fit, count_embedded, greatest_many, greatest_single, count_single}
 use Rattle.grid_unions.proofs.Greatest.{zeros_counted}
 use Rattle.grid_unions.proofs.WeightSums.{add_passed, mapped_weights, over_single, over_embedded, over_zeros}
 

@@ -13,7 +13,7 @@ use Rattle.grid_queue.proofs.OneMore.{IsOneMore}
 use Rattle.grid_queue.proofs.Parents.{none_joined}
 use Rattle.grid_unions.specs.Trees.{Trees, trees, parent_of, size_at, hung, unhung, IsForest, IsHung}
 use Rattle.grid_unions.specs.Unions.{with_newest}
-use Rattle.grid_unions.proofs.Uniting.{newest_ends, newest_pair, IsAmong, least_in_either, kept_least, parts_least, count_united, count_stays, anyway, count_anyway, least_fewer, least_as_many, alone_joined, alone_least}
+use Rattle.grid_unions.proofs.UnionCounts.{newest_ends, newest_pair, IsAmong, least_in_either, kept_least, parts_least, count_united, count_stays, anyway, count_anyway, least_fewer, least_as_many, alone_joined, alone_least}
 
 -- ---- writes
 

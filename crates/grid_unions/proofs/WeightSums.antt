@@ -13,7 +13,7 @@ use Rattle.grid_graph.proofs.Places.{AreBelow, In_places, places_In}
 use Rattle.grid_graph.proofs.Least.{In_filter, filter_In, n_refl}
 use Rattle.grid_components.specs.Ranks.{is_key}
 use Rattle.grid_unions.specs.Ranks.{IsGreatest}
-use Rattle.grid_unions.proofs.Embedding.{placed, IsEmbedded, group_embedded, long_group}
+use Rattle.grid_unions.proofs.Subgraphs.{placed, IsEmbedded, group_embedded, long_group}
 use Rattle.grid_unions.proofs.Greatest.{zero_joined}
 
 -- adds a weight where its number passes a test

@@ -1,3 +1,5 @@
+pub mod Digits
+pub mod Leaves
 pub mod Turns
 pub mod Growing
 pub mod Spelled

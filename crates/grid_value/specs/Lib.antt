@@ -1,3 +1,4 @@
 pub mod Bytes
 pub mod View
 pub mod Tree
+pub mod Leaves

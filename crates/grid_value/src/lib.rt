@@ -2,6 +2,7 @@
 #![tactic(auto)]
 
 mod grammar;
+mod leaf;
 mod node;
 mod number;
 mod read;
@@ -10,6 +11,7 @@ mod value;
 
 pub use grammar::is_grammatical;
 pub use json::Scratch;
+pub use leaf::{next_flag, next_text, next_whole};
 pub use node::Node;
 pub use number::Number;
 pub use read::{ByteFault, MAX_DEPTH, Tree};

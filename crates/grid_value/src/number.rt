@@ -1,5 +1,7 @@
 // The numbers of JSON.
-ghost use Rattle.std.specs.Prelude.{◌≡◌, ◌<◌, ◌==◌, length, slice_index, option_map, IsTrue, true, false};
+ghost use Rattle.std.specs.Prelude.{◌≡◌, ◌<◌, ◌≤◌, ◌==◌, ◌^◌, length, slice_index, option_map, option_and_then, IfSome, IsTrue, true, false};
+ghost use Rattle.std.specs.Option.{SomeIff};
+ghost use Rattle.std.specs.Str.Parse.{IsNumeral, digits_value};
 ghost use Rattle.serde_json.specs.Find.{as_i64};
 ghost use Rattle.serde_json.specs.Read.{number_of, number_from, float_of};
 ghost use Rattle.grid_value.specs.View.{number_view};
@@ -19,10 +21,21 @@ pub enum Number {
 
 impl Number {
     /// The number that a token of JSON writes, where it is in range.
+    #[inline]
     pub fn parse(text: &str) -> Option<Number>
         ensures { option_map number_view result ≡ number_of text.now }
     {
         let bytes = text.as_bytes();
+        match few_digits(bytes) {
+            Some(number) => Some(Number::Unsigned(number)),
+            None => Number::scan(bytes),
+        }
+    }
+
+    /// The number that any text writes.
+    fn scan(bytes: &[u8]) -> Option<Number>
+        ensures { option_map number_view result ≡ number_of bytes.now }
+    {
         if has_minus(bytes) {
             Number::negative(&Numeral::scan(&bytes[1..]))
         } else {
@@ -61,6 +74,18 @@ impl Number {
         }
     }
 
+    /// The number that a token of JSON writes, where it is whole and fits 64 bits with a sign.
+    #[inline]
+    pub fn parse_i64(text: &str) -> Option<i64>
+        ensures { result ≡ option_and_then as_i64 (number_of text.now) }
+    {
+        let bytes = text.as_bytes();
+        match few_digits(bytes) {
+            Some(number) => Some(number as i64),
+            None => Number::scan(bytes)?.as_i64(),
+        }
+    }
+
     /// The number, where it is whole and fits 64 bits with a sign.
     pub fn as_i64(&self) -> Option<i64>
         ensures { result ≡ as_i64 (number_view self.now) }
@@ -71,6 +96,27 @@ impl Number {
             Number::Float(_) => None,
         }
     }
+}
+
+/// The number that one to eighteen digits write, as nearly all numbers of a job are written. None for any other text.
+/// Ten to the eighteenth fits 64 bits with a sign, so that no size is looked at.
+#[inline]
+fn few_digits(bytes: &[u8]) -> Option<u64>
+    ensures value { SomeIff result (IsNumeral 10 bytes.now × (length bytes.now ≤ 18)) (digits_value 10 bytes.now) }
+    ensures small { IfSome result (λ number. number < 10 ^ 18) }
+{
+    if bytes.is_empty() || bytes.len() > 18 {
+        return None;
+    }
+    let mut number = 0;
+    'digits: for byte in bytes {
+        let digit = byte.wrapping_sub(b'0');
+        if digit > 9 {
+            return None;
+        }
+        number = number * 10 + digit as u64;
+    }
+    Some(number)
 }
 
 fn has_minus(bytes: &[u8]) -> bool

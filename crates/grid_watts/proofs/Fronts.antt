@@ -17,8 +17,8 @@ use Rattle.grid_watts.specs.Watts.{watts_at, watts_for, terminals, load_total, g
 use Rattle.grid_watts.specs.Shares.{share}
 use Rattle.grid_watts.specs.Ranges.{is_narrow, HasRoom, IsSummed, HasSumsOf}
 use Rattle.grid_watts.specs.Moves.{gained}
-use Rattle.grid_watts.proofs.Summing.{summed, summed-append, adds, all_placed, sum_is, total_is}
-use Rattle.grid_watts.proofs.Rooming.{sum_low, sum_high, few_terminals}
+use Rattle.grid_watts.proofs.TerminalSums.{summed, summed-append, adds, all_placed, sum_is, total_is}
+use Rattle.grid_watts.proofs.SumBounds.{sum_low, sum_high, few_terminals}
 
 pub record IsFront (ps : List Placed) (powers : PowerList) : Type 0 where
   pub listed : powers.listed ≡ []

@@ -18,14 +18,14 @@ use Rattle.grid_structure.specs.Sites.{levels}
 use Rattle.grid_states.specs.declared.row.NodeWatts.{NodeWatts}
 use Rattle.grid_states.specs.Pairs.{pair}
 use Rattle.grid_powers.specs.Listed.{Listed, value_in, with_value, IsByOrder, PowerList}
-use Rattle.grid_powers.proofs.Listing.{value_with-other, value_with-own}
+use Rattle.grid_powers.proofs.ListedValues.{value_with-other, value_with-own}
 use Rattle.grid_watts.specs.Watts.{is_powered, powered, powered_by, terminals, terminals_before}
 use Rattle.grid_watts.specs.Nodes.{listed_pair, with_pair_of, with_pairs_of, IsListing, listed_rows}
-use Rattle.grid_watts.proofs.Summing.{all_placed}
+use Rattle.grid_watts.proofs.TerminalSums.{all_placed}
 use Rattle.grid_watts.proofs.Orders.{with_order, same_values}
 use Rattle.grid_watts.proofs.Spots.{found_at_node}
 use Rattle.grid_watts.proofs.Fronts.{part_more}
-use Rattle.grid_watts.proofs.Locating.{level_at}
+use Rattle.grid_watts.proofs.FirstSides.{level_at}
 use Rattle.grid_watts.proofs.LevelReadings.{readings}
 use Rattle.grid_watts.proofs.Variants.{rows_are}
 use Rattle.grid_watts.proofs.Pairings.{pairs, unpowered_pair, powered_pair}

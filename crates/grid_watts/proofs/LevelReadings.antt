@@ -28,19 +28,19 @@ use Rattle.grid_structure.specs.declared.Edit.TheVariants as edits
 use Rattle.grid_structure.specs.declared.EditFault.TheVariants as faults
 use Rattle.grid_structure.specs.Soundness.{IsSound}
 use Rattle.grid_structure.proofs.Counts.{times, differ-times}
-use Rattle.grid_structure.proofs.Framing.{put_level}
+use Rattle.grid_structure.proofs.Frames.{put_level}
 use Rattle.grid_structure.proofs.Levels.{levels-with_levels}
 use Rattle.grid_structure.proofs.OneLevel.{base_of, found, fits}
 use Rattle.grid_structure.proofs.Substations.{changed, levels_in}
-use Rattle.grid_structure.proofs.Branching.{Midway, ended}
+use Rattle.grid_structure.proofs.SoundBranches.{Midway, ended}
 use Rattle.grid_structure.proofs.Sides.{Side}
-use Rattle.grid_structure.proofs.Removing.{dropped, levels-dropped}
-use Rattle.grid_structure.proofs.Inserting.{bare_level}
+use Rattle.grid_structure.proofs.SoundRemovals.{dropped, levels-dropped}
+use Rattle.grid_structure.proofs.LevelInsertions.{bare_level}
 use Rattle.grid_structure.proofs.ListOfLevels.{level_inserted}
 use Rattle.grid_busview.specs.Views.{is_load, is_generation}
 use Rattle.grid_watts.specs.Watts.{is_powered}
 use Rattle.grid_watts.specs.Moved.{leaves_rows}
-use Rattle.grid_watts.proofs.Owning.{others}
+use Rattle.grid_watts.proofs.EquipmentShares.{others}
 
 -- what is read of each level
 abbrev pub readings : {R : Type 0} → (List Placed → R) → List VoltageLevel → List R

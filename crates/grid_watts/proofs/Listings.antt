@@ -17,18 +17,18 @@ use Rattle.grid_structure.specs.declared.Edit.TheVariants as edits
 use Rattle.grid_structure.specs.Soundness.{IsSound}
 use Rattle.grid_structure.proofs.ListOfLevels.{level_inserted}
 use Rattle.grid_powers.specs.Listed.{Listed, value_in, with_value, without_value, IsByOrder}
-use Rattle.grid_powers.proofs.Listing.{value_without, value_with-other}
+use Rattle.grid_powers.proofs.ListedValues.{value_without, value_with-other}
 use Rattle.grid_watts.specs.Watts.{is_powered, powered, powered_by, terminals}
 use Rattle.grid_watts.specs.Shares.{listed_after}
 use Rattle.grid_watts.specs.Moves.{edit_moved, set_to, BringsNarrow}
 use Rattle.grid_watts.specs.Ranges.{is_narrow, IsSummed}
 use Rattle.grid_watts.specs.Nodes.{powers_under, AllThere, IsListing}
 use Rattle.grid_watts.specs.Moved.{leaves_rows, HasNarrowRecord, NothingIsListing, EditsKeepListing, ValuesKeepListing, ListingsHaveRoom}
-use Rattle.grid_watts.proofs.Summing.{all_placed}
-use Rattle.grid_watts.proofs.Owning.{others}
-use Rattle.grid_watts.proofs.Locating.{find_front, find_behind}
-use Rattle.grid_watts.proofs.Rooming.{room}
-use Rattle.grid_watts.proofs.Keeping.{edit_summed, set_summed}
+use Rattle.grid_watts.proofs.TerminalSums.{all_placed}
+use Rattle.grid_watts.proofs.EquipmentShares.{others}
+use Rattle.grid_watts.proofs.FirstSides.{find_front, find_behind}
+use Rattle.grid_watts.proofs.SumBounds.{room}
+use Rattle.grid_watts.proofs.PowerSums.{edit_summed, set_summed}
 use Rattle.grid_watts.proofs.LevelReadings.{readings, Ignores, ReadsPowered, edit_alike, injection_alike, level_brings, equipment_gone}
 use Rattle.grid_watts.proofs.Variants.{injection_new, unlisted_watts}
 use Rattle.grid_watts.proofs.Orders.{with_order, without_order, value_gone}

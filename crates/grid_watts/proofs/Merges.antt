@@ -14,8 +14,8 @@ use Rattle.grid_states.specs.declared.row.NodeWatts.{NodeWatts}
 use Rattle.grid_states.specs.Pairs.{pair}
 use Rattle.grid_watts.specs.Watts.{is_powered, watts_for, watts_at}
 use Rattle.grid_watts.specs.Nodes.{listed_pair}
-use Rattle.grid_watts.proofs.Owning.{unpowered_watts}
-use Rattle.grid_watts.proofs.Recording.{powered_watts}
+use Rattle.grid_watts.proofs.EquipmentShares.{unpowered_watts}
+use Rattle.grid_watts.proofs.RecordWatts.{powered_watts}
 
 -- the record of other equipment gives none
 unpowered_record : (s : Stand) → is_powered s ≡ false → stand_watts s ≡ pos 0

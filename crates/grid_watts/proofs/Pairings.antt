@@ -13,7 +13,7 @@ use Rattle.grid_states.specs.Pairs.{pair, value_at, with_pair, without_pair}
 use Rattle.grid_powers.specs.Listed.{Listed, value_in}
 use Rattle.grid_watts.specs.Watts.{is_powered, powered_by}
 use Rattle.grid_watts.specs.Nodes.{listed_pair}
-use Rattle.grid_watts.proofs.Owning.{others}
+use Rattle.grid_watts.proofs.EquipmentShares.{others}
 use Rattle.grid_watts.proofs.Spots.{NoneOf, Around}
 
 abbrev pub pairs : Listed → List Placed → List NodeWatts

@@ -7,7 +7,7 @@ use Rattle.grid_structure.specs.declared.Site.{Site}
 use Rattle.grid_structure.specs.Sites.{site, terminal_spot}
 use Rattle.grid_watts.specs.Watts.{powered}
 use Rattle.grid_watts.specs.Nodes.{powered_at}
-use Rattle.grid_watts.proofs.Locating.{spot_none, spot_some}
+use Rattle.grid_watts.proofs.FirstSides.{spot_none, spot_some}
 
 -- nowhere
 pub nowhere_at : (net : Network) (id : List ℕ) → option_map terminal_spot (site net id 1) ≡ None → powered_at net id ≡ None

@@ -15,13 +15,13 @@ use Rattle.grid_structure.specs.Sites.{levels, site}
 use Rattle.grid_structure.specs.Soundness.{IsSound}
 use Rattle.grid_structure.proofs.Counts.{times}
 use Rattle.grid_structure.proofs.OneLevel.{names_of}
-use Rattle.grid_structure.proofs.Naming.{names_both}
+use Rattle.grid_structure.proofs.NameCounts.{names_both}
 use Rattle.grid_watts.specs.Watts.{is_powered, powered, powered_by}
 use Rattle.grid_watts.specs.Nodes.{powered_at}
-use Rattle.grid_watts.proofs.Summing.{all_placed}
-use Rattle.grid_watts.proofs.Owning.{branch_end_is_none, count_more}
-use Rattle.grid_watts.proofs.Leaving.{names_once, found_powered}
-use Rattle.grid_watts.proofs.Locating.{first_side, where_powered, by_first_side, level_at, site_below, sited_from, no_site}
+use Rattle.grid_watts.proofs.TerminalSums.{all_placed}
+use Rattle.grid_watts.proofs.EquipmentShares.{branch_end_is_none, count_more}
+use Rattle.grid_watts.proofs.EquipmentShifts.{names_once, found_powered}
+use Rattle.grid_watts.proofs.FirstSides.{first_side, where_powered, by_first_side, level_at, site_below, sited_from, no_site}
 
 -- no load, generator or battery of this id is among them
 abbrev pub NoneOf : List ℕ → List Placed → Type 0

@@ -21,7 +21,7 @@ use Rattle.grid_structure.specs.declared.Edit.TheVariants as edits
 use Rattle.grid_structure.specs.declared.EditFault.TheVariants as faults
 use Rattle.grid_structure.specs.Soundness.{IsSound}
 use Rattle.grid_structure.proofs.Counts.{not_there}
-use Rattle.grid_structure.proofs.Framing.{ids_counted}
+use Rattle.grid_structure.proofs.Frames.{ids_counted}
 use Rattle.grid_busview.specs.Views.{is_load, is_load_item, is_generation, is_generation_item, stand_watts}
 use Rattle.grid_states.specs.declared.row.NodeWatts.{NodeWatts}
 use Rattle.grid_states.specs.declared.sums.Counted.{Counted}
@@ -31,18 +31,18 @@ use Rattle.grid_states.specs.Rows.{Rows, pairs_at, with_pairs, with_node, withou
 use Rattle.grid_states.specs.Sums as sums
 use Rattle.grid_states.specs.declared.sums.Sum.TheVariants as of_sum
 use Rattle.grid_powers.specs.Listed.{Listed, PowerList, value_in, with_value, without_value}
-use Rattle.grid_powers.proofs.Listing.{value_without, value_with-other, value_with-own}
+use Rattle.grid_powers.proofs.ListedValues.{value_without, value_with-other, value_with-own}
 use Rattle.grid_watts.specs.Watts.{is_powered, watts_at, watts_for, powered, terminals, load_total, generation_total, total_over}
 use Rattle.grid_watts.specs.Shares.{share, own_part, edit_part, set_part, listed_after}
 use Rattle.grid_watts.specs.Moves.{edit_moved, leaves_powers}
 use Rattle.grid_watts.specs.Nodes.{listed_pair, listed_row, listed_rows, row_watts_at, powers_under, powered_at, counted, gain, change}
 use Rattle.grid_watts.specs.Moved.{leaves_rows, ValuesMoveRows, InjectionsAreNew, InjectionsMoveRows, RemovalsMoveRows, RemovalsLeaveRows, LevelsMoveRows, OthersLeaveRows}
-use Rattle.grid_watts.proofs.Summing.{all_placed, total_is}
-use Rattle.grid_watts.proofs.Owning.{others, share_is_part}
-use Rattle.grid_watts.proofs.Leaving.{edit_moves, set_moves, names_within}
-use Rattle.grid_watts.proofs.Locating.{none_powered}
-use Rattle.grid_watts.proofs.Recording.{of_record, powered_watts}
-use Rattle.grid_watts.proofs.Keeping.{leaving_moved, plus_nothing}
+use Rattle.grid_watts.proofs.TerminalSums.{all_placed, total_is}
+use Rattle.grid_watts.proofs.EquipmentShares.{others, share_is_part}
+use Rattle.grid_watts.proofs.EquipmentShifts.{edit_moves, set_moves, names_within}
+use Rattle.grid_watts.proofs.FirstSides.{none_powered}
+use Rattle.grid_watts.proofs.RecordWatts.{of_record, powered_watts}
+use Rattle.grid_watts.proofs.PowerSums.{leaving_moved, plus_nothing}
 use Rattle.grid_watts.proofs.LevelReadings.{readings, Ignores, ReadsPowered, edit_alike, injection_alike, level_brings, equipment_gone}
 use Rattle.grid_watts.proofs.Spots.{NoneOf, Spot, spot, nowhere, none_found}
 use Rattle.grid_watts.proofs.Pairings.{pairs, unpowered_pair, AgreeBut, alike, others_alike, value_around, set_around, gone_around}

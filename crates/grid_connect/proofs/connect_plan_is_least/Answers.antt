@@ -1,4 +1,4 @@
-use Rattle.grid_connect.proofs.Connecting.{connect_plan-IsConnectPlan}
+use Rattle.grid_connect.proofs.ConnectPlans.{connect_plan-IsConnectPlan}
 use Rattle.grid_connect.proofs.connect_plan_is_least.Goals as goal
 
 pub returns : goal.returns

@@ -1,29 +1,36 @@
-use Rattle.std.proofs.Common.{◌≡◌, ℕ, length, arith, subst}
-use Rattle.grid_paths.specs.Search.{cost_at, IsLink, IsBestFrom}
-use Rattle.grid_paths.proofs.Routing.{Leads_below}
-use Rattle.grid_paths.proofs.Rows.{first_link, best_none}
+use Rattle.std.proofs.Common.{arith}
+use Rattle.grid_paths.proofs.Nexts.{next_in, next_at, next_on, next_within, next_below, loose_more, best_none, best_here}
 use Rattle.grid_paths.proofs.best_step.Goals as goal
 
-pub loop-link-init : goal.loop-link-init
-loop-link-init c =
-    let link = c.index-link.result.now in
-    let first : IsLink c.args.edges.now c.args.node (length c.args.edges.now) link =
-    first_link c.args.edges.now c.args.chains.now.firsts.items c.args.chains.now.nexts.items c.args.node link c.requires.chains (omega (arith, c.requires.long, c.requires.node)) c.index-link.ensures in
-    record { led = first.led; best = best_none c.args.edges.now c.args.found.now c.args.node (cost_at c.args.found.now c.args.node) link first }
+pub is_tight-requires-clause-edge : goal.is_tight-requires-clause-edge
+is_tight-requires-clause-edge g c =
+    let edges = g.N.PathNet.edges c.args.net.now in
+    let nexts = c.nexts-next-items.result.now in
+    let k = c.loop-next.next-index in
+    next_within edges c.args.node (next_in nexts k) (next_on edges c.args.node nexts k c.nexts-next-items.ensures c.loop-next-test.true)
 
-pub better_of-best-requires : goal.better_of-best-requires
-better_of-best-requires c =
-    let step = c.pass-next.result.0 in
-    Leads_below c.args.edges.now (length c.args.found.now) c.args.node step.place step.to step.weight c.requires.ends c.pass-next.ensures.leads
+pub is_tight-requires-clause-node : goal.is_tight-requires-clause-node
+is_tight-requires-clause-node g c =
+    let edges = g.N.PathNet.edges c.args.net.now in
+    let nexts = c.nexts-next-items.result.now in
+    let k = c.loop-next.next-index in
+    let on = next_on edges c.args.node nexts k c.nexts-next-items.ensures c.loop-next-test.true in
+    let below = next_below edges (g.N.PathNet.nodes c.args.net.now) c.args.node (next_in nexts k) c.ends_below.ensures on in
+    omega (arith, below, c.requires.long)
 
-pub loop-link-preserved : goal.loop-link-preserved
-loop-link-preserved c = record {
-  led = c.pass-next.ensures.follows.led;
-  best = c.better_of-best.ensures c.args.edges.now c.args.node c.loop-link.link c.pass-next.result.1 c.pass-next.ensures c.loop-link.invariant.best;
-}
+pub returns-then-is_tight : goal.returns-then-is_tight
+returns-then-is_tight g c =
+    let nexts = c.nexts-next-items.result.now in
+    let k = c.loop-next.next-index in
+    best_here (g.N.PathNet.edges c.args.net.now) nexts k c.args.node (next_in nexts k) c.args.found.now c.nexts-next-items.ensures (next_at nexts k c.loop-next-test.true)
+    c.loop-next.invariant (c.is_tight.ensures.yes c.if-is_tight.true)
+
+pub loop-next-preserved : goal.loop-next-preserved
+loop-next-preserved g c =
+    let nexts = c.nexts-next-items.result.now in
+    let k = c.loop-next.next-index in
+    loose_more (g.N.PathNet.edges c.args.net.now) nexts k (next_in nexts k) c.args.found.now _ (next_at nexts k c.loop-next-test.true) (c.is_tight.ensures.no c.if-is_tight.false) c.loop-next.invariant
 
 pub returns : goal.returns
-returns c =
-    let end : c.loop-link.link ≡ 0 = omega (arith, c.loop-link-test.false) in
-    let P : ℕ → Type 0 = λ n. IsBestFrom c.args.edges.now c.args.found.now c.args.node (cost_at c.args.found.now c.args.node) n c.loop-link.best in
-    subst P end c.loop-link.invariant.best
+returns g c =
+    best_none (g.N.PathNet.edges c.args.net.now) c.nexts-next-items.result.now c.loop-next.next-index c.args.node c.args.found.now c.nexts-next-items.ensures (omega (arith, c.loop-next-test.false)) c.loop-next.invariant

@@ -1,4 +1,4 @@
-use Rattle.grid_paths.proofs.Tied.{measure_tied}
+use Rattle.grid_paths.proofs.PathTies.{measure_tied}
 use Rattle.grid_paths.proofs.equal_measure_is_equal_path.Goals as goal
 
 pub returns : goal.returns

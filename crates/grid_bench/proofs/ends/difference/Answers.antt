@@ -1,7 +1,7 @@
 use Rattle.std.proofs.Common.{◌≡◌, ◌+◌, ◌*◌, ap, ◌∙◌, ℕ, arith}
 use Rattle.std.specs.Prelude.{bit_xor}
 use Rattle.std.specs.Int.Bits.{xor_self}
-use Rattle.grid_bench.proofs.Differing.{no_difference}
+use Rattle.grid_bench.proofs.BitDifferences.{no_difference}
 use Rattle.grid_bench.proofs.ends.difference.Goals as goal
 
 pub returns : goal.returns

@@ -3,7 +3,7 @@ use Rattle.std.specs.Prelude.{bit_or}
 use Rattle.std.proofs.lemmas.Bool.{eqb-true, eq-eqb}
 use Rattle.std.proofs.lemmas.List.{take_all}
 use Rattle.std.proofs.lemmas.Option.{slice_get-get_or}
-use Rattle.grid_bench.proofs.Differing.{none_gathered}
+use Rattle.grid_bench.proofs.BitDifferences.{none_gathered}
 use Rattle.grid_bench.proofs.Made.{same_more}
 use Rattle.grid_bench.proofs.ends.same_pairs.Goals as goal
 

@@ -4,7 +4,7 @@ use Rattle.grid_structure.specs.Sites.{levels}
 use Rattle.grid_core.specs.History.{History, structure}
 use Rattle.grid_core.specs.Worlds.{worker_live, worker_state}
 use Rattle.grid_board.specs.Questions.{base_of}
-use Rattle.grid_board.proofs.Based.{base_fits}
+use Rattle.grid_board.proofs.BaseLevels.{base_fits}
 use Rattle.grid_board.proofs.Seen.{row_there}
 use Rattle.grid_board.proofs.bases.base_of.Goals as goal
 

@@ -1,6 +1,6 @@
 use Rattle.std.proofs.Common.{◌≡◌, sym, ◌∙◌}
 use Rattle.grid_states.specs.Rows.{row_at}
-use Rattle.grid_board.proofs.Compared.{refuted}
+use Rattle.grid_board.proofs.ListEquality.{refuted}
 use Rattle.grid_board.proofs.Seen.{pairs_here, part_same, part_fields}
 use Rattle.grid_board.proofs.comparing.is_part.Goals as goal
 use Rattle.grid_board.proofs.comparing.is_part.Goals.{then-same_flags, else-same_flags, then-same_flags-2, else-same_flags-2}

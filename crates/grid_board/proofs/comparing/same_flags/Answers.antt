@@ -4,7 +4,7 @@ use Rattle.std.proofs.lemmas.Bool.{and_parts}
 use Rattle.std.proofs.lemmas.List.{take_all}
 use Rattle.std.proofs.lemmas.Option.{slice_get-get_or}
 use Rattle.grid_bench.proofs.Made.{same_more}
-use Rattle.grid_bench.proofs.Following.{beq_same, beq_refl}
+use Rattle.grid_bench.proofs.FlagUpdates.{beq_same, beq_refl}
 use Rattle.grid_board.proofs.comparing.same_flags.Goals as goal
 
 pub loop-place-preserved : goal.loop-place-preserved

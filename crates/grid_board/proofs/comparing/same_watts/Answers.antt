@@ -6,8 +6,8 @@ use Rattle.grid_level.specs.declared.Placed.{Placed}
 use Rattle.grid_level.specs.VoltageLevel.{VoltageLevel}
 use Rattle.grid_powers.specs.Listed.{Listed}
 use Rattle.grid_watts.specs.Watts.{watts_at, level_watts}
-use Rattle.grid_watts.proofs.Reading.{read_none, rises_ahead, row_ahead, read_more, read_all}
-use Rattle.grid_board.proofs.Compared.{never, always, differ}
+use Rattle.grid_watts.proofs.RowWatts.{read_none, rises_ahead, row_ahead, read_more, read_all}
+use Rattle.grid_board.proofs.ListEquality.{never, always, differ}
 use Rattle.grid_board.proofs.comparing.same_watts.Goals as goal
 
 -- the watts at a place

@@ -1,7 +1,7 @@
 use Rattle.std.proofs.Common.{ap, ◌∙◌}
 use Rattle.grid_structure.specs.Network.{Network}
 use Rattle.grid_board.specs.Questions.{asked_of}
-use Rattle.grid_board.proofs.Questioning.{present_dead, present_asked}
+use Rattle.grid_board.proofs.PresentQuestions.{present_dead, present_asked}
 use Rattle.grid_board.proofs.current.asked_by.Goals as goal
 
 pub returns-in_err-slot-clause-asked : goal.returns-in_err-slot-clause-asked

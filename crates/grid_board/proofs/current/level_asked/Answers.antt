@@ -1,7 +1,7 @@
 use Rattle.std.proofs.Common.{◌≡◌, sym, ap, ◌∙◌, Some}
 use Rattle.grid_bench.specs.declared.Task.{Task}
 use Rattle.grid_board.specs.Questions.{about}
-use Rattle.grid_board.proofs.Questioning.{state_fits, state_asked, present_other}
+use Rattle.grid_board.proofs.PresentQuestions.{state_fits, state_asked, present_other}
 use Rattle.grid_board.proofs.current.level_asked.Goals as goal
 use Rattle.grid_board.proofs.current.level_asked.Goals.{else-same-via-then-same+else-is_base_of, else-same-via-else-same}
 

@@ -7,7 +7,7 @@ use Rattle.grid_jsonl.specs.Outcomes.{lines}
 use Rattle.grid_contingencies.specs.declared.Contingency.{Contingency}
 use Rattle.grid_screen.specs.Found.{finding_of}
 use Rattle.grid_cli.specs.Findings.{case_state, list_objects, list_text, told_count}
-use Rattle.grid_cli.proofs.Screening.{found_at, list_text-append, lines-append, told_count-append}
+use Rattle.grid_cli.proofs.ScreenAnswers.{found_at, list_text-append, lines-append, told_count-append}
 use Rattle.grid_cli.proofs.findings.parts_of.Goals as goal
 
 pub loop-contingency-init : goal.loop-contingency-init

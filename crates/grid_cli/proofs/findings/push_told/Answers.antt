@@ -5,8 +5,8 @@ use Rattle.grid_screen.specs.Texts.{screen_line}
 use Rattle.grid_screen.specs.Lines.{contingency_object}
 use Rattle.grid_print.specs.Job.{line_of}
 use Rattle.grid_cli.specs.Findings.{case_state, found_object, part_lines, part_text}
-use Rattle.grid_cli.proofs.Numbering.{last_text}
-use Rattle.grid_cli.proofs.Screening.{left_lines, left_none, left_text, told_is, told_lines, told_one, told_text}
+use Rattle.grid_cli.proofs.ItemTexts.{last_text}
+use Rattle.grid_cli.proofs.ScreenAnswers.{left_lines, left_none, left_text, told_is, told_lines, told_one, told_text}
 use Rattle.grid_cli.proofs.findings.push_told.Goals as goal
 
 pub returns-then-not-is_told : goal.returns-then-not-is_told

@@ -7,7 +7,7 @@ use Rattle.grid_report.proofs.Begun.{on_err_map, within}
 use Rattle.grid_jsonl.specs.Steps.{state_line}
 use Rattle.grid_cli.specs.Layouts.{in_layout}
 use Rattle.grid_cli.specs.Findings.{case_state, left_count, told_of}
-use Rattle.grid_cli.proofs.Screening.{counts-all, in_first, listed_is}
+use Rattle.grid_cli.proofs.ScreenAnswers.{counts-all, in_first, listed_is}
 use Rattle.grid_cli.proofs.findings.write_findings.Goals as goal
 
 pub returns-in_err-write_part-clause-err : goal.returns-in_err-write_part-clause-err

@@ -9,7 +9,7 @@ use Rattle.grid_core.specs.declared.case.Case.{Case}
 use Rattle.grid_contingencies.specs.declared.Contingency.{Contingency}
 use Rattle.grid_cli.specs.Findings.{case_state, told_count, told_of}
 use Rattle.grid_cli.specs.declared.findings.Look.{Look}
-use Rattle.grid_cli.proofs.Screening.{counts-all, list_in-append, list_in-nil, told_count-append}
+use Rattle.grid_cli.proofs.ScreenAnswers.{counts-all, list_in-append, list_in-nil, told_count-append}
 use Rattle.grid_cli.proofs.findings.write_list.Goals as goal
 
 -- a front, a piece and what is left

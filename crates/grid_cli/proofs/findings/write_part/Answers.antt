@@ -3,7 +3,7 @@ use Rattle.std.proofs.lemmas.Result.{on_ok_weaker}
 use Rattle.std.specs.Io.KnownBytes.{Appends}
 use Rattle.grid_source.specs.Whole.{IsBegun}
 use Rattle.grid_report.proofs.Begun.{on_err_map}
-use Rattle.grid_cli.proofs.Screening.{one_part}
+use Rattle.grid_cli.proofs.ScreenAnswers.{one_part}
 use Rattle.grid_cli.proofs.findings.write_part.Goals as goal
 
 pub returns-clause-ok : goal.returns-clause-ok

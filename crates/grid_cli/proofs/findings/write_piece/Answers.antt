@@ -6,7 +6,7 @@ use Rattle.grid_lemmas.proofs.Results.{on_err}
 use Rattle.grid_jsonl.specs.Outcomes.{lines}
 use Rattle.grid_screen.specs.Found.{AreFindings}
 use Rattle.grid_cli.specs.Findings.{IsLook, case_state, list_objects, list_text, part_lines, part_text, told_count}
-use Rattle.grid_cli.proofs.Screening.{parts_told}
+use Rattle.grid_cli.proofs.ScreenAnswers.{parts_told}
 use Rattle.grid_cli.proofs.findings.write_piece.Goals as goal
 
 pub parts_of-requires-clause-look : goal.parts_of-requires-clause-look

@@ -1,7 +1,7 @@
 use Rattle.std.proofs.Common.{◌≡◌, ◌+◌, sym, ap, ◌∙◌, rules}
 use Rattle.grid_core.specs.History.{live}
 use Rattle.grid_cli.specs.Hvdc.{named_count}
-use Rattle.grid_cli.proofs.Numbering.{next_sum}
+use Rattle.grid_cli.proofs.ItemTexts.{next_sum}
 use Rattle.grid_cli.proofs.hvdc.count_all.Goals as goal
 
 pub loop-place-preserved : goal.loop-place-preserved

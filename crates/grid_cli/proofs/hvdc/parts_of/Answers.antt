@@ -5,7 +5,7 @@ use Rattle.grid_core.specs.Journals.{journal_of}
 use Rattle.grid_jsonl.specs.Steps.{state_line}
 use Rattle.grid_jsonl.specs.Outcomes.{lines}
 use Rattle.grid_cli.specs.Hvdc.{named_objects, named_text, part_lines, part_text}
-use Rattle.grid_cli.proofs.Numbering.{last_text, next_lines, next_text}
+use Rattle.grid_cli.proofs.ItemTexts.{last_text, next_lines, next_text}
 use Rattle.grid_cli.proofs.hvdc.parts_of.Goals as goal
 
 pub loop-place-preserved : goal.loop-place-preserved

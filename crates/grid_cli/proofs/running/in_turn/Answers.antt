@@ -1,5 +1,5 @@
 use Rattle.grid_report.specs.Histories.{in_turn}
-use Rattle.grid_cli.proofs.Showing.{turn, turns_over}
+use Rattle.grid_cli.proofs.WorkerTurns.{turn, turns_over}
 use Rattle.grid_cli.proofs.running.in_turn.Goals as goal
 
 pub loop-worker-preserved : goal.loop-worker-preserved

@@ -1,4 +1,4 @@
-use Rattle.grid_cli.proofs.Showing.{came}
+use Rattle.grid_cli.proofs.WorkerTurns.{came}
 use Rattle.grid_cli.proofs.running.outcome.Goals as goal
 
 pub returns-clause-outcome : goal.returns-clause-outcome

@@ -1,7 +1,7 @@
 use Rattle.std.proofs.Common.{◌≡◌, rules, length, get_or, arith, ◌+◌, Fits, w64}
 use Rattle.grid_core.specs.History.{command}
-use Rattle.grid_report.proofs.Stepping.{at_start, behind, known, cursor_is, left, found, moved}
-use Rattle.grid_cli.proofs.Stepping.{grown, whole}
+use Rattle.grid_report.proofs.ScriptCursors.{at_start, behind, known, cursor_is, left, found, moved}
+use Rattle.grid_cli.proofs.OrderSteps.{grown, whole}
 use Rattle.grid_cli.proofs.running.run.Goals as goal
 
 pub loop-worker-init : goal.loop-worker-init

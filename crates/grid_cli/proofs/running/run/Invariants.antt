@@ -1,6 +1,6 @@
 use Rattle.std.proofs.Common.{◌≡◌, ◌≤◌, length}
-use Rattle.grid_report.proofs.Stepping.{Cursors}
-use Rattle.grid_cli.proofs.Stepping.{history_at}
+use Rattle.grid_report.proofs.ScriptCursors.{Cursors}
+use Rattle.grid_cli.proofs.OrderSteps.{history_at}
 use Rattle.grid_cli.proofs.running.run.Given as goal
 
 -- the steps so far, and how far each worker has come

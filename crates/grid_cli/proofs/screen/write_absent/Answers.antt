@@ -4,7 +4,7 @@ use Rattle.std.specs.Io.KnownBytes.{Appends}
 use Rattle.grid_source.specs.Whole.{IsBegun}
 use Rattle.grid_report.proofs.Begun.{on_err_map}
 use Rattle.grid_cli.specs.Screen.{absent_in}
-use Rattle.grid_cli.proofs.Screening.{absent_parts}
+use Rattle.grid_cli.proofs.ScreenAnswers.{absent_parts}
 use Rattle.grid_cli.proofs.screen.write_absent.Goals as goal
 
 pub returns-clause-ok : goal.returns-clause-ok

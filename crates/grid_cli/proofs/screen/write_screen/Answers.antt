@@ -3,7 +3,7 @@ use Rattle.grid_screen.specs.Findings.{CaseFits}
 use Rattle.grid_core.specs.Journals.{journal_of}
 use Rattle.grid_cli.specs.Findings.{case_state, listed_in}
 use Rattle.grid_cli.proofs.Written.{handing, unbegun, whole_or_not}
-use Rattle.grid_cli.proofs.Screening.{absent_is, listed_for}
+use Rattle.grid_cli.proofs.ScreenAnswers.{absent_is, listed_for}
 use Rattle.grid_cli.proofs.Warnings.{warned}
 use Rattle.grid_cli.proofs.screen.write_screen.Goals as goal
 

@@ -1,7 +1,7 @@
 use Rattle.std.proofs.Common.{sym, subst, false}
-use Rattle.grid_core.proofs.Making.{each_ok}
+use Rattle.grid_core.proofs.MachineSteps.{each_ok}
 use Rattle.grid_workers.specs.Runs.{IsRun}
-use Rattle.grid_cli.proofs.Threading.{came_of_run}
+use Rattle.grid_cli.proofs.ThreadReports.{came_of_run}
 use Rattle.grid_cli.proofs.threaded.run_job_on_threads.Goals as goal
 
 pub returns : goal.returns

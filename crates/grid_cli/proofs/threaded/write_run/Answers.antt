@@ -1,4 +1,4 @@
-use Rattle.grid_cli.proofs.Threading.{reported, unwritten}
+use Rattle.grid_cli.proofs.ThreadReports.{reported, unwritten}
 use Rattle.grid_cli.proofs.threaded.write_run.Goals as goal
 
 pub returns-clause-written : goal.returns-clause-written

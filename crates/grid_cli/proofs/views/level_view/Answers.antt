@@ -5,7 +5,7 @@ use Rattle.grid_structure.specs.Network.{Network}
 use Rattle.grid_structure.specs.Sites.{levels}
 use Rattle.grid_busview.specs.declared.BusView.{BusView}
 use Rattle.grid_core.specs.Replies.{state_of}
-use Rattle.grid_core.proofs.Making.{each_ok}
+use Rattle.grid_core.proofs.MachineSteps.{each_ok}
 use Rattle.grid_cli.proofs.Shown.{row_within, shown_within, pairs_standing, taken_over}
 use Rattle.grid_cli.proofs.views.level_view.Goals as goal
 

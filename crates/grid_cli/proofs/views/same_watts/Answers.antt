@@ -7,8 +7,8 @@ use Rattle.grid_lemmas.proofs.Options.{some_is}
 use Rattle.grid_level.specs.declared.Placed.{Placed}
 use Rattle.grid_watts.specs.Watts.{watts_at, level_watts}
 use Rattle.grid_watts.proofs.Merges.{ended}
-use Rattle.grid_watts.proofs.Reading.{records_of_level, read_none, rises_ahead, row_ahead, read_more, read_all}
-use Rattle.grid_board.proofs.Compared.{always, never}
+use Rattle.grid_watts.proofs.RowWatts.{records_of_level, read_none, rises_ahead, row_ahead, read_more, read_all}
+use Rattle.grid_board.proofs.ListEquality.{always, never}
 use Rattle.grid_cli.proofs.views.same_watts.Goals as goal
 
 pub returns-then-is_empty-2 : goal.returns-then-is_empty-2

@@ -2,7 +2,7 @@ use Rattle.std.proofs.Common.{◌≡◌, map, take}
 use Rattle.grid_powers.specs.Listed.{Listed}
 use Rattle.grid_watts.specs.Watts.{watts_at}
 use Rattle.grid_watts.specs.Nodes.{listed_row}
-use Rattle.grid_watts.proofs.Reading.{AreRead}
+use Rattle.grid_watts.proofs.RowWatts.{AreRead}
 use Rattle.grid_cli.proofs.views.same_watts.Given as goal
 
 -- what was read of the one row so far was read of the other one too

@@ -2,7 +2,7 @@ use Rattle.std.proofs.Common.{[], sym, subst, take}
 use Rattle.grid_lemmas.proofs.Lists.{take_next}
 use Rattle.grid_configured.specs.Checks.{ids_of, level_check}
 use Rattle.grid_configured.specs.Standing.{Stands}
-use Rattle.grid_configured.proofs.Checking.{ends, goes_on, is_done, taken}
+use Rattle.grid_configured.proofs.CheckLoops.{ends, goes_on, is_done, taken}
 use Rattle.grid_configured.proofs.checks.check_levels.Goals as goal
 
 pub returns-in-Err-clause-check : goal.returns-in-Err-clause-check

@@ -2,7 +2,7 @@ use Rattle.std.proofs.Common.{[], ◌++◌, sym, subst, take, ap, ◌∙◌}
 use Rattle.grid_lemmas.proofs.Lists.{take_next}
 use Rattle.grid_configured.specs.Checks.{each_check, ids_of, line_check, line_ends, line_ids}
 use Rattle.grid_configured.specs.Standing.{Stands}
-use Rattle.grid_configured.proofs.Checking.{ends, goes_on, is_done}
+use Rattle.grid_configured.proofs.CheckLoops.{ends, goes_on, is_done}
 use Rattle.grid_json.specs.Reading.{Fails}
 use Rattle.grid_configured.proofs.checks.check_lines.Goals as goal
 

@@ -1,7 +1,7 @@
 use Rattle.std.proofs.Common.{[], sym, ◌∙◌, subst, arith}
 use Rattle.grid_json.specs.Reading.{Fails}
 use Rattle.grid_configured.specs.Checks.{bus_check}
-use Rattle.grid_configured.proofs.Checking.{goes_on, ends, is_done}
+use Rattle.grid_configured.proofs.CheckLoops.{goes_on, ends, is_done}
 use Rattle.grid_configured.proofs.LevelParts.{bus_as, buses_known}
 use Rattle.grid_configured.proofs.contents.check_buses.Goals as goal
 

@@ -4,7 +4,7 @@ use Rattle.grid_kinds.specs.Records.{injection_fault}
 use Rattle.grid_json.specs.Reading.{Fails}
 use Rattle.grid_configured.specs.declared.reasons.Counts.{Counts}
 use Rattle.grid_configured.specs.Checks.{item_check, item_reasons}
-use Rattle.grid_configured.proofs.Checking.{goes_on, ends, is_done}
+use Rattle.grid_configured.proofs.CheckLoops.{goes_on, ends, is_done}
 use Rattle.grid_configured.proofs.LevelParts.{item_as, items_known}
 use Rattle.grid_configured.proofs.contents.check_items.Goals as goal
 

@@ -2,7 +2,7 @@ use Rattle.std.proofs.Common.{ℕ, ap, ◌∙◌, length}
 use Rattle.std.specs.List.{count_by}
 use Rattle.grid_jsonl.specs.declared.line.Counts.{Counts}
 use Rattle.grid_configured.specs.Lines.{counts_of, is_refused}
-use Rattle.grid_configured.proofs.Planning.{counts_told}
+use Rattle.grid_configured.proofs.PartObjects.{counts_told}
 use Rattle.grid_configured.proofs.plan.counts_of.Goals as goal
 
 pub returns : goal.returns

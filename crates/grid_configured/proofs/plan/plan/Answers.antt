@@ -4,9 +4,9 @@ use Rattle.grid_report.specs.Outcomes.{order_line}
 use Rattle.grid_configured.specs.Blocks.{block_objects, block_text}
 use Rattle.grid_jsonl.specs.Outcomes.{order_object}
 use Rattle.grid_configured.specs.Lines.{counts_of, objects}
-use Rattle.grid_configured.proofs.Planning.{objects_assembled, pushed_objects}
+use Rattle.grid_configured.proofs.PartObjects.{objects_assembled, pushed_objects}
 use Rattle.grid_configured.specs.Texts.{report_of}
-use Rattle.grid_configured.proofs.Reported.{assembled, pushed}
+use Rattle.grid_configured.proofs.ReportSteps.{assembled, pushed}
 use Rattle.grid_configured.proofs.plan.plan.Goals as goal
 
 pub returns-clause-text : goal.returns-clause-text

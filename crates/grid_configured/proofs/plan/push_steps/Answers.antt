@@ -6,14 +6,14 @@ use Rattle.std.proofs.lemmas.List.{take_all, take-map, length-map}
 use Rattle.std.proofs.lemmas.Slice.Zip.{zip_turn, zip_end, length-zip, get_or-zip}
 use Rattle.grid_core.specs.declared.journal.Entry.{Entry}
 use Rattle.grid_report.specs.Outcomes.{numbered}
-use Rattle.grid_report.proofs.Planned.{part_more}
+use Rattle.grid_report.proofs.ReportPlans.{part_more}
 use Rattle.grid_configured.specs.declared.reply.ConfiguredReply.{ConfiguredReply}
 use Rattle.grid_configured.specs.Texts.{step_text, steps_by}
 use Rattle.grid_configured.specs.Outcomes.{told_pair, told_of}
 use Rattle.grid_configured.specs.Blocks.{block_objects, block_text}
 use Rattle.grid_configured.specs.Lines.{placed, placed_from, command_object, worker_objects}
-use Rattle.grid_configured.proofs.Planning.{objects_more, pushed_objects, first_objects, own_object, other_object, length-placed}
-use Rattle.grid_configured.proofs.Reported.{told_more, other_step, few_told, counted_more, steps_more, pushed}
+use Rattle.grid_configured.proofs.PartObjects.{objects_more, pushed_objects, first_objects, own_object, other_object, length-placed}
+use Rattle.grid_configured.proofs.ReportSteps.{told_more, other_step, few_told, counted_more, steps_more, pushed}
 use Rattle.grid_configured.proofs.plan.push_steps.Goals as goal
 
 pub loop-entry-init : goal.loop-entry-init

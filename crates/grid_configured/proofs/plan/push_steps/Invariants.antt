@@ -5,7 +5,7 @@ use Rattle.grid_report.specs.Outcomes.{numbered}
 use Rattle.grid_configured.specs.Texts.{step_text, steps_by}
 use Rattle.grid_configured.specs.Outcomes.{told_pair}
 use Rattle.grid_configured.specs.Blocks.{block_objects, block_text}
-use Rattle.grid_configured.proofs.Planning.{first_objects}
+use Rattle.grid_configured.proofs.PartObjects.{first_objects}
 use Rattle.grid_configured.proofs.plan.push_steps.Given as goal
 
 -- how many of the worker's steps there were, and what is planned of them

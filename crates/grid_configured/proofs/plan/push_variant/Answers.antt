@@ -2,7 +2,7 @@ use Rattle.std.proofs.Common.{sym, ap, ◌∷◌, map}
 use Rattle.std.proofs.lemmas.Result.{on_ok_weaker}
 use Rattle.grid_jsonl.specs.Outcomes.{variant_object}
 use Rattle.grid_configured.specs.Lines.{level_object, variant_objects}
-use Rattle.grid_configured.proofs.Planning.{objects_more, pushed_objects}
+use Rattle.grid_configured.proofs.PartObjects.{objects_more, pushed_objects}
 use Rattle.grid_configured.proofs.plan.push_variant.Goals as goal
 
 pub returns-clause-lines : goal.returns-clause-lines

@@ -1,8 +1,8 @@
-use Rattle.grid_report.proofs.Planned.{part_more, flat_range}
+use Rattle.grid_report.proofs.ReportPlans.{part_more, flat_range}
 use Rattle.grid_configured.specs.Texts.{worker_text}
 use Rattle.grid_configured.specs.Outcomes.{told_of}
 use Rattle.grid_configured.specs.Lines.{worker_objects}
-use Rattle.grid_configured.proofs.Planning.{objects_more, objects_range}
+use Rattle.grid_configured.proofs.PartObjects.{objects_more, objects_range}
 use Rattle.grid_configured.proofs.plan.push_workers.Goals as goal
 
 pub loop-worker-preserved : goal.loop-worker-preserved

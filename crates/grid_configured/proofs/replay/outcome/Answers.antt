@@ -1,6 +1,6 @@
 use Rattle.std.proofs.Common.{sym, ap, ◌∙◌, length}
 use Rattle.grid_configured.specs.Translation.{translated}
-use Rattle.grid_configured.proofs.Showing.{evenly, came}
+use Rattle.grid_configured.proofs.HistoryOutcomes.{evenly, came}
 use Rattle.grid_configured.proofs.replay.outcome.Goals as goal
 
 pub invariant_of-result : goal.invariant_of-result

@@ -2,8 +2,8 @@ use Rattle.std.proofs.Common.{◌≡◌, ◌<◌, rules, subst, sym, ◌∙◌, 
 use Rattle.grid_core.specs.History.{command}
 use Rattle.grid_configured.specs.Histories.{ConfiguredHistory}
 use Rattle.grid_configured.specs.Names.{IsConfiguredRequest}
-use Rattle.grid_report.proofs.Stepping.{at_start, behind, known, cursor_is, left, found, moved}
-use Rattle.grid_configured.proofs.Stepping.{asked_as, grown, whole, answered, all_answered, none_answered}
+use Rattle.grid_report.proofs.ScriptCursors.{at_start, behind, known, cursor_is, left, found, moved}
+use Rattle.grid_configured.proofs.OrderSteps.{asked_as, grown, whole, answered, all_answered, none_answered}
 use Rattle.grid_configured.proofs.replay.run.Goals as goal
 
 pub loop-worker-init : goal.loop-worker-init

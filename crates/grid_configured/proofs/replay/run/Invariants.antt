@@ -1,7 +1,7 @@
 use Rattle.std.proofs.Common.{◌≡◌, ◌≤◌, length}
 use Rattle.grid_configured.specs.Reports.{replies_of}
-use Rattle.grid_report.proofs.Stepping.{made, Cursors}
-use Rattle.grid_configured.proofs.Stepping.{history_at}
+use Rattle.grid_report.proofs.ScriptCursors.{made, Cursors}
+use Rattle.grid_configured.proofs.OrderSteps.{history_at}
 use Rattle.grid_configured.proofs.replay.run.Given as goal
 
 -- the steps so far with their replies, and how far each worker has come

@@ -7,7 +7,7 @@ use Rattle.grid_report.proofs.Begun.{at_start}
 use Rattle.grid_jsonl.specs.Outcomes.{lines}
 use Rattle.grid_configured.specs.Lines.{objects}
 use Rattle.grid_configured.specs.Blocks.{block_lines}
-use Rattle.grid_configured.proofs.Planning.{lines_shown}
+use Rattle.grid_configured.proofs.PartObjects.{lines_shown}
 use Rattle.grid_configured.proofs.report.write_configured_lines.Goals as goal
 
 pub returns-in-Err-clause-err : goal.returns-in-Err-clause-err

@@ -1,6 +1,6 @@
 use Rattle.std.proofs.Common.{◌≡◌, rules, to_z, w64, pos}
-use Rattle.grid_configured.proofs.Applied.{level_of, only_memory}
-use Rattle.grid_configured.proofs.Carried.{got, inside, made_by, bus_next, buses_done}
+use Rattle.grid_configured.proofs.LevelEdits.{level_of, only_memory}
+use Rattle.grid_configured.proofs.TranslationCalls.{got, inside, made_by, bus_next, buses_done}
 use Rattle.grid_configured.proofs.translation.add_buses.Goals as goal
 
 pub loop-node-init : goal.loop-node-init

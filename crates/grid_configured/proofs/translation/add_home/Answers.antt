@@ -1,6 +1,6 @@
 use Rattle.std.proofs.Common.{◌≡◌, rules, to_z, of_z, w64}
-use Rattle.grid_configured.proofs.Applied.{level_of, only_memory}
-use Rattle.grid_configured.proofs.Carried.{got, inside, finished, made_by, level_is_plain, own_is_plain, home_first, home_second}
+use Rattle.grid_configured.proofs.LevelEdits.{level_of, only_memory}
+use Rattle.grid_configured.proofs.TranslationCalls.{got, inside, finished, made_by, level_is_plain, own_is_plain, home_first, home_second}
 use Rattle.grid_configured.proofs.translation.add_home.Goals as goal
 
 pub reserved_id-requires-clause-plain : goal.reserved_id-requires-clause-plain

@@ -1,9 +1,9 @@
 use Rattle.std.proofs.Common.{ap, ◌∙◌, ◌≡◌, ◌<◌, ◌+◌, length, arith, rules, to_z, of_z, w64, pos}
 use Rattle.std.specs.Prelude.{slice_get}
-use Rattle.grid_configured.proofs.Applied.{level_of, only_memory}
-use Rattle.grid_configured.proofs.Carried.{got, inside, finished, made_by, if_some, level_is_plain, item_is_plain, item_there, item_first, item_second}
+use Rattle.grid_configured.proofs.LevelEdits.{level_of, only_memory}
+use Rattle.grid_configured.proofs.TranslationCalls.{got, inside, finished, made_by, if_some, level_is_plain, item_is_plain, item_there, item_first, item_second}
 use Rattle.grid_configured.proofs.translation.add_item.Goals as goal
-use Rattle.grid_configured.proofs.Applied.{node_few}
+use Rattle.grid_configured.proofs.LevelEdits.{node_few}
 
 pub reserved_id-requires-clause-plain : goal.reserved_id-requires-clause-plain
 reserved_id-requires-clause-plain c =

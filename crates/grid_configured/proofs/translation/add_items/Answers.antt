@@ -1,7 +1,7 @@
 use Rattle.std.proofs.Common.{◌≡◌, ap, length, arith, slice_index_or}
 use Rattle.grid_configured.specs.declared.network.ConfiguredLevel.{ConfiguredLevel}
-use Rattle.grid_configured.proofs.Applied.{level_of}
-use Rattle.grid_configured.proofs.Carried.{got, inside, items_done}
+use Rattle.grid_configured.proofs.LevelEdits.{level_of}
+use Rattle.grid_configured.proofs.TranslationCalls.{got, inside, items_done}
 use Rattle.grid_configured.proofs.translation.add_items.Goals as goal
 
 pub returns : goal.returns

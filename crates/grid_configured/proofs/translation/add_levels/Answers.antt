@@ -1,5 +1,5 @@
 use Rattle.std.proofs.Common.{arith}
-use Rattle.grid_configured.proofs.Carried.{levels_done}
+use Rattle.grid_configured.proofs.TranslationCalls.{levels_done}
 use Rattle.grid_configured.proofs.translation.add_levels.Goals as goal
 
 pub returns : goal.returns

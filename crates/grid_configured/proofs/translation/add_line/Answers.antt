@@ -1,7 +1,7 @@
 use Rattle.std.proofs.Common.{refl, ap, ◌∙◌, ◌≡◌, ◌+◌, rules, to_z, of_z, w64, pos, cond}
-use Rattle.grid_configured.proofs.Applied.{only_memory}
-use Rattle.grid_configured.proofs.Extended.{line_of}
-use Rattle.grid_configured.proofs.Carried.{got, inside, finished, made_by, line_is_plain, line_there, line_first, line_second, line_third}
+use Rattle.grid_configured.proofs.LevelEdits.{only_memory}
+use Rattle.grid_configured.proofs.LineEdits.{line_of}
+use Rattle.grid_configured.proofs.TranslationCalls.{got, inside, finished, made_by, line_is_plain, line_there, line_first, line_second, line_third}
 use Rattle.grid_configured.proofs.translation.add_line.Goals as goal
 
 pub bus_node-bus1-requires : goal.bus_node-bus1-requires

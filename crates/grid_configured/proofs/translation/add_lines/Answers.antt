@@ -1,5 +1,5 @@
 use Rattle.std.proofs.Common.{arith}
-use Rattle.grid_configured.proofs.Carried.{lines_done}
+use Rattle.grid_configured.proofs.TranslationCalls.{lines_done}
 use Rattle.grid_configured.proofs.translation.add_lines.Goals as goal
 
 pub returns : goal.returns

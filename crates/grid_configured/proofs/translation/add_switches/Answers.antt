@@ -1,6 +1,6 @@
 use Rattle.std.proofs.Common.{◌≡◌, rules, to_z, of_z, w64, pos}
-use Rattle.grid_configured.proofs.Applied.{level_of, only_memory}
-use Rattle.grid_configured.proofs.Carried.{got, inside, made_by, joint_there, joint_next, switches_done}
+use Rattle.grid_configured.proofs.LevelEdits.{level_of, only_memory}
+use Rattle.grid_configured.proofs.TranslationCalls.{got, inside, made_by, joint_there, joint_next, switches_done}
 use Rattle.grid_configured.proofs.translation.add_switches.Goals as goal
 
 pub loop-switch-init : goal.loop-switch-init

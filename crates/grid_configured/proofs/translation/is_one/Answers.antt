@@ -1,4 +1,4 @@
-use Rattle.grid_configured.proofs.Carried.{same_by}
+use Rattle.grid_configured.proofs.TranslationCalls.{same_by}
 use Rattle.grid_configured.proofs.translation.is_one.Goals as goal
 
 pub returns : goal.returns

@@ -1,4 +1,4 @@
-use Rattle.grid_configured.proofs.Carried.{no_place, counted_there}
+use Rattle.grid_configured.proofs.TranslationCalls.{no_place, counted_there}
 use Rattle.grid_configured.proofs.translation.next_node.Goals as goal
 
 pub unreachable-requires : goal.unreachable-requires

@@ -1,5 +1,5 @@
 use Rattle.std.proofs.Common.{◌≡◌, sym, ap, ◌∙◌, ◌++◌, [], ◌∷◌, append_assoc}
-use Rattle.grid_configured.proofs.Carried.{tagged_is_id, named_as}
+use Rattle.grid_configured.proofs.TranslationCalls.{tagged_is_id, named_as}
 use Rattle.grid_configured.proofs.translation.reserved_id.Goals as goal
 
 pub id_of-requires : goal.id_of-requires

@@ -8,10 +8,10 @@ use Rattle.grid_connect.specs.Indexed.{marks_where, marked_busbar, leaving_marke
 use Rattle.grid_connect.specs.Effects.{Disconnects}
 use Rattle.grid_connect.specs.declared.DisconnectPlan.{DisconnectPlan}
 use Rattle.grid_connect.specs.declared.DisconnectPlan.TheVariants.{Opens, NoBreaker}
-use Rattle.grid_connect.proofs.Planned.{node_positioned}
+use Rattle.grid_connect.proofs.PlanAnswers.{node_positioned}
 use Rattle.grid_connect.proofs.Marks.{core_long}
-use Rattle.grid_connect.proofs.Leaving.{leaving_same, bar_same, disconnect_yes, disconnect_no, breaks, opens, core_marks}
-use Rattle.grid_connect.proofs.Parting.{disconnect_plan-Disconnects}
+use Rattle.grid_connect.proofs.CoreExits.{leaving_same, bar_same, disconnect_yes, disconnect_no, breaks, opens, core_marks}
+use Rattle.grid_connect.proofs.DisconnectPlans.{disconnect_plan-Disconnects}
 use Rattle.grid_connect.proofs.disconnect.disconnect_if.Goals as goal
 use Rattle.grid_connect.proofs.disconnect.disconnect_if.Goals.{After-first_busbar, In_ok-leaving-in-None}
 

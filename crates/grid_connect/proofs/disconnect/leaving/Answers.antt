@@ -7,7 +7,7 @@ use Rattle.grid_level.specs.Kept.{among}
 use Rattle.grid_level.specs.Passing.{nodes}
 use Rattle.grid_groups.proofs.Steps.{switch_at}
 use Rattle.grid_connect.specs.Indexed.{leaves_marked, leaving_marked}
-use Rattle.grid_connect.proofs.Leaving.{leaving_none, leaving_more, few_switches}
+use Rattle.grid_connect.proofs.CoreExits.{leaving_none, leaving_more, few_switches}
 use Rattle.grid_connect.proofs.disconnect.leaving.Goals as goal
 use Rattle.grid_connect.proofs.disconnect.leaving.Goals.{After-switch-item, then-leaves+in_ok-push, else-leaves, After-leaves}
 

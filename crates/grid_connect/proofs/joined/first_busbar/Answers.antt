@@ -2,7 +2,7 @@ use Rattle.std.proofs.Common.{sym, ap, ◌∙◌}
 use Rattle.grid_level.specs.VoltageLevel.{VoltageLevel}
 use Rattle.grid_level.specs.Passing.{nodes}
 use Rattle.grid_connect.specs.Indexed.{marked_busbar}
-use Rattle.grid_connect.proofs.Leaving.{bar_start, bar_found, bar_on}
+use Rattle.grid_connect.proofs.CoreExits.{bar_start, bar_found, bar_on}
 use Rattle.grid_connect.proofs.joined.first_busbar.Goals as goal
 
 pub loop-placed-init : goal.loop-placed-init

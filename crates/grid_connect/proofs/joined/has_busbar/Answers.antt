@@ -1,7 +1,7 @@
 use Rattle.std.proofs.Common.{sym, ap, ◌∙◌}
 use Rattle.grid_level.specs.Passing.{nodes}
 use Rattle.grid_connect.specs.Indexed.{labelled_busbar}
-use Rattle.grid_connect.proofs.Leaving.{labelled_none, labelled_found, labelled_on}
+use Rattle.grid_connect.proofs.CoreExits.{labelled_none, labelled_found, labelled_on}
 use Rattle.grid_connect.proofs.joined.has_busbar.Goals as goal
 
 pub loop-placed-init : goal.loop-placed-init

@@ -7,7 +7,7 @@ use Rattle.grid_groups.specs.Labels.{graph_under}
 use Rattle.grid_groups.proofs.Indices.{among_In}
 use Rattle.grid_groups.proofs.Under.{bus_stands, long}
 use Rattle.grid_connect.specs.Indexed.{labelled_busbar}
-use Rattle.grid_connect.proofs.Leaving.{connected_labelled}
+use Rattle.grid_connect.proofs.CoreExits.{connected_labelled}
 use Rattle.grid_connect.proofs.joined.is_connected_by.Goals as goal
 
 full : (level : VoltageLevel) (states : List Bool) (labels : List ℕ) → KeepsLimits level → length states ≡ length level.switches → labels ≡ labels_of (graph_under bus (positioned level states)) → length labels ≡ length (nodes level)

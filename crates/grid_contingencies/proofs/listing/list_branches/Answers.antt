@@ -3,7 +3,7 @@ use Rattle.std.proofs.lemmas.List.{take_all}
 use Rattle.grid_structure.specs.declared.NamedBranch.{NamedBranch}
 use Rattle.grid_structure.specs.Sites.{branches}
 use Rattle.grid_contingencies.specs.Pieces.{is_branch_of, branches_of}
-use Rattle.grid_contingencies.proofs.Gathered.{passed_more, passed_left, branch_read, shape_read}
+use Rattle.grid_contingencies.proofs.ItemLoops.{passed_more, passed_left, branch_read, shape_read}
 use Rattle.grid_contingencies.proofs.listing.list_branches.Goals as goal
 
 pub loop-place-init : goal.loop-place-init

@@ -4,7 +4,7 @@ use Rattle.std.proofs.lemmas.List.{take_all}
 use Rattle.grid_level.specs.VoltageLevel.{VoltageLevel}
 use Rattle.grid_structure.specs.Sites.{levels}
 use Rattle.grid_contingencies.specs.Pieces.{placed_of, standing_of}
-use Rattle.grid_contingencies.proofs.Gathered.{flat_more}
+use Rattle.grid_contingencies.proofs.ItemLoops.{flat_more}
 use Rattle.grid_contingencies.proofs.listing.list_standing.Goals as goal
 
 pub loop-place-preserved : goal.loop-place-preserved

@@ -3,7 +3,7 @@ use Rattle.std.proofs.lemmas.List.{append-nil, take_all}
 use Rattle.grid_level.specs.declared.Switch.{Switch}
 use Rattle.grid_level.specs.Passing.{is_operable}
 use Rattle.grid_contingencies.specs.Pieces.{breakers_of}
-use Rattle.grid_contingencies.proofs.Gathered.{passed_more, passed_left, item_at}
+use Rattle.grid_contingencies.proofs.ItemLoops.{passed_more, passed_left, item_at}
 use Rattle.grid_contingencies.proofs.listing.push_breakers.Goals as goal
 
 pub loop-switch-init : goal.loop-switch-init

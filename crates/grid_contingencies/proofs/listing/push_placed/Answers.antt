@@ -2,7 +2,7 @@ use Rattle.std.proofs.Common.{sym, ap, ◌∙◌, ◌++◌, ◌∷◌, []}
 use Rattle.std.proofs.lemmas.List.{append-nil, take_all}
 use Rattle.grid_level.specs.declared.Placed.{Placed}
 use Rattle.grid_contingencies.specs.Pieces.{is_stand_of, placed_of}
-use Rattle.grid_contingencies.proofs.Gathered.{passed_more, passed_left, item_at}
+use Rattle.grid_contingencies.proofs.ItemLoops.{passed_more, passed_left, item_at}
 use Rattle.grid_contingencies.proofs.listing.push_placed.Goals as goal
 
 pub loop-placed-init : goal.loop-placed-init

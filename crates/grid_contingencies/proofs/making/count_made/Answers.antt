@@ -1,5 +1,5 @@
 use Rattle.std.proofs.Common.{ap, ◌∙◌, get_or, length}
-use Rattle.grid_contingencies.proofs.Gathered.{got}
+use Rattle.grid_contingencies.proofs.ItemLoops.{got}
 use Rattle.grid_contingencies.proofs.Once.{none, counted_more}
 use Rattle.grid_contingencies.proofs.making.count_made.Goals as goal
 

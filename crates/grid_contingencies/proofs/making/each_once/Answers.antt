@@ -1,6 +1,6 @@
 use Rattle.std.proofs.Common.{sym, ap, ◌∙◌, get_or}
 use Rattle.grid_contingencies.specs.Made.{has_item}
-use Rattle.grid_contingencies.proofs.Gathered.{got}
+use Rattle.grid_contingencies.proofs.ItemLoops.{got}
 use Rattle.grid_contingencies.proofs.Once.{none, just_more, just_again, once_more, once_again, once_all}
 use Rattle.grid_contingencies.proofs.making.each_once.Goals as goal
 

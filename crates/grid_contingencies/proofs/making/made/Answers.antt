@@ -2,7 +2,7 @@ use Rattle.std.proofs.Common.{ap, ◌∙◌, ◌++◌, map, get_or}
 use Rattle.std.specs.Prelude.{flat_map}
 use Rattle.std.proofs.lemmas.List.{take_all}
 use Rattle.grid_contingencies.specs.Made.{made_of, made_by, made}
-use Rattle.grid_contingencies.proofs.Gathered.{flat_more, got}
+use Rattle.grid_contingencies.proofs.ItemLoops.{flat_more, got}
 use Rattle.grid_contingencies.proofs.Once.{none}
 use Rattle.grid_contingencies.proofs.making.made.Goals as goal
 

@@ -1,7 +1,7 @@
 use Rattle.std.proofs.Common.{sym, ap, ◌∙◌, ◌++◌, ◌∷◌, [], map}
 use Rattle.std.proofs.lemmas.List.{append-nil, take_all}
 use Rattle.grid_contingencies.specs.Made.{made_of}
-use Rattle.grid_contingencies.proofs.Gathered.{mapped_more, item_at}
+use Rattle.grid_contingencies.proofs.ItemLoops.{mapped_more, item_at}
 use Rattle.grid_contingencies.proofs.making.push_made.Goals as goal
 
 pub loop-id-init : goal.loop-id-init

@@ -1,6 +1,6 @@
 use Rattle.std.proofs.Common.{refl, sym}
-use Rattle.grid_core.proofs.Undoing.{powered_counts}
-use Rattle.grid_core.proofs.Setting.{found_powered}
+use Rattle.grid_core.proofs.Removals.{powered_counts}
+use Rattle.grid_core.proofs.PowerRequests.{found_powered}
 use Rattle.grid_core.proofs.editing.find_counted.Goals as goal
 
 pub returns : goal.returns

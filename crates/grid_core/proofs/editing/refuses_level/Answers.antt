@@ -3,7 +3,7 @@ use Rattle.std.proofs.lemmas.Int.{to_z-of_z}
 use Rattle.std.specs.Prelude.{nat_le}
 use Rattle.grid_kinds.specs.Records.{level_fault, Tells}
 use Rattle.grid_core.specs.Edits.{LeavesPresent}
-use Rattle.grid_core.proofs.Reshaping.{taken_level, faulty_level, level_beyond}
+use Rattle.grid_core.proofs.MachineEdits.{taken_level, faulty_level, level_beyond}
 use Rattle.grid_core.proofs.editing.refuses_level.Goals as goal
 
 pub returns-then-taken : goal.returns-then-taken

@@ -1,4 +1,4 @@
-use Rattle.grid_core.proofs.Undoing.{equipment_not_told}
+use Rattle.grid_core.proofs.Removals.{equipment_not_told}
 use Rattle.grid_core.proofs.editing.take_equipment.Goals as goal
 
 pub unreachable-requires : goal.unreachable-requires

@@ -1,4 +1,4 @@
-use Rattle.grid_core.proofs.Undoing.{not_told}
+use Rattle.grid_core.proofs.Removals.{not_told}
 use Rattle.grid_core.proofs.editing.take_out.Goals as goal
 
 pub unreachable-requires : goal.unreachable-requires

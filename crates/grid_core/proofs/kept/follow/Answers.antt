@@ -4,7 +4,7 @@ use Rattle.grid_structure.specs.Sites.{levels}
 use Rattle.grid_requests.specs.Changes.{structure_after}
 use Rattle.grid_core.specs.Copied.{AreCopies}
 use Rattle.grid_core.proofs.BySlot.{forgotten_so}
-use Rattle.grid_core.proofs.Sharing.{copies_same}
+use Rattle.grid_core.proofs.LevelCopies.{copies_same}
 use Rattle.grid_core.proofs.Left.{left_so}
 use Rattle.grid_core.proofs.kept.follow.Goals as goal
 

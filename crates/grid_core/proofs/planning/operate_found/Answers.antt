@@ -8,10 +8,10 @@ use Rattle.grid_level.specs.Kept.{among}
 use Rattle.grid_level.specs.Passing.{nodes}
 use Rattle.grid_core.specs.Kept.{IsKeptLevel}
 use Rattle.grid_core.specs.Solo.{state_seen, site_of_side, level_at}
-use Rattle.grid_core.proofs.Looking.{fits_at}
-use Rattle.grid_core.proofs.Making.{each_ok}
-use Rattle.grid_core.proofs.Operating.{side_node}
-use Rattle.grid_core.proofs.Finding.{no_site_is, operate_is}
+use Rattle.grid_core.proofs.VariantViews.{fits_at}
+use Rattle.grid_core.proofs.MachineSteps.{each_ok}
+use Rattle.grid_core.proofs.EquipmentSides.{side_node}
+use Rattle.grid_core.proofs.FoundVerdicts.{no_site_is, operate_is}
 use Rattle.grid_core.proofs.planning.operate_found.Goals as goal
 use Rattle.grid_core.proofs.planning.operate_found.Goals.{In-Some}
 

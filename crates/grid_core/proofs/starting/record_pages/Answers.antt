@@ -1,7 +1,7 @@
 use Rattle.std.proofs.Common.{ap, ◌∙◌, map, ◌++◌, ◌∷◌, [], arith}
 use Rattle.grid_structure.specs.Sites.{levels}
 use Rattle.grid_core.specs.Solo.{page_of}
-use Rattle.grid_core.proofs.Beginning.{rows_more, take_whole}
+use Rattle.grid_core.proofs.Starts.{rows_more, take_whole}
 use Rattle.grid_core.proofs.starting.record_pages.Goals as goal
 
 pub loop-place-preserved : goal.loop-place-preserved

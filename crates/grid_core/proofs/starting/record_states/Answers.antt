@@ -1,6 +1,6 @@
 use Rattle.std.proofs.Common.{sym, ap, ◌∙◌, subst}
 use Rattle.grid_states.specs.Rows.{HasRoom, rows_in, shifted}
-use Rattle.grid_core.proofs.Beginning.{pages_room, pages_seen}
+use Rattle.grid_core.proofs.Starts.{pages_room, pages_seen}
 use Rattle.grid_core.proofs.starting.record_states.Goals as goal
 
 pub shift-requires-clause-room : goal.shift-requires-clause-room

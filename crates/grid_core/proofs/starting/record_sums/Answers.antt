@@ -9,7 +9,7 @@ use Rattle.grid_states.specs.Sums.{shift_by, IsSmall}
 use Rattle.grid_powers.specs.Listed.{Listed}
 use Rattle.grid_watts.specs.Watts.{terminals, watts_at, load_total, generation_total}
 use Rattle.grid_watts.specs.Ranges.{is_narrow}
-use Rattle.grid_watts.proofs.Rooming.{room}
+use Rattle.grid_watts.proofs.SumBounds.{room}
 use Rattle.grid_core.proofs.starting.record_sums.Goals as goal
 
 -- the sums are those that the list was given

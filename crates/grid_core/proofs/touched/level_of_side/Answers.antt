@@ -1,6 +1,6 @@
 use Rattle.grid_structure.specs.Sites.{site}
-use Rattle.grid_core.proofs.Operating.{at_site}
-use Rattle.grid_core.proofs.Unplacing.{site_within}
+use Rattle.grid_core.proofs.EquipmentSides.{at_site}
+use Rattle.grid_core.proofs.EquipmentLevels.{site_within}
 use Rattle.grid_core.proofs.touched.level_of_side.Goals as goal
 
 pub returns-in-Some-clause-below : goal.returns-in-Some-clause-below

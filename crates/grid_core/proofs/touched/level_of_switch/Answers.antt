@@ -1,5 +1,5 @@
 use Rattle.grid_structure.specs.Sites.{find_switch}
-use Rattle.grid_structure.proofs.Losing.{from_spot}
+use Rattle.grid_structure.proofs.SwitchRemovals.{from_spot}
 use Rattle.grid_core.proofs.touched.level_of_switch.Goals as goal
 
 pub returns-in-Some : goal.returns-in-Some

@@ -1,7 +1,7 @@
 use Rattle.std.proofs.Common.{sym, ◌∙◌}
 use Rattle.grid_structure.specs.Sites.{site}
-use Rattle.grid_core.proofs.Operating.{at_site}
-use Rattle.grid_core.proofs.Unplacing.{site_within, three_sides, same_place}
+use Rattle.grid_core.proofs.EquipmentSides.{at_site}
+use Rattle.grid_core.proofs.EquipmentLevels.{site_within, three_sides, same_place}
 use Rattle.grid_core.proofs.touched.levels_of_equipment.Goals as goal
 
 pub level_of_side-second-requires : goal.level_of_side-second-requires

@@ -4,7 +4,7 @@ use Rattle.grid_structure.specs.declared.Edit.{Edit}
 use Rattle.grid_structure.specs.Editing.{apply}
 use Rattle.grid_requests.specs.Changes.{changed_or}
 use Rattle.grid_core.specs.Touched.{IsTouch, AreLevelsOfEnds}
-use Rattle.grid_core.proofs.Touching.{busbar_touch, switch_touch, injection_touch, internal_touch, cut_touch, branch_touch, removed_touch, equipment_touch}
+use Rattle.grid_core.proofs.UntouchedLevels.{busbar_touch, switch_touch, injection_touch, internal_touch, cut_touch, branch_touch, removed_touch, equipment_touch}
 use Rattle.grid_core.proofs.touched.touched_by_edit.Goals as goal
 
 pub returns-in-AddBranch : goal.returns-in-AddBranch

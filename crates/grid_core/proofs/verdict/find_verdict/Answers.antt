@@ -5,7 +5,7 @@ use Rattle.grid_requests.specs.declared.request.Request.{Request}
 use Rattle.grid_requests.specs.declared.request.Request.TheVariants as requests
 use Rattle.grid_core.specs.Solo.{state_seen}
 use Rattle.grid_core.specs.Verdicts.{IsVerdict}
-use Rattle.grid_core.proofs.Making.{each_ok}
+use Rattle.grid_core.proofs.MachineSteps.{each_ok}
 use Rattle.grid_core.proofs.verdict.find_verdict.Goals as goal
 
 pub returns-in-Connect-clause-found : goal.returns-in-Connect-clause-found

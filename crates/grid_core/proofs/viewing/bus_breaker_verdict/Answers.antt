@@ -9,8 +9,8 @@ use Rattle.grid_core.specs.declared.reply.Reply.TheVariants as replies
 use Rattle.grid_core.specs.declared.verdict.Verdict.TheVariants as verdicts
 use Rattle.grid_core.specs.Solo.{state_seen, level_at}
 use Rattle.grid_core.specs.Verdicts.{IsVerdict}
-use Rattle.grid_core.proofs.Looking.{fits_at}
-use Rattle.grid_core.proofs.Finding.{bus_breaker_refused, bus_breaker_is}
+use Rattle.grid_core.proofs.VariantViews.{fits_at}
+use Rattle.grid_core.proofs.FoundVerdicts.{bus_breaker_refused, bus_breaker_is}
 use Rattle.grid_core.specs.Kept.{IsKeptLevel}
 use Rattle.grid_core.proofs.viewing.bus_breaker_verdict.Goals as goal
 use Rattle.grid_core.proofs.viewing.bus_breaker_verdict.Goals.{In-Some-2}

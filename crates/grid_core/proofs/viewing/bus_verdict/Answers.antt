@@ -11,8 +11,8 @@ use Rattle.grid_core.specs.declared.verdict.Verdict.TheVariants as verdicts
 use Rattle.grid_core.specs.Solo.{state_seen, level_at}
 use Rattle.grid_core.specs.Verdicts.{IsVerdict}
 use Rattle.grid_states.specs.Rows.{pairs_at}
-use Rattle.grid_core.proofs.Looking.{fits_at, row_listed}
-use Rattle.grid_core.proofs.Finding.{bus_refused, bus_is}
+use Rattle.grid_core.proofs.VariantViews.{fits_at, row_listed}
+use Rattle.grid_core.proofs.FoundVerdicts.{bus_refused, bus_is}
 use Rattle.grid_lemmas.proofs.Options.{some_is}
 use Rattle.grid_level.specs.VoltageLevel.{VoltageLevel}
 use Rattle.grid_core.specs.Kept.{IsKeptLevel}

@@ -1,14 +1,14 @@
 use Rattle.std.proofs.Common.{sym, ◌∙◌, subst, List}
 use Rattle.grid_islands.specs.declared.BusComponent.{BusComponent}
 use Rattle.grid_requests.specs.declared.request.Request.TheVariants as requests
-use Rattle.grid_islands.proofs.Assembling.{level_exists}
+use Rattle.grid_islands.proofs.LevelComponents.{level_exists}
 use Rattle.grid_core.specs.declared.reply.Reply.TheVariants as replies
 use Rattle.grid_core.specs.declared.verdict.Verdict.TheVariants as verdicts
 use Rattle.grid_core.specs.Solo.{state_seen, level_at}
 use Rattle.grid_core.specs.Verdicts.{IsVerdict}
-use Rattle.grid_core.proofs.Looking.{flags_fit}
+use Rattle.grid_core.proofs.VariantViews.{flags_fit}
 use Rattle.grid_core.proofs.Ranges.{rows_of_levels}
-use Rattle.grid_core.proofs.Finding.{components_refused, components_is}
+use Rattle.grid_core.proofs.FoundVerdicts.{components_refused, components_is}
 use Rattle.grid_core.proofs.viewing.components_verdict.Goals as goal
 
 pub returns-in-None-clause-found : goal.returns-in-None-clause-found

@@ -1,6 +1,6 @@
 use Rattle.std.proofs.Common.{◌≡◌, sym, ap, ◌∙◌, ◌+◌, ◌<◌, List, ℕ, length, get_or, arith, length-set}
 use Rattle.std.proofs.lemmas.List.{get_or_default, get_or-replicate}
-use Rattle.grid_groups.proofs.Filling.{none_with_key, all_with_key, few_with_key, count_more}
+use Rattle.grid_groups.proofs.GroupMembers.{none_with_key, all_with_key, few_with_key, count_more}
 use Rattle.grid_groups.proofs.grouping.counts_of.Goals as goal
 
 pub loop-key-init : goal.loop-key-init

@@ -1,5 +1,5 @@
 use Rattle.std.proofs.Common.{◌≡◌, ℕ, ◌<◌, length, get_or}
-use Rattle.grid_groups.proofs.Filling.{with_key}
+use Rattle.grid_groups.proofs.GroupMembers.{with_key}
 use Rattle.grid_groups.proofs.grouping.counts_of.Given as goal
 
 abbrev pub invariant-loop-key : goal.invariant-loop-key

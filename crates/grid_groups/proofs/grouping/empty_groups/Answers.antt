@@ -5,7 +5,7 @@ use Rattle.std.proofs.lemmas.List.{length-map}
 use Rattle.grid_graph.specs.Components.{places}
 use Rattle.grid_groups.specs.declared.grouping.Group.{Group}
 use Rattle.grid_groups.specs.Labels.{leading, group_of, AreNumbers}
-use Rattle.grid_groups.proofs.Filling.{few_passed, numbers_set, numbers_past}
+use Rattle.grid_groups.proofs.GroupMembers.{few_passed, numbers_set, numbers_past}
 use Rattle.grid_groups.proofs.Steps.{mapped_place, unmapped_place}
 use Rattle.grid_groups.proofs.grouping.empty_groups.Goals as goal
 use Rattle.grid_groups.proofs.grouping.empty_groups.Goals.{then-labels-index+in_ok-empty_group+in_ok-push, else-labels-index}

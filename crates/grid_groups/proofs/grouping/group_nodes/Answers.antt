@@ -1,7 +1,7 @@
 use Rattle.std.proofs.Common.{ap, ◌∙◌, List, ℕ}
 use Rattle.std.specs.Prelude.{map}
 use Rattle.grid_groups.specs.Labels.{leading, group_of, group_at, groups_by, places_with}
-use Rattle.grid_groups.proofs.Placing.{groups_within}
+use Rattle.grid_groups.proofs.TerminalNodes.{groups_within}
 use Rattle.grid_groups.proofs.grouping.group_nodes.Goals as goal
 
 grouped : goal.returns-clause-groups

@@ -2,7 +2,7 @@ use Rattle.std.proofs.Common.{◌≡◌, refl, sym, ap, ◌∙◌, subst, ◌+�
 use Rattle.grid_graph.specs.Components.{places}
 use Rattle.grid_groups.specs.declared.grouping.Group.{Group}
 use Rattle.grid_groups.specs.Labels.{leading, group_of, places_with}
-use Rattle.grid_groups.proofs.Filling.{AreGroups, nodes_to, with_key, groups_of_map, map_of_groups, same_groups, number_at, node_put, node_skipped, all_with_key}
+use Rattle.grid_groups.proofs.GroupMembers.{AreGroups, nodes_to, with_key, groups_of_map, map_of_groups, same_groups, number_at, node_put, node_skipped, all_with_key}
 use Rattle.grid_groups.proofs.grouping.put_nodes.Goals as goal
 use Rattle.grid_groups.proofs.grouping.put_nodes.Goals.{then-labels-label+in_ok-push_node, else-labels-label}
 

@@ -1,5 +1,5 @@
 use Rattle.grid_groups.specs.Labels.{leading}
-use Rattle.grid_groups.proofs.Filling.{AreGroups, nodes_to}
+use Rattle.grid_groups.proofs.GroupMembers.{AreGroups, nodes_to}
 use Rattle.grid_groups.proofs.grouping.put_nodes.Given as goal
 
 abbrev pub invariant-loop-index : goal.invariant-loop-index

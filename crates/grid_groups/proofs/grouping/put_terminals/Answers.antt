@@ -2,7 +2,7 @@ use Rattle.std.proofs.Common.{◌≡◌, refl, sym, ap, ◌∙◌, subst, ◌+�
 use Rattle.grid_graph.specs.Components.{places}
 use Rattle.grid_groups.specs.declared.grouping.Group.{Group}
 use Rattle.grid_groups.specs.Labels.{leading, group_of, places_with, no_group}
-use Rattle.grid_groups.proofs.Filling.{AreGroups, terminals_to, with_terminal, with_key, groups_of_map, map_of_groups, same_groups, number_at, terminal_put, terminal_skipped, all_with_key}
+use Rattle.grid_groups.proofs.GroupMembers.{AreGroups, terminals_to, with_terminal, with_key, groups_of_map, map_of_groups, same_groups, number_at, terminal_put, terminal_skipped, all_with_key}
 use Rattle.grid_groups.proofs.grouping.put_terminals.Goals as goal
 use Rattle.grid_groups.proofs.grouping.put_terminals.Goals.{then-labels-key+in_ok-push_terminal, else-labels-key}
 

@@ -2,7 +2,7 @@ use Rattle.std.proofs.Common.{◌≡◌, [], ℕ, List, length}
 use Rattle.std.specs.Prelude.{map}
 use Rattle.grid_level.specs.VoltageLevel.{VoltageLevel}
 use Rattle.grid_groups.specs.Labels.{leading, group_of}
-use Rattle.grid_groups.proofs.Filling.{AreGroups, terminals_to}
+use Rattle.grid_groups.proofs.GroupMembers.{AreGroups, terminals_to}
 use Rattle.grid_groups.proofs.grouping.put_terminals.Given as goal
 
 abbrev pub invariant-loop-place : goal.invariant-loop-place

@@ -7,7 +7,7 @@ use Rattle.grid_level.specs.Passing.{nodes}
 use Rattle.grid_level.specs.Kept.{among}
 use Rattle.grid_groups.specs.Labels.{label_of, labels_placed}
 use Rattle.grid_groups.proofs.Indices.{among_In, index_below}
-use Rattle.grid_groups.proofs.Placing.{labels_below, few_labels}
+use Rattle.grid_groups.proofs.TerminalNodes.{labels_below, few_labels}
 use Rattle.grid_groups.proofs.Steps.{all_at, map_next}
 use Rattle.grid_groups.proofs.grouping.terminal_labels.Goals as goal
 
@@ -25,14 +25,18 @@ pub loop-placed-preserved : goal.loop-placed-preserved
 unfolding label_of
 loop-placed-preserved c =
     let label : Placed → _ = λ p. label_of (nodes c.args.level.now) c.args.labels.now p.node in
-    c.in_ok-push.ensures.ok
-    ∙ map_next label c.placed-placed-items.result.now c.loop-placed.placed-index c.placed-item.result c.loop-placed.keys (get_or c.args.labels.now c.index_of.result 0) c.loop-placed-test.true c.placed-item.is c.loop-placed.invariant
-    (ap (λ k. get_or c.args.labels.now k 0) c.index_of.ensures)
+    record {
+      labels = c.push_reserved.ensures.items
+          ∙ map_next label c.placed-placed-items.result.now c.loop-placed.placed-index c.placed-item.result c.loop-placed.keys.items (get_or c.args.labels.now c.index_of.result 0) c.loop-placed-test.true c.placed-item.is
+          c.loop-placed.invariant.labels (ap (λ k. get_or c.args.labels.now k 0) c.index_of.ensures);
+      len = omega (arith, c.push_reserved.ensures.len, c.loop-placed.invariant.len);
+      room = omega (arith, c.push_reserved.ensures.capacity, c.loop-placed.invariant.room);
+    }
 
 labelled : goal.returns-clause-each
 unfolding labels_placed
 labelled c =
-    c.loop-placed.invariant ∙ ap (map (λ p. label_of (nodes c.args.level.now) c.args.labels.now p.node)) (take_all c.loop-placed.placed-index c.placed-placed-items.result.now c.loop-placed-test.false ∙ c.placed-placed-items.ensures)
+    c.from_vec.ensures ∙ c.loop-placed.invariant.labels ∙ ap (map (λ p. label_of (nodes c.args.level.now) c.args.labels.now p.node)) (take_all c.loop-placed.placed-index c.placed-placed-items.result.now c.loop-placed-test.false ∙ c.placed-placed-items.ensures)
 
 pub returns-clause-each : goal.returns-clause-each
 returns-clause-each c = labelled c

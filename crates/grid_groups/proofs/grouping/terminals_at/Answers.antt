@@ -1,4 +1,4 @@
-use Rattle.std.proofs.Common.{sym, ap, ◌∙◌}
+use Rattle.std.proofs.Common.{sym, ap, ◌∙◌, arith}
 use Rattle.grid_level.specs.declared.Placed.{Placed}
 use Rattle.grid_level.specs.declared.Terminal.{Terminal}
 use Rattle.grid_groups.specs.Labels.{items_at}
@@ -7,12 +7,16 @@ use Rattle.grid_groups.proofs.grouping.terminals_at.Goals as goal
 
 pub loop-place-init : goal.loop-place-init
 unfolding items_at
-loop-place-init c = c.from_vec-terminals.ensures ∙ c.in_ok-with_capacity.ensures.items
+loop-place-init c = record { terminals = c.in_ok-terminals.ensures.items; len = c.in_ok-terminals.ensures.len; room = omega (arith, c.in_ok-terminals.ensures.capacity) }
 
 pub loop-place-preserved : goal.loop-place-preserved
 loop-place-preserved c =
     let part : Placed → Terminal = λ p. p.terminal in
-    c.in_ok-push.ensures.ok
-    ∙ items_next part c.placed-placed.result.now c.args.level.now.placed c.args.places.now c.loop-place.place-index c.index-placed-place.result c.loop-place.terminals c.in_ok-copy.field-0
-    c.loop-place-test.true c.placed-placed.ensures (c.requires c.loop-place.place-index c.loop-place-test.true) c.index-placed-place.is c.loop-place.invariant
-    (c.in_ok-copy.ensures ∙ sym (ap part c.index-placed-place.is))
+    record {
+      terminals = c.push_reserved.ensures.items
+          ∙ items_next part c.placed-placed.result.now c.args.level.now.placed c.args.places.now c.loop-place.place-index c.index-placed-place.result c.loop-place.terminals.items c.in_ok-copy.field-0
+          c.loop-place-test.true c.placed-placed.ensures (c.requires c.loop-place.place-index c.loop-place-test.true) c.index-placed-place.is c.loop-place.invariant.terminals
+          (c.in_ok-copy.ensures ∙ sym (ap part c.index-placed-place.is));
+      len = omega (arith, c.push_reserved.ensures.len, c.loop-place.invariant.len);
+      room = omega (arith, c.push_reserved.ensures.capacity, c.loop-place.invariant.room);
+    }

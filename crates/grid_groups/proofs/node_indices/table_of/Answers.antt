@@ -1,7 +1,7 @@
 use Rattle.std.proofs.Common.{ℕ, ◌+◌, ◌<◌, List, length, arith, sym, subst}
 use Rattle.std.proofs.lemmas.Option.{get_or_from_slice_get}
 use Rattle.grid_level.specs.Passing.{nodes}
-use Rattle.grid_groups.proofs.Holding.{HoldsBelow, holds_none, holds_more, holds_all}
+use Rattle.grid_groups.proofs.IndexTables.{HoldsBelow, holds_none, holds_more, holds_all}
 use Rattle.grid_groups.proofs.node_indices.table_of.Goals as goal
 
 pub loop-index-init : goal.loop-index-init

@@ -1,5 +1,5 @@
 use Rattle.grid_level.specs.Passing.{nodes}
-use Rattle.grid_groups.proofs.Holding.{HoldsBelow}
+use Rattle.grid_groups.proofs.IndexTables.{HoldsBelow}
 use Rattle.grid_groups.proofs.node_indices.table_of.Given as goal
 
 abbrev pub invariant-loop-index : goal.invariant-loop-index

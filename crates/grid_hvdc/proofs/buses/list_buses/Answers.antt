@@ -7,9 +7,9 @@ use Rattle.grid_level.specs.Passing.{positioned}
 use Rattle.grid_structure.specs.Sites.{levels}
 use Rattle.grid_busview.specs.Views.{node_buses_of, bus_leasts}
 use Rattle.grid_islands.specs.Numbering.{standing, with_buses, PlacesFit}
-use Rattle.grid_islands.proofs.Counting.{numbered_before, numbered_none, numbered_more, numbered_all, places_fit, level_at, level_within}
+use Rattle.grid_islands.proofs.LevelNumbers.{numbered_before, numbered_none, numbered_more, numbered_all, places_fit, level_at, level_within}
 use Rattle.grid_hvdc.specs.Names.{name_at, level_names, bus_names}
-use Rattle.grid_hvdc.proofs.Naming.{gathered_next}
+use Rattle.grid_hvdc.proofs.BusNames.{gathered_next}
 use Rattle.grid_hvdc.proofs.buses.list_buses.Goals as goal
 
 pub loop-place-init : goal.loop-place-init

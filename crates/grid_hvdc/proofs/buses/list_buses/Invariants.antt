@@ -2,7 +2,7 @@ use Rattle.std.proofs.Common.{◌≡◌, take}
 use Rattle.std.specs.Prelude.{flat_map}
 use Rattle.std.specs.List.{enumerate_from}
 use Rattle.grid_structure.specs.Sites.{levels}
-use Rattle.grid_islands.proofs.Counting.{numbered_before}
+use Rattle.grid_islands.proofs.LevelNumbers.{numbered_before}
 use Rattle.grid_hvdc.specs.Names.{level_names}
 use Rattle.grid_hvdc.proofs.buses.list_buses.Given as goal
 

@@ -1,4 +1,4 @@
-use Rattle.grid_hvdc.proofs.Checking.{ids_next, stations_next, goes_on, ends, is_done}
+use Rattle.grid_hvdc.proofs.LineChecks.{ids_next, stations_next, goes_on, ends, is_done}
 use Rattle.grid_hvdc.proofs.checks.check_lines.Goals as goal
 
 pub returns-in-Err : goal.returns-in-Err

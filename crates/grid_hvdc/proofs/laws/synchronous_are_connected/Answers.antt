@@ -1,4 +1,4 @@
-use Rattle.grid_hvdc.proofs.Numbering.{same_component}
+use Rattle.grid_hvdc.proofs.ComponentNumbers.{same_component}
 use Rattle.grid_hvdc.proofs.laws.synchronous_are_connected.Goals as goal
 
 pub returns : goal.returns

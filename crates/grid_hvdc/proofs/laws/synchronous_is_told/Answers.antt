@@ -1,4 +1,4 @@
-use Rattle.grid_hvdc.proofs.Numbering.{told}
+use Rattle.grid_hvdc.proofs.ComponentNumbers.{told}
 use Rattle.grid_hvdc.proofs.laws.synchronous_is_told.Goals as goal
 
 pub returns : goal.returns

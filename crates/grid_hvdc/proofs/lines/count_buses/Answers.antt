@@ -1,9 +1,9 @@
 use Rattle.std.proofs.Common.{ap, ◌∙◌, length}
 use Rattle.std.proofs.lemmas.List.{length-map}
-use Rattle.grid_core.proofs.Looking.{flags_fit}
+use Rattle.grid_core.proofs.VariantViews.{flags_fit}
 use Rattle.grid_core.proofs.Ranges.{rows_of_levels}
 use Rattle.grid_islands.specs.Islands.{network_buses}
-use Rattle.grid_hvdc.proofs.Naming.{name_of, names_as}
+use Rattle.grid_hvdc.proofs.BusNames.{name_of, names_as}
 use Rattle.grid_hvdc.proofs.lines.count_buses.Goals as goal
 
 pub list_buses-requires-clause-rows : goal.list_buses-requires-clause-rows

@@ -6,8 +6,8 @@ use Rattle.grid_print.specs.Job.{line_of}
 use Rattle.grid_hvdc.specs.declared.HvdcNumber.{HvdcNumber}
 use Rattle.grid_hvdc.specs.declared.buses.BusName.{BusName}
 use Rattle.grid_hvdc.specs.Lines.{bus_object, named_bus_line}
-use Rattle.grid_hvdc.proofs.Naming.{gathered_next}
-use Rattle.grid_hvdc.proofs.Writing.{level_named}
+use Rattle.grid_hvdc.proofs.BusNames.{gathered_next}
+use Rattle.grid_hvdc.proofs.VariantTexts.{level_named}
 use Rattle.grid_hvdc.proofs.lines.put_bus_lines.Goals as goal
 
 pub loop-name-preserved : goal.loop-name-preserved

@@ -5,7 +5,7 @@ use Rattle.grid_graph.specs.Components.{places}
 use Rattle.grid_graph.specs.Graph.{EndsBelow}
 use Rattle.grid_hvdc.specs.Numbers as numbers
 use Rattle.grid_hvdc.specs.Numbers.{sized_at, side_by_side, hvdc_number, hvdc_numbers}
-use Rattle.grid_hvdc.proofs.Numbering.{ends_of_both, both_made}
+use Rattle.grid_hvdc.proofs.ComponentNumbers.{ends_of_both, both_made}
 use Rattle.grid_hvdc.proofs.numbers.hvdc_numbers.Goals as goal
 
 pub sized_components-requires : goal.sized_components-requires

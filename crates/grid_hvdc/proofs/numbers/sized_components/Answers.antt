@@ -5,7 +5,7 @@ use Rattle.grid_graph.specs.Components.{places}
 use Rattle.grid_components.specs.Ranks.{is_key}
 use Rattle.grid_hvdc.specs.Numbers.{sized, sized_at}
 use Rattle.grid_islands.proofs.Numbers.{numbers_long, numbers_below}
-use Rattle.grid_hvdc.proofs.Numbering.{sized_as}
+use Rattle.grid_hvdc.proofs.ComponentNumbers.{sized_as}
 use Rattle.grid_hvdc.proofs.numbers.sized_components.Goals as goal
 
 pub component_sizes-requires-clause-below : goal.component_sizes-requires-clause-below

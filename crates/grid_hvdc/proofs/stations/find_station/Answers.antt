@@ -1,4 +1,4 @@
-use Rattle.grid_hvdc.proofs.Stationed.{nowhere, stands, another, site_below}
+use Rattle.grid_hvdc.proofs.StationSites.{nowhere, stands, another, site_below}
 use Rattle.grid_hvdc.proofs.stations.find_station.Goals as goal
 
 pub returns-in-None-clause-site : goal.returns-in-None-clause-site

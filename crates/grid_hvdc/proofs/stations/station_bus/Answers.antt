@@ -3,7 +3,7 @@ use Rattle.std.proofs.lemmas.Int.{to_z-of_z}
 use Rattle.grid_groups.proofs.Lists.{get_or_any}
 use Rattle.grid_level.specs.Passing.{nodes}
 use Rattle.grid_islands.specs.Numbering.{number_of_node}
-use Rattle.grid_hvdc.proofs.Stationed.{none_numbered, numbered_by}
+use Rattle.grid_hvdc.proofs.StationSites.{none_numbered, numbered_by}
 use Rattle.grid_hvdc.proofs.stations.station_bus.Goals as goal
 
 pub returns-in-None : goal.returns-in-None

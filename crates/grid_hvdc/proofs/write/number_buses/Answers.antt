@@ -1,9 +1,9 @@
 use Rattle.std.proofs.Common.{ap, ◌∙◌, length}
-use Rattle.grid_core.proofs.Looking.{flags_fit}
+use Rattle.grid_core.proofs.VariantViews.{flags_fit}
 use Rattle.grid_core.proofs.Ranges.{rows_of_levels}
-use Rattle.grid_islands.proofs.Assembling.{total, joining, count_as, rows_long, pairs_made, ends_made}
+use Rattle.grid_islands.proofs.LevelComponents.{total, joining, count_as, rows_long, pairs_made, ends_made}
 use Rattle.grid_hvdc.specs.Numbers.{hvdc_numbers}
-use Rattle.grid_hvdc.proofs.Stationed.{links_made, links_ends}
+use Rattle.grid_hvdc.proofs.StationSites.{links_made, links_ends}
 use Rattle.grid_hvdc.proofs.write.number_buses.Goals as goal
 
 pub list_buses-requires-clause-rows : goal.list_buses-requires-clause-rows

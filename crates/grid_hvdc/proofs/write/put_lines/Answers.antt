@@ -5,8 +5,8 @@ use Rattle.std.proofs.lemmas.Slice.Zip.{zip_turn, zip_end, length-zip, get_or-zi
 use Rattle.grid_hvdc.specs.declared.HvdcNumber.{HvdcNumber}
 use Rattle.grid_hvdc.specs.declared.buses.BusName.{BusName}
 use Rattle.grid_hvdc.specs.Texts.{hvdc_line, named_line}
-use Rattle.grid_hvdc.proofs.Naming.{gathered_next}
-use Rattle.grid_hvdc.proofs.Writing.{level_named}
+use Rattle.grid_hvdc.proofs.BusNames.{gathered_next}
+use Rattle.grid_hvdc.proofs.VariantTexts.{level_named}
 use Rattle.grid_hvdc.proofs.write.put_lines.Goals as goal
 
 pub loop-name-preserved : goal.loop-name-preserved

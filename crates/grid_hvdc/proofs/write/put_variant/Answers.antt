@@ -1,8 +1,8 @@
 use Rattle.std.proofs.Common.{sym, ◌∙◌, subst}
 use Rattle.std.proofs.lemmas.Result.{on_ok_weaker}
 use Rattle.grid_hvdc.specs.Texts.{LevelsThere}
-use Rattle.grid_hvdc.proofs.Naming.{levels_there}
-use Rattle.grid_hvdc.proofs.Writing.{variant_as}
+use Rattle.grid_hvdc.proofs.BusNames.{levels_there}
+use Rattle.grid_hvdc.proofs.VariantTexts.{variant_as}
 use Rattle.grid_hvdc.proofs.write.put_variant.Goals as goal
 
 pub put_lines-requires : goal.put_lines-requires

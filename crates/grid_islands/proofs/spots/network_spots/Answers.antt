@@ -2,7 +2,7 @@ use Rattle.std.proofs.Common.{ap, ◌∙◌, ◌++◌, [], ◌∷◌, map, arith
 use Rattle.std.proofs.lemmas.List.{take_all}
 use Rattle.grid_structure.specs.Sites.{branches}
 use Rattle.grid_islands.specs.Spots.{spots_of_branch, network_spots}
-use Rattle.grid_islands.proofs.Spotting.{spots_more}
+use Rattle.grid_islands.proofs.SpotNumbers.{spots_more}
 use Rattle.grid_islands.proofs.spots.network_spots.Goals as goal
 
 pub loop-place-preserved : goal.loop-place-preserved

@@ -2,7 +2,7 @@ use Rattle.std.proofs.Common.{◌≡◌, sym, ap, ◌∙◌, ◌++◌, append_as
 use Rattle.std.proofs.lemmas.Result.{on_ok_weaker}
 use Rattle.grid_islands.specs.Islands.{pair_between}
 use Rattle.grid_islands.specs.Spots.{pairs_of_spots}
-use Rattle.grid_islands.proofs.Pairing.{three_among}
+use Rattle.grid_islands.proofs.BranchPairs.{three_among}
 use Rattle.grid_islands.proofs.spots.push_branch.Goals as goal
 
 pub returns : goal.returns

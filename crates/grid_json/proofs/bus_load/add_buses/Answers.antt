@@ -1,5 +1,5 @@
 use Rattle.std.proofs.Common.{arith}
-use Rattle.grid_json.proofs.BusLoading.{bus_in_range, bus_goes_on, bus_ends, buses_done}
+use Rattle.grid_json.proofs.BusLoops.{bus_in_range, bus_goes_on, bus_ends, buses_done}
 use Rattle.grid_json.proofs.bus_load.add_buses.Goals as goal
 
 pub returns-in-Err : goal.returns-in-Err

@@ -1,6 +1,6 @@
 use Rattle.std.proofs.Common.{refl, rules}
 use Rattle.grid_json.specs.Network.{item_at}
-use Rattle.grid_json.proofs.Filling.{filled_is, empty_is}
+use Rattle.grid_json.proofs.MemberSlots.{filled_is, empty_is}
 use Rattle.grid_json.proofs.injections.battery_in.Goals as goal
 
 pub returns : goal.returns

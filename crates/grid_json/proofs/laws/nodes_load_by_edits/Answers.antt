@@ -1,4 +1,4 @@
-use Rattle.grid_json.proofs.OlderLoading.{nodes_load}
+use Rattle.grid_json.proofs.OlderNetworks.{nodes_load}
 use Rattle.grid_json.proofs.laws.nodes_load_by_edits.Goals as goal
 
 pub returns : goal.returns

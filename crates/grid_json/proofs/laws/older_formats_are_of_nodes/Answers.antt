@@ -1,4 +1,4 @@
-use Rattle.grid_json.proofs.OlderReading.{older_read, older_have}
+use Rattle.grid_json.proofs.OlderDrafts.{older_read, older_have}
 use Rattle.grid_json.proofs.laws.older_formats_are_of_nodes.Goals as goal
 
 pub returns-clause-reads : goal.returns-clause-reads

@@ -1,5 +1,5 @@
 use Rattle.std.proofs.Common.{length, ap, arith}
-use Rattle.grid_json.proofs.Loading.{goes_on, ends, is_done}
+use Rattle.grid_json.proofs.PartLoops.{goes_on, ends, is_done}
 use Rattle.grid_json.proofs.load.load_each.Goals as goal
 
 pub returns-in-Err : goal.returns-in-Err

@@ -1,7 +1,7 @@
 use Rattle.std.proofs.Common.{◌≡◌, codes, Ok, ap, ◌∙◌}
 use Rattle.grid_json.specs.Reading.{Fails, under}
 use Rattle.grid_json.specs.Loading.{Loaded, loaded_of, network_load, nothing_of, parts_load}
-use Rattle.grid_json.proofs.Loading.{fails_on, under_fails}
+use Rattle.grid_json.proofs.PartLoops.{fails_on, under_fails}
 use Rattle.grid_json.proofs.load.load_network.Goals as goal
 
 pub returns-in-Err : goal.returns-in-Err

@@ -6,7 +6,7 @@ use Rattle.grid_json.specs.Reading.{whole_at, array_at}
 use Rattle.grid_json.specs.Network.{network_at}
 use Rattle.grid_json.specs.Job.{format_at, listeners_at, workers_at, ordered, draft_at}
 use Rattle.grid_json.specs.Streams.{Holds, some_then}
-use Rattle.grid_json.proofs.Filling.{member_is, member_or_is, optional_then}
+use Rattle.grid_json.proofs.MemberSlots.{member_is, member_or_is, optional_then}
 use Rattle.grid_json.proofs.stream.next_draft.Goals as goal
 
 pub returns-clause-draft : goal.returns-clause-draft

@@ -4,7 +4,7 @@ use Rattle.json.specs.Json.{read_key}
 use Rattle.json.proofs.Grammar.{read_key-shorter}
 use Rattle.grid_json.specs.declared.tokens.Offer.TheVariants.{Taken}
 use Rattle.grid_json.specs.Streams.{Among, Offered}
-use Rattle.grid_json.proofs.Filling.{among}
+use Rattle.grid_json.proofs.MemberSlots.{among}
 use Rattle.grid_json.proofs.Streams.{members_begin, members_go_on, members_end}
 use Rattle.grid_json.proofs.tokens.object_of.Goals as goal
 

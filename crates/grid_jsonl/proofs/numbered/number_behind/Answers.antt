@@ -3,7 +3,7 @@ use Rattle.std.specs.Prelude.{slice_index_or}
 use Rattle.std.specs.List.{count_by}
 use Rattle.grid_core.specs.declared.journal.Entry.{Entry}
 use Rattle.grid_jsonl.specs.declared.step.Step as borrowed
-use Rattle.grid_jsonl.proofs.Counted.{of_worker, count_few, held_few, held_number}
+use Rattle.grid_jsonl.proofs.StepNumbers.{of_worker, count_few, held_few, held_number}
 use Rattle.grid_jsonl.proofs.numbered.number_behind.Goals as goal
 
 pub offset_bounds-journal-place : goal.offset_bounds-journal-place

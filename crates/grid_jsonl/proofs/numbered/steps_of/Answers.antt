@@ -1,7 +1,7 @@
 use Rattle.std.proofs.Common.{◌≡◌, suc, ◌+◌, map, take, length, ap, ◌∙◌, length-append, refl}
 use Rattle.std.specs.List.{count_by}
 use Rattle.grid_jsonl.specs.Borrowed.{step_in}
-use Rattle.grid_jsonl.proofs.Counted.{of_worker, step_more, steps_all}
+use Rattle.grid_jsonl.proofs.StepNumbers.{of_worker, step_more, steps_all}
 use Rattle.grid_jsonl.proofs.numbered.steps_of.Goals as goal
 
 pub loop-place-preserved : goal.loop-place-preserved

@@ -1,6 +1,6 @@
 use Rattle.std.proofs.Common.{arith}
 use Rattle.std.proofs.lemmas.Result.{on_ok_weaker}
-use Rattle.grid_jsonl.proofs.Escaped.{plain_more, escaped_more, all_put}
+use Rattle.grid_jsonl.proofs.TextEscapes.{plain_more, escaped_more, all_put}
 use Rattle.grid_jsonl.proofs.string.put_escapes.Goals as goal
 use Rattle.grid_jsonl.proofs.string.put_escapes.Goals.{then-not-is_plain+in_ok-put_bytes+in_ok-put_bytes-2, else-not-is_plain}
 

@@ -3,7 +3,7 @@ use Rattle.std.specs.Prelude.{OnErr}
 use Rattle.std.specs.List.{flat_map}
 use Rattle.grid_report.proofs.Begun.{at_start}
 use Rattle.grid_jsonl.specs.Outcomes.{objects}
-use Rattle.grid_jsonl.proofs.Coming.{texts_joined}
+use Rattle.grid_jsonl.proofs.RemainingLines.{texts_joined}
 use Rattle.grid_jsonl.proofs.write.write_lines.Goals as goal
 
 on_err : {T E P : Type 0} (r : Result T E) → P → OnErr r P

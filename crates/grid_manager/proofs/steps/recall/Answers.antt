@@ -3,8 +3,8 @@ use Rattle.std.specs.Prelude.{All}
 use Rattle.std.proofs.lemmas.List.Elements.{All-head}
 use Rattle.grid_manager.specs.declared.view.Known.{Known}
 use Rattle.grid_manager.specs.Rules.{Fits}
-use Rattle.grid_manager.proofs.Keeping.{joins, leaves, sees}
-use Rattle.grid_manager.proofs.Calling.{hosted, left}
+use Rattle.grid_manager.proofs.RuleSteps.{joins, leaves, sees}
+use Rattle.grid_manager.proofs.CallTokens.{hosted, left}
 use Rattle.grid_manager.proofs.steps.recall.Goals as goal
 
 pub join_seat-requires : goal.join_seat-requires

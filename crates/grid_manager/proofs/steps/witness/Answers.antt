@@ -1,6 +1,6 @@
 use Rattle.std.proofs.Common.{[], sym, ap, ◌∙◌, arith}
 use Rattle.grid_manager.specs.Views.{caller, grown, newcomer}
-use Rattle.grid_manager.proofs.Keeping.{splits_new}
+use Rattle.grid_manager.proofs.RuleSteps.{splits_new}
 use Rattle.grid_manager.proofs.steps.witness.Goals as goal
 
 pub split_seat-requires : goal.split_seat-requires

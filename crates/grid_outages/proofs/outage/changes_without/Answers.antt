@@ -1,6 +1,6 @@
 use Rattle.std.proofs.Common.{◌∙◌}
 use Rattle.grid_structure.specs.Sites.{levels}
-use Rattle.grid_outages.proofs.Changing.{none_shows}
+use Rattle.grid_outages.proofs.OutageChanges.{none_shows}
 use Rattle.grid_outages.proofs.outage.changes_without.Goals as goal
 
 pub put_all_out-requires : goal.put_all_out-requires

@@ -4,7 +4,7 @@ use Rattle.std.specs.Option.{option_map}
 use Rattle.grid_ids.specs.Name.{same_id}
 use Rattle.grid_level.specs.declared.Placed.{Placed}
 use Rattle.grid_level.specs.LevelEdits.{level_without_equipment}
-use Rattle.grid_structure.proofs.Cleared.{found_one, nothing_left, stands_there, one_gone, one_fewer}
+use Rattle.grid_structure.proofs.TerminalRemovals.{found_one, nothing_left, stands_there, one_gone, one_fewer}
 use Rattle.grid_outages.proofs.outage.clear_level.Goals as goal
 
 pub take_terminal-requires : goal.take_terminal-requires

@@ -4,8 +4,8 @@ use Rattle.grid_structure.specs.Sites.{levels, site}
 use Rattle.grid_structure.proofs.Places.{length-slice_set}
 use Rattle.grid_outages.specs.Changes.{shown_levels, shown_rows}
 use Rattle.grid_outages.specs.Steps.{cleared_side}
-use Rattle.grid_outages.proofs.Changing.{at_site, no_site, site_inside, cleared_shows, none_cleared, side_cleared, shows_as}
-use Rattle.grid_outages.proofs.Showing.{set_over}
+use Rattle.grid_outages.proofs.OutageChanges.{at_site, no_site, site_inside, cleared_shows, none_cleared, side_cleared, shows_as}
+use Rattle.grid_outages.proofs.ShownLevels.{set_over}
 use Rattle.grid_outages.proofs.outage.clear_side.Goals as goal
 
 pub returns-in-None : goal.returns-in-None

@@ -1,6 +1,6 @@
 use Rattle.grid_structure.specs.Sites.{levels}
 use Rattle.grid_outages.specs.Steps.{levels_after, rows_after}
-use Rattle.grid_outages.proofs.Showing.{all_fit, all_looked}
+use Rattle.grid_outages.proofs.ShownLevels.{all_fit, all_looked}
 use Rattle.grid_outages.proofs.outage.find_changes.Goals as goal
 
 pub look_at_all-requires : goal.look_at_all-requires

@@ -1,7 +1,7 @@
 use Rattle.std.proofs.Common.{◌≡◌, sym, ap, ◌∙◌, ◌<◌, length, arith, Some, None}
 use Rattle.std.specs.Prelude.{slice_set}
 use Rattle.grid_structure.proofs.Places.{length-slice_set}
-use Rattle.grid_outages.proofs.Showing.{at_first, passed_over, all_passed, over_some, fits_here}
+use Rattle.grid_outages.proofs.ShownLevels.{at_first, passed_over, all_passed, over_some, fits_here}
 use Rattle.grid_outages.proofs.outage.look_at_all.Goals as goal
 
 pub loop-place-init : goal.loop-place-init

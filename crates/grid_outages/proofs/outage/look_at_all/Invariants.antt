@@ -1,5 +1,5 @@
 use Rattle.std.proofs.Common.{◌≡◌, ◌-◌, ◌≤◌, length}
-use Rattle.grid_outages.proofs.Showing.{Halfway}
+use Rattle.grid_outages.proofs.ShownLevels.{Halfway}
 use Rattle.grid_outages.proofs.outage.look_at_all.Given as goal
 
 abbrev pub invariant-loop-place : goal.invariant-loop-place

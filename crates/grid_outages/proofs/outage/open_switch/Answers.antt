@@ -3,8 +3,8 @@ use Rattle.std.specs.Prelude.{slice_set}
 use Rattle.grid_structure.specs.Sites.{levels}
 use Rattle.grid_structure.proofs.Places.{length-slice_set}
 use Rattle.grid_outages.specs.Changes.{shown_levels, shown_rows}
-use Rattle.grid_outages.proofs.Changing.{opened_shows}
-use Rattle.grid_outages.proofs.Showing.{set_over}
+use Rattle.grid_outages.proofs.OutageChanges.{opened_shows}
+use Rattle.grid_outages.proofs.ShownLevels.{set_over}
 use Rattle.grid_outages.proofs.outage.open_switch.Goals as goal
 
 pub with_open-requires : goal.with_open-requires

@@ -5,7 +5,7 @@ use Rattle.grid_ids.specs.Name.{has_id}
 use Rattle.grid_structure.specs.Sites.{levels}
 use Rattle.grid_outages.specs.Steps.{levels_with_out, rows_with_out, levels_after, rows_after}
 use Rattle.grid_outages.proofs.Again.{levels_again, rows_again, knows_more}
-use Rattle.grid_outages.proofs.Changing.{shown_so, shows_as, all_more}
+use Rattle.grid_outages.proofs.OutageChanges.{shown_so, shows_as, all_more}
 use Rattle.grid_outages.proofs.outage.put_all_out.Goals as goal
 
 told : (added has : Bool) → added ≡ not has → added ≡ false → has ≡ true

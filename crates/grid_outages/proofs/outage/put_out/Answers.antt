@@ -1,10 +1,10 @@
 use Rattle.std.proofs.Common.{sym, ◌∙◌, arith}
 use Rattle.std.proofs.lemmas.Result.{on_ok_weaker}
 use Rattle.grid_structure.specs.Sites.{levels, find_switch}
-use Rattle.grid_structure.proofs.Losing.{from_nowhere, from_spot}
+use Rattle.grid_structure.proofs.SwitchRemovals.{from_nowhere, from_spot}
 use Rattle.grid_outages.specs.Changes.{shown_levels, shown_rows}
 use Rattle.grid_outages.specs.Steps.{levels_with_out, rows_with_out}
-use Rattle.grid_outages.proofs.Changing.{switch_in, switch_out, equipment_out, shows_as}
+use Rattle.grid_outages.proofs.OutageChanges.{switch_in, switch_out, equipment_out, shows_as}
 use Rattle.grid_outages.proofs.outage.put_out.Goals as goal
 use Rattle.std.proofs.lemmas.Option.{slice_get_within}
 

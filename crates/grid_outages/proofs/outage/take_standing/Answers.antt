@@ -4,7 +4,7 @@ use Rattle.std.proofs.lemmas.Result.{IfOk-weaker}
 use Rattle.grid_states.specs.Rows.{row_at}
 use Rattle.grid_structure.specs.Sites.{levels}
 use Rattle.grid_outages.specs.Changes.{change_at, shown_levels, shown_rows}
-use Rattle.grid_outages.proofs.Showing.{level_changed, level_kept, row_changed, row_kept}
+use Rattle.grid_outages.proofs.ShownLevels.{level_changed, level_kept, row_changed, row_kept}
 use Rattle.grid_outages.proofs.outage.take_standing.Goals as goal
 
 pub returns-in-Some-clause-level : goal.returns-in-Some-clause-level

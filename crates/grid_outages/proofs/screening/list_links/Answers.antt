@@ -3,7 +3,7 @@ use Rattle.std.specs.Prelude.{flat_map}
 use Rattle.std.proofs.lemmas.List.{take_all}
 use Rattle.grid_structure.specs.Sites.{branches}
 use Rattle.grid_outages.specs.Changes.{branch_links, network_links}
-use Rattle.grid_outages.proofs.Linked.{branch_more}
+use Rattle.grid_outages.proofs.BranchLinks.{branch_more}
 use Rattle.grid_outages.proofs.screening.list_links.Goals as goal
 
 pub loop-place-preserved : goal.loop-place-preserved

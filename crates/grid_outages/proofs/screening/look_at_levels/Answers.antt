@@ -7,7 +7,7 @@ use Rattle.grid_level.specs.Passing.{positioned}
 use Rattle.grid_structure.specs.Sites.{levels}
 use Rattle.grid_busview.specs.Views.{node_buses_of}
 use Rattle.grid_states.specs.Rows.{row_at}
-use Rattle.grid_islands.proofs.Counting.{level_within, level_at}
+use Rattle.grid_islands.proofs.LevelNumbers.{level_within, level_at}
 use Rattle.grid_sums.specs.Sums.{sums_of}
 use Rattle.grid_outages.specs.Changes.{level_places, level_sums}
 use Rattle.grid_outages.proofs.screening.look_at_levels.Goals as goal

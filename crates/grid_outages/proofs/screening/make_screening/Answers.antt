@@ -13,7 +13,7 @@ use Rattle.grid_outages.specs.declared.screening.Link.{Link}
 use Rattle.grid_outages.specs.Changes.{level_places, level_sums, network_links, LinksFit}
 use Rattle.grid_outages.specs.Effects.{joined_of, levels_of, levels_at, LevelsFit, IsKept}
 use Rattle.grid_outages.specs.Tables.{end_places}
-use Rattle.grid_outages.proofs.Keeping.{kept_long, buses_kept, joined_there, links_fit, levels_fit}
+use Rattle.grid_outages.proofs.KeptSums.{kept_long, buses_kept, joined_there, links_fit, levels_fit}
 use Rattle.grid_outages.proofs.screening.make_screening.Goals as goal
 
 abbrev AreKept : List (List Sums) → List Link → Type 0

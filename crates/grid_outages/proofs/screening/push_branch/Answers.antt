@@ -1,7 +1,7 @@
 use Rattle.std.proofs.Common.{sym, ap, ◌∙◌, ◌++◌, append_assoc}
 use Rattle.grid_outages.specs.Changes.{link_between}
 use Rattle.grid_outages.specs.Changes.{spot_of}
-use Rattle.grid_outages.proofs.Linked.{line_links, two_links, three_links}
+use Rattle.grid_outages.proofs.BranchLinks.{line_links, two_links, three_links}
 use Rattle.grid_outages.proofs.screening.push_branch.Goals as goal
 
 pub returns-in_ok-push_link-in-Line : goal.returns-in_ok-push_link-in-Line

@@ -1,6 +1,6 @@
 use Rattle.std.proofs.Common.{◌≡◌, sym, ap, ◌∙◌, subst, ℕ, ◌+◌, ◌<◌, ◌++◌, [], ◌∷◌, cond, length, get_or, arith}
 use Rattle.grid_outages.specs.Tables.{is_end, ends_at}
-use Rattle.grid_outages.proofs.Placed.{places_to, place_more, all_rows, none_to}
+use Rattle.grid_outages.proofs.LevelPlaces.{places_to, place_more, all_rows, none_to}
 use Rattle.grid_outages.proofs.table.places_by_level.Goals as goal
 
 pub loop-place-init : goal.loop-place-init

@@ -1,6 +1,6 @@
 use Rattle.std.proofs.Common.{◌≡◌, ℕ, [], length}
 use Rattle.std.specs.List.{slice_index_or}
-use Rattle.grid_outages.proofs.Placed.{places_to}
+use Rattle.grid_outages.proofs.LevelPlaces.{places_to}
 use Rattle.grid_outages.proofs.table.places_by_level.Given as goal
 
 abbrev pub invariant-loop-place : goal.invariant-loop-place

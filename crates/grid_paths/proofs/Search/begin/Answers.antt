@@ -1,6 +1,6 @@
 use Rattle.std.proofs.Common.{◌∙◌}
-use Rattle.grid_paths.proofs.Rows.{OnOk_then}
-use Rattle.grid_paths.proofs.Searching.{begin_goal, begin_other}
+use Rattle.grid_paths.proofs.Answered.{OnOk_then}
+use Rattle.grid_paths.proofs.PathSearches.{begin_goal, begin_other}
 use Rattle.grid_paths.proofs.Search.begin.Goals as goal
 
 pub returns-then-not-goal : goal.returns-then-not-goal

@@ -1,4 +1,4 @@
-use Rattle.grid_placed.proofs.Viewing.{views_correspond, records_are}
+use Rattle.grid_placed.proofs.BusViews.{views_correspond, records_are}
 use Rattle.grid_placed.proofs.laws.bus_views_correspond.Goals as goal
 
 pub returns : goal.returns

@@ -8,7 +8,7 @@ use Rattle.grid_level.specs.declared.Stand.TheVariants.{Busbar, Feeder, BranchEn
 use Rattle.grid_print.specs.Network.{injection_of}
 use Rattle.grid_print.specs.Readable.{IsReadableInjection}
 use Rattle.grid_print.proofs.Each.{within_more}
-use Rattle.grid_print.proofs.Standing.{flat_mapped}
+use Rattle.grid_print.proofs.SubstationPlaces.{flat_mapped}
 use Rattle.grid_print.proofs.level.injections.Goals as goal
 use Rattle.grid_print.proofs.level.injections.Goals.{in-Feeder+in_ok-injection+in_ok-push, in_default}
 

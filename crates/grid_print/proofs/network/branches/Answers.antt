@@ -4,7 +4,7 @@ use Rattle.grid_structure.specs.Sites.{branches}
 use Rattle.grid_print.specs.Network.{named_branch_value}
 use Rattle.grid_print.specs.Readable.{IsId, IsReadableShape, IsReadableBranch}
 use Rattle.grid_print.proofs.Each.{within_more}
-use Rattle.grid_print.proofs.Standing.{between_more, mapped_more, branch_made}
+use Rattle.grid_print.proofs.SubstationPlaces.{between_more, mapped_more, branch_made}
 use Rattle.grid_print.proofs.network.branches.Goals as goal
 
 pub loop-place-preserved : goal.loop-place-preserved

@@ -4,7 +4,7 @@ use Rattle.grid_structure.specs.Sites.{levels}
 use Rattle.grid_print.specs.Network.{level_value}
 use Rattle.grid_print.specs.Readable.{IsReadableLevel}
 use Rattle.grid_print.proofs.Each.{within_more}
-use Rattle.grid_print.proofs.Standing.{between_more, mapped_more}
+use Rattle.grid_print.proofs.SubstationPlaces.{between_more, mapped_more}
 use Rattle.grid_print.proofs.network.levels.Goals as goal
 
 pub loop-place-preserved : goal.loop-place-preserved

@@ -1,6 +1,6 @@
 use Rattle.std.proofs.Common.{◌+◌, arith}
 use Rattle.grid_structure.specs.Sites.{levels}
-use Rattle.grid_print.proofs.Standing.{levels_after, levels_within}
+use Rattle.grid_print.proofs.SubstationPlaces.{levels_after, levels_within}
 use Rattle.grid_print.proofs.network.levels_end.Goals as goal
 
 pub prove-unreachable-requires : goal.prove-unreachable-requires

@@ -6,7 +6,7 @@ use Rattle.grid_print.specs.Network.{level_value, named_branch_value, substation
 use Rattle.grid_print.specs.Cutting.{between, levels_before, transformers_before}
 use Rattle.grid_print.specs.Readable.{IsId, IsReadableLevel, IsReadableBranch}
 use Rattle.grid_print.proofs.Each.{within_more, within_both}
-use Rattle.grid_print.proofs.Standing.{mapped_more, one_more_at, levels_grow, levels_within, levels_all, transformers_grow, transformers_within, substation_made}
+use Rattle.grid_print.proofs.SubstationPlaces.{mapped_more, one_more_at, levels_grow, levels_within, levels_all, transformers_grow, transformers_within, substation_made}
 use Rattle.grid_print.proofs.network.substations.Goals as goal
 
 pub loop-place-init : goal.loop-place-init

@@ -1,6 +1,6 @@
 use Rattle.std.proofs.Common.{◌+◌, arith}
 use Rattle.grid_structure.specs.Sites.{branches}
-use Rattle.grid_print.proofs.Standing.{transformers_after, transformers_within}
+use Rattle.grid_print.proofs.SubstationPlaces.{transformers_after, transformers_within}
 use Rattle.grid_print.proofs.network.transformers_end.Goals as goal
 
 pub prove-unreachable-requires : goal.prove-unreachable-requires

@@ -1,4 +1,4 @@
-use Rattle.grid_reading_back.proofs.Received.{read_jobs_are_readable}
+use Rattle.grid_reading_back.proofs.ReadableJobs.{read_jobs_are_readable}
 use Rattle.grid_reading_back.proofs.laws.printed_jobs_are_read.Goals as goal
 
 pub returns-clause-readable : goal.returns-clause-readable

@@ -1,4 +1,4 @@
-use Rattle.grid_report.proofs.Listening.{shows}
+use Rattle.grid_report.proofs.JournalReports.{shows}
 use Rattle.grid_report.proofs.laws.report_shows_order.Goals as goal
 
 pub returns : goal.returns

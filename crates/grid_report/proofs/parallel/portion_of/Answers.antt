@@ -1,4 +1,4 @@
-use Rattle.grid_report.proofs.Coming.{less_left}
+use Rattle.grid_report.proofs.RemainingText.{less_left}
 use Rattle.grid_report.proofs.parallel.portion_of.Goals as goal
 
 pub loop-weight-smaller : goal.loop-weight-smaller

@@ -6,7 +6,7 @@ use Rattle.rayon.proofs.ToStd.{slice-AllZip, chunks_of-concat}
 use Rattle.grid_ids.specs.declared.copies.Memory.{Memory}
 use Rattle.grid_report.specs.declared.plan.Block.{Block}
 use Rattle.grid_report.specs.Blocks.{block_text}
-use Rattle.grid_report.proofs.Parted.{all_right, texts_joined, where_ok}
+use Rattle.grid_report.proofs.BlockParts.{all_right, texts_joined, where_ok}
 use Rattle.grid_report.proofs.parallel.texts_of.Goals as goal
 
 pub returns : goal.returns

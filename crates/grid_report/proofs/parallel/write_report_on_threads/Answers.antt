@@ -4,8 +4,8 @@ use Rattle.grid_lemmas.proofs.Results.{on_err}
 use Rattle.grid_report.specs.Blocks.{block_text}
 use Rattle.grid_report.specs.Outcomes.{report_of}
 use Rattle.grid_report.proofs.Begun.{on_err_map, before, within, at_end, next_line, line_on, line_more, nothing_left}
-use Rattle.grid_report.proofs.Coming.{less_left}
-use Rattle.grid_report.proofs.Parted.{portion_next}
+use Rattle.grid_report.proofs.RemainingText.{less_left}
+use Rattle.grid_report.proofs.BlockParts.{portion_next}
 use Rattle.grid_report.proofs.parallel.write_report_on_threads.Goals as goal
 
 pub returns-in_err-portion-clause-err : goal.returns-in_err-portion-clause-err

@@ -1,6 +1,6 @@
 use Rattle.std.proofs.Common.{◌≡◌, ◌∙◌, ◌++◌, arith}
 use Rattle.grid_lemmas.proofs.Results.{on_err}
-use Rattle.grid_report.proofs.Writing.{waits_more, handed_over, begun, begun_in, begun_whole, begun_bare, further}
+use Rattle.grid_report.proofs.WriteBuffers.{waits_more, handed_over, begun, begun_in, begun_whole, begun_bare, further}
 use Rattle.grid_report.proofs.pieces.put_into.Goals as goal
 
 pub returns-in-Err-clause-err : goal.returns-in-Err-clause-err

@@ -6,7 +6,7 @@ use Rattle.grid_source.specs.Whole.{IsBegun}
 use Rattle.grid_report.specs.Outcomes.{variant_text}
 use Rattle.grid_report.specs.Cursors.{front_of, back_of}
 use Rattle.grid_report.proofs.Begun.{on_err_map, on_ok_map, in_first, behind_first, line_more}
-use Rattle.grid_report.proofs.Coming.{three_parts}
+use Rattle.grid_report.proofs.RemainingText.{three_parts}
 use Rattle.grid_report.proofs.report.put_report.Goals as goal
 
 pub returns-in_err-put_blocks-clause-err : goal.returns-in_err-put_blocks-clause-err

@@ -5,7 +5,7 @@ use Rattle.grid_lemmas.proofs.Results.{on_err}
 use Rattle.grid_source.specs.Whole.{IsBegun}
 use Rattle.grid_report.specs.Outcomes.{variant_line, variant_text}
 use Rattle.grid_report.proofs.Begun.{before, within, cut, cut_at, one_on, line_more}
-use Rattle.grid_report.proofs.Renewed.{variant_made}
+use Rattle.grid_report.proofs.LevelTexts.{variant_made}
 use Rattle.grid_report.proofs.variants.put_variants.Goals as goal
 
 pub returns-in_err-texts-clause-err : goal.returns-in_err-texts-clause-err

@@ -1,6 +1,6 @@
 use Rattle.std.proofs.Common.{ap, ◌∙◌, slice_set}
 use Rattle.grid_report.specs.Lines.{level_text}
-use Rattle.grid_report.proofs.Renewed.{one_renewed}
+use Rattle.grid_report.proofs.LevelTexts.{one_renewed}
 use Rattle.grid_report.proofs.variants.renew_texts.Goals as goal
 
 pub loop-place-preserved : goal.loop-place-preserved

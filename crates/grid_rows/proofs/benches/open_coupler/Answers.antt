@@ -1,6 +1,6 @@
 use Rattle.std.proofs.Common.{refl, Bool, false, true, List, [], ◌∷◌, arith}
 use Rattle.grid_bench.specs.Contents.{content}
-use Rattle.grid_bench.proofs.Trying.{fourth_costs, few_changes}
+use Rattle.grid_bench.proofs.ExampleCosts.{fourth_costs, few_changes}
 use Rattle.grid_rows.proofs.benches.open_coupler.Goals as goal
 
 pub returns-clause-visits : goal.returns-clause-visits

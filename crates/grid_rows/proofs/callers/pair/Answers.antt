@@ -1,5 +1,5 @@
 use denote.Param.{param}
-use Rattle.grid_manager.proofs.Sending.{manager_sync}
+use Rattle.grid_manager.proofs.ThreadSafety.{manager_sync}
 use Rattle.grid_rows.proofs.callers.pair.Goals as goal
 
 -- by its record, since the manager's row as the call has it is not read as the lemma's

@@ -2,7 +2,7 @@ use Rattle.std.proofs.Common.{◌≡◌, refl, sym, ◌∙◌, subst, length, �
 use Rattle.grid_level.specs.VoltageLevel.{VoltageLevel}
 use Rattle.grid_structure.specs.Sites.{levels, find_switch}
 use Rattle.grid_screen.specs.Found.{is_breaker}
-use Rattle.grid_screen.proofs.Growing.{got_below}
+use Rattle.grid_screen.proofs.WalkSteps.{got_below}
 use Rattle.grid_screen.proofs.Sitings.{switch_there, some_switch, no_switch}
 use Rattle.grid_screen.proofs.amiss.is_breaker.Goals as goal
 

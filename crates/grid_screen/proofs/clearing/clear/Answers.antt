@@ -8,7 +8,7 @@ use Rattle.grid_screen.specs.Outages.{is_switch}
 use Rattle.grid_screen.specs.Walks.{IsSettled}
 use Rattle.grid_screen.specs.Zones.{sites_of}
 use Rattle.grid_screen.proofs.Clearings.{trips_are_switches, clearing_found}
-use Rattle.grid_screen.proofs.Tripping.{tripped_found}
+use Rattle.grid_screen.proofs.BreakerTrips.{tripped_found}
 use Rattle.grid_screen.proofs.clearing.clear.Goals as goal
 
 pub list_tripped-requires : goal.list_tripped-requires

@@ -1,7 +1,7 @@
 use Rattle.std.proofs.Common.{◌≡◌, sym, ◌∙◌, subst, length, ◌<◌, Some, Option}
 use Rattle.grid_level.specs.VoltageLevel.{VoltageLevel}
 use Rattle.grid_structure.specs.Sites.{levels}
-use Rattle.grid_screen.proofs.Growing.{got_below}
+use Rattle.grid_screen.proofs.WalkSteps.{got_below}
 use Rattle.grid_screen.proofs.Clearings.{switch_read}
 use Rattle.grid_screen.proofs.clearing.id_of.Goals as goal
 

@@ -12,8 +12,8 @@ use Rattle.grid_screen.specs.declared.walk.Touched.{Touched}
 use Rattle.grid_screen.specs.Listing.{Fits}
 use Rattle.grid_screen.specs.Opening.{equipment_hit}
 use Rattle.grid_screen.specs.Walks.{IsTouched, IsTouchedBy}
-use Rattle.grid_screen.proofs.Growing.{got_below}
-use Rattle.grid_screen.proofs.Listed.{fits}
+use Rattle.grid_screen.proofs.WalkSteps.{got_below}
+use Rattle.grid_screen.proofs.HitSites.{fits}
 use Rattle.grid_screen.proofs.Clearings.{placed_of, equipment_of, equipment_present, placed_in}
 use Rattle.grid_screen.proofs.clearing.push_hit_equipment.Goals as goal
 

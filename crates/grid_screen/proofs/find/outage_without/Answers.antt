@@ -3,12 +3,12 @@ use Rattle.std.specs.Prelude.{flat_map}
 use Rattle.grid_graph.specs.Components.{places}
 use Rattle.grid_structure.specs.Sites.{levels}
 use Rattle.grid_core.proofs.Ranges.{rows_of_levels}
-use Rattle.grid_core.proofs.Looking.{flags_fit}
+use Rattle.grid_core.proofs.VariantViews.{flags_fit}
 use Rattle.grid_outages.specs.Changes.{level_sums, sums_before, link_pairs}
 use Rattle.grid_outages.specs.Effects.{firsts_under, figures_with}
 use Rattle.grid_outages.proofs.Looks.{looked_placed}
 use Rattle.grid_screen.specs.Findings.{state_in}
-use Rattle.grid_outages.proofs.Keeping.{kept_long}
+use Rattle.grid_outages.proofs.KeptSums.{kept_long}
 use Rattle.grid_screen.proofs.Outcomes.{screens}
 use Rattle.grid_screen.proofs.find.outage_without.Goals as goal
 

@@ -1,5 +1,5 @@
 use Rattle.grid_core.proofs.Ranges.{rows_of_levels}
-use Rattle.grid_core.proofs.Looking.{flags_fit}
+use Rattle.grid_core.proofs.VariantViews.{flags_fit}
 use Rattle.grid_screen.proofs.find.screening_of.Goals as goal
 
 pub make_screening-requires-clause-rows : goal.make_screening-requires-clause-rows

@@ -1,4 +1,4 @@
-use Rattle.grid_screen.proofs.Cutting.{old_findings}
+use Rattle.grid_screen.proofs.ContingencyLists.{old_findings}
 use Rattle.grid_screen.proofs.laws.old_findings.Goals as goal
 
 pub returns : goal.returns

@@ -1,4 +1,4 @@
-use Rattle.grid_screen.proofs.Cutting.{two_lists}
+use Rattle.grid_screen.proofs.ContingencyLists.{two_lists}
 use Rattle.grid_screen.proofs.laws.two_lists.Goals as goal
 
 pub returns : goal.returns

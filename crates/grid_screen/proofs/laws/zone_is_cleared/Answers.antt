@@ -1,4 +1,4 @@
-use Rattle.grid_screen.proofs.Cleared.{zone_is_cleared}
+use Rattle.grid_screen.proofs.FaultClearances.{zone_is_cleared}
 use Rattle.grid_screen.proofs.laws.zone_is_cleared.Goals as goal
 
 pub returns : goal.returns

@@ -18,8 +18,8 @@ use Rattle.grid_contingencies.specs.declared.Contingency.{Contingency}
 use Rattle.grid_screen.specs.declared.Finding.{Finding}
 use Rattle.grid_screen.specs.Findings.{state_in}
 use Rattle.grid_screen.specs.Found.{finding_of, AreFindings}
-use Rattle.grid_report.proofs.Parted.{all_right}
-use Rattle.grid_screen.proofs.Threaded.{weaker, joined_parts}
+use Rattle.grid_report.proofs.BlockParts.{all_right}
+use Rattle.grid_screen.proofs.ListPairs.{weaker, joined_parts}
 use Rattle.grid_screen.proofs.parallel.screen_parts.Goals as goal
 
 pub collect-requires : goal.collect-requires

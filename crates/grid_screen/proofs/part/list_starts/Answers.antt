@@ -1,7 +1,7 @@
 use Rattle.std.proofs.Common.{◌≡◌, sym, ap, ◌∙◌, ◌+◌, subst, take, ◌++◌, [], ◌∷◌}
 use Rattle.std.proofs.lemmas.List.{take_more}
 use Rattle.grid_screen.specs.Started.{AreStarts}
-use Rattle.grid_screen.proofs.Starting.{starts_more}
+use Rattle.grid_screen.proofs.ContingencyOutages.{starts_more}
 use Rattle.grid_screen.proofs.part.list_starts.Goals as goal
 
 pub loop-contingency-preserved : goal.loop-contingency-preserved

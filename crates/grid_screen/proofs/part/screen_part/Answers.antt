@@ -10,7 +10,7 @@ use Rattle.grid_screen.specs.declared.Finding.{Finding}
 use Rattle.grid_screen.specs.declared.find.End.{End}
 use Rattle.grid_screen.specs.Found.{AreFindings}
 use Rattle.grid_screen.specs.Starts.{finding_from}
-use Rattle.grid_screen.proofs.Starting.{starts_fit, ends_few, starts_found}
+use Rattle.grid_screen.proofs.ContingencyOutages.{starts_fit, ends_few, starts_found}
 use Rattle.grid_screen.proofs.part.screen_part.Goals as goal
 use Rattle.grid_screen.proofs.part.screen_part.Goals.{After-deref-3}
 

@@ -4,7 +4,7 @@ use Rattle.grid_sparse.proofs.Passes.{first_there, rest_there}
 use Rattle.grid_screen.specs.declared.walk.Touched.{Touched}
 use Rattle.grid_screen.specs.Opening.{level_trips}
 use Rattle.grid_screen.specs.Walks.{IsTouched, IsTouchedBy}
-use Rattle.grid_screen.proofs.Tripping.{trips_of, trips_present}
+use Rattle.grid_screen.proofs.BreakerTrips.{trips_of, trips_present}
 use Rattle.grid_screen.proofs.tripped.list_tripped.Goals as goal
 
 pub loop-place-init : goal.loop-place-init

@@ -1,7 +1,7 @@
 use Rattle.std.proofs.Common.{◌≡◌, ◌++◌, flat_map}
 use Rattle.grid_sparse.specs.Options.{AreThere}
 use Rattle.grid_screen.specs.Opening.{network_trips}
-use Rattle.grid_screen.proofs.Tripping.{trips_of}
+use Rattle.grid_screen.proofs.BreakerTrips.{trips_of}
 use Rattle.grid_screen.proofs.tripped.list_tripped.Given as goal
 
 abbrev pub invariant-loop-place : goal.invariant-loop-place

@@ -5,10 +5,10 @@ use Rattle.grid_screen.specs.Faults.{can_trip, trips}
 use Rattle.grid_screen.specs.Grounds.{with_flag_of}
 use Rattle.grid_structure.specs.declared.SwitchAt.{SwitchAt}
 use Rattle.grid_screen.specs.Walks.{hits_in}
-use Rattle.grid_screen.proofs.Listed.{fits}
+use Rattle.grid_screen.proofs.HitSites.{fits}
 use Rattle.grid_screen.proofs.Sitings.{first_is_node, second_is_node}
-use Rattle.grid_screen.proofs.Growing.{node_there}
-use Rattle.grid_screen.proofs.Tripping.{spots_more, spots_skipped, stands_in, cannot, can, level_trips_all}
+use Rattle.grid_screen.proofs.WalkSteps.{node_there}
+use Rattle.grid_screen.proofs.BreakerTrips.{spots_more, spots_skipped, stands_in, cannot, can, level_trips_all}
 use Rattle.grid_screen.proofs.tripped.push_tripped.Goals as goal
 
 pub loop-index-preserved-then-not-can_trip : goal.loop-index-preserved-then-not-can_trip

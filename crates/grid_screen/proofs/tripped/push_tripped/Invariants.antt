@@ -3,7 +3,7 @@ use Rattle.grid_level.specs.Passing.{positioned}
 use Rattle.grid_states.specs.Rows.{row_at}
 use Rattle.grid_screen.specs.Faults.{trips}
 use Rattle.grid_screen.specs.Walks.{hits_in}
-use Rattle.grid_screen.proofs.Tripping.{spots_before}
+use Rattle.grid_screen.proofs.BreakerTrips.{spots_before}
 use Rattle.grid_screen.proofs.tripped.push_tripped.Given as goal
 
 abbrev pub invariant-loop-index : goal.invariant-loop-index

@@ -6,7 +6,7 @@ use Rattle.grid_screen.specs.Faults.{AreTripped}
 use Rattle.grid_screen.specs.Opening.{network_trips}
 use Rattle.grid_screen.specs.Walks.{IsSettled}
 use Rattle.grid_screen.specs.Zones.{sites_of}
-use Rattle.grid_screen.proofs.Tripping.{tripped_found}
+use Rattle.grid_screen.proofs.BreakerTrips.{tripped_found}
 use Rattle.grid_screen.proofs.tripped.tripped.Goals as goal
 
 pub list_tripped-requires : goal.list_tripped-requires

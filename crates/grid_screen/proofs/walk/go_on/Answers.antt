@@ -1,7 +1,7 @@
 use Rattle.std.proofs.Common.{refl}
 use Rattle.std.proofs.lemmas.Bool.{false≢true}
 use Rattle.grid_screen.specs.declared.walk.Walk.{Walk}
-use Rattle.grid_screen.proofs.Running.{reaches_none, reaches_more, open_more, ends_all, nothing_left}
+use Rattle.grid_screen.proofs.WalkResults.{reaches_none, reaches_more, open_more, ends_all, nothing_left}
 use Rattle.grid_screen.proofs.walk.go_on.Goals as goal
 
 pub loop-turn-init : goal.loop-turn-init

@@ -3,7 +3,7 @@ use Rattle.std.specs.Prelude.{slice_set}
 use Rattle.std.proofs.lemmas.List.{length-set}
 use Rattle.grid_structure.specs.Sites.{levels}
 use Rattle.grid_screen.proofs.Grown.{can_hit}
-use Rattle.grid_screen.proofs.Growing.{grows_hit, got_below, node_there, waiting_is}
+use Rattle.grid_screen.proofs.WalkSteps.{grows_hit, got_below, node_there, waiting_is}
 use Rattle.grid_screen.proofs.walk.hit.Goals as goal
 
 pub hit_in-requires : goal.hit_in-requires

@@ -3,7 +3,7 @@ use Rattle.std.specs.Prelude.{flat_map}
 use Rattle.std.proofs.lemmas.List.{take_all}
 use Rattle.grid_screen.specs.Walks.{Grows}
 use Rattle.grid_screen.specs.Zones.{sites_of}
-use Rattle.grid_screen.proofs.Growing.{grows_none, grows_both, flat_more}
+use Rattle.grid_screen.proofs.WalkSteps.{grows_none, grows_both, flat_more}
 use Rattle.grid_screen.proofs.walk.hit_all.Goals as goal
 
 pub loop-id-init : goal.loop-id-init

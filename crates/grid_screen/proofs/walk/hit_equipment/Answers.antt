@@ -1,7 +1,7 @@
 use Rattle.std.proofs.Common.{sym, subst}
 use Rattle.std.proofs.lemmas.Result.{on_ok_weaker}
 use Rattle.grid_screen.specs.Walks.{Grows}
-use Rattle.grid_screen.proofs.Growing.{grows_both}
+use Rattle.grid_screen.proofs.WalkSteps.{grows_both}
 use Rattle.grid_screen.proofs.Sitings.{three_sides}
 use Rattle.grid_screen.proofs.walk.hit_equipment.Goals as goal
 

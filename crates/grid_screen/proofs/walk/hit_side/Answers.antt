@@ -4,8 +4,8 @@ use Rattle.std.proofs.lemmas.Result.{on_ok_weaker}
 use Rattle.grid_structure.specs.Network.{Network}
 use Rattle.grid_structure.specs.Sites.{site, terminal_spot}
 use Rattle.grid_screen.specs.Walks.{Grows, site_of_side}
-use Rattle.grid_outages.proofs.Changing.{at_site}
-use Rattle.grid_screen.proofs.Growing.{grows_none}
+use Rattle.grid_outages.proofs.OutageChanges.{at_site}
+use Rattle.grid_screen.proofs.WalkSteps.{grows_none}
 use Rattle.grid_screen.proofs.Sitings.{site_is_node}
 use Rattle.grid_screen.proofs.walk.hit_side.Goals as goal
 

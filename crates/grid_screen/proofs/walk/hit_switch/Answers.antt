@@ -4,7 +4,7 @@ use Rattle.std.proofs.lemmas.Result.{on_ok_weaker}
 use Rattle.grid_structure.specs.Network.{Network}
 use Rattle.grid_structure.specs.Sites.{levels}
 use Rattle.grid_screen.specs.Walks.{Grows}
-use Rattle.grid_screen.proofs.Growing.{grows_both}
+use Rattle.grid_screen.proofs.WalkSteps.{grows_both}
 use Rattle.grid_screen.proofs.Sitings.{first_is_node, second_is_node, two_sites}
 use Rattle.grid_screen.proofs.walk.hit_switch.Goals as goal
 

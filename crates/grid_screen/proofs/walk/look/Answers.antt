@@ -6,7 +6,7 @@ use Rattle.grid_structure.specs.Sites.{levels}
 use Rattle.grid_groups.specs.Labels.{labels_where}
 use Rattle.grid_screen.specs.Grounds.{fault_flags}
 use Rattle.grid_screen.specs.Walks.{AreEnds, CanList, IsTouched, IsUntouched}
-use Rattle.grid_screen.proofs.Passed.{flags_long}
+use Rattle.grid_screen.proofs.FaultEdges.{flags_long}
 use Rattle.grid_screen.proofs.Grown.{can_list, looked}
 use Rattle.grid_screen.proofs.walk.look.Goals as goal
 

@@ -2,7 +2,7 @@ use Rattle.std.proofs.Common.{ap, ◌∙◌, length}
 use Rattle.grid_structure.specs.Network.{Network}
 use Rattle.grid_structure.specs.Sites.{levels}
 use Rattle.grid_screen.specs.declared.walk.Walk.{Walk}
-use Rattle.grid_screen.proofs.Running.{none_touched, opened, settled}
+use Rattle.grid_screen.proofs.WalkResults.{none_touched, opened, settled}
 use Rattle.grid_screen.proofs.walk.walk_from.Goals as goal
 
 pub hit_all-requires : goal.hit_all-requires

@@ -3,7 +3,7 @@ use Rattle.grid_sparse.specs.Options.{AreThere}
 use Rattle.grid_sparse.proofs.Passes.{first_there, rest_there}
 use Rattle.grid_screen.specs.Listing.{Fits, hit_sites}
 use Rattle.grid_screen.specs.Walks.{IsTouchedBy}
-use Rattle.grid_screen.proofs.Listed.{sites_hit, zone_present, fits}
+use Rattle.grid_screen.proofs.HitSites.{sites_hit, zone_present, fits}
 use Rattle.grid_screen.proofs.zone.list_hit.Goals as goal
 
 pub loop-place-init : goal.loop-place-init

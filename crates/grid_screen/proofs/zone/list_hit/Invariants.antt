@@ -3,7 +3,7 @@ use Rattle.grid_sparse.specs.Options.{AreThere}
 use Rattle.std.specs.Prelude.{filter}
 use Rattle.grid_screen.specs.Walks.{hits}
 use Rattle.grid_screen.specs.Zones.{network_sites}
-use Rattle.grid_screen.proofs.Listed.{sites_hit}
+use Rattle.grid_screen.proofs.HitSites.{sites_hit}
 use Rattle.grid_screen.proofs.zone.list_hit.Given as goal
 
 abbrev pub invariant-loop-place : goal.invariant-loop-place

@@ -1,6 +1,6 @@
 use Rattle.std.proofs.Common.{sym, ◌∙◌, arith}
 use Rattle.std.proofs.lemmas.List.{append-nil}
-use Rattle.grid_screen.proofs.Listed.{hit_more, hit_skipped, hit_all}
+use Rattle.grid_screen.proofs.HitSites.{hit_more, hit_skipped, hit_all}
 use Rattle.grid_screen.proofs.zone.push_hit.Goals as goal
 
 pub loop-index-init : goal.loop-index-init

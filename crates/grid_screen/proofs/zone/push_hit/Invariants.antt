@@ -1,5 +1,5 @@
 use Rattle.std.proofs.Common.{◌≡◌, ◌++◌}
-use Rattle.grid_screen.proofs.Listed.{hit_before}
+use Rattle.grid_screen.proofs.HitSites.{hit_before}
 use Rattle.grid_screen.proofs.zone.push_hit.Given as goal
 
 abbrev pub invariant-loop-index : goal.invariant-loop-index

@@ -4,7 +4,7 @@ use Rattle.std.proofs.lemmas.Result.{IfOk-weaker}
 use Rattle.grid_screen.specs.Faults.{IsZone}
 use Rattle.grid_screen.specs.Walks.{hits, IsSettled}
 use Rattle.grid_screen.specs.Zones.{network_sites, sites_of}
-use Rattle.grid_screen.proofs.Scened.{zone_found}
+use Rattle.grid_screen.proofs.FaultScenes.{zone_found}
 use Rattle.grid_screen.proofs.zone.zone.Goals as goal
 
 pub list_hit-requires : goal.list_hit-requires

@@ -1,4 +1,4 @@
-use Rattle.grid_screened.proofs.Disconnecting.{as_disconnect}
+use Rattle.grid_screened.proofs.InjectionTrips.{as_disconnect}
 use Rattle.grid_screened.proofs.laws.as_disconnect.Goals as goal
 
 pub returns : goal.returns

@@ -1,4 +1,4 @@
-use Rattle.grid_screened.proofs.Unconnected.{unconnected}
+use Rattle.grid_screened.proofs.UnconnectedWatts.{unconnected}
 use Rattle.grid_screened.proofs.laws.unconnected.Goals as goal
 
 pub returns : goal.returns

@@ -2,7 +2,7 @@ use Rattle.std.proofs.Common.{◌∙◌, sym}
 use Rattle.std.specs.Prelude.{map}
 use Rattle.grid_level.specs.VoltageLevel.{VoltageLevel}
 use Rattle.grid_structure.proofs.Counts.{differ-times}
-use Rattle.grid_structure.proofs.Dropping.{place_sure}
+use Rattle.grid_structure.proofs.BranchRemovals.{place_sure}
 use Rattle.grid_structure.proofs.finding.entry_of_level.Goals as goal
 
 pub returns-in-Some : goal.returns-in-Some

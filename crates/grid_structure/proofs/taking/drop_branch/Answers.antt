@@ -3,7 +3,7 @@ use Rattle.grid_structure.specs.Cutting.{transformer_total}
 use Rattle.grid_structure.specs.Clearing.{IsPlaceOf, winding_place}
 use Rattle.grid_structure.specs.declared.NamedBranch.{NamedBranch}
 use Rattle.grid_structure.proofs.Blocks.{head_there}
-use Rattle.grid_structure.proofs.Dropping.{absent, dropped_none, dropped_some, line_alone, transformer_alone, named_below, no_line, winding_below, winding_some}
+use Rattle.grid_structure.proofs.BranchRemovals.{absent, dropped_none, dropped_some, line_alone, transformer_alone, named_below, no_line, winding_below, winding_some}
 use Rattle.grid_structure.proofs.taking.drop_branch.Goals as goal
 
 pub returns-in-None-clause-dropped : goal.returns-in-None-clause-dropped

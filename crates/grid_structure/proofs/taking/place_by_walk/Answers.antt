@@ -1,5 +1,5 @@
 use Rattle.std.proofs.Common.{sym}
-use Rattle.grid_structure.proofs.Dropping.{named_found}
+use Rattle.grid_structure.proofs.BranchRemovals.{named_found}
 use Rattle.grid_structure.proofs.taking.place_by_walk.Goals as goal
 
 pub returns-in-Some : goal.returns-in-Some

@@ -1,5 +1,5 @@
 use Rattle.std.proofs.Common.{◌+◌, arith}
-use Rattle.grid_structure.proofs.Homed.{head_below}
+use Rattle.grid_structure.proofs.LevelHomes.{head_below}
 use Rattle.grid_structure.proofs.Windings.{many_part, many_rises}
 use Rattle.grid_structure.proofs.taking.place_in_home.Goals as goal
 

@@ -1,12 +1,12 @@
 use Rattle.std.proofs.Common.{◌≡◌, sym, ap, ◌∙◌, subst, ℕ, ◌<◌, length, map, get_or, Some, None}
 use Rattle.std.proofs.lemmas.List.{length-map}
 use Rattle.grid_level.specs.Passing.{nodes, positioned}
-use Rattle.grid_groups.proofs.Standing.{nodes-positioned}
+use Rattle.grid_groups.proofs.PassingEdges.{nodes-positioned}
 use Rattle.grid_busview.specs.declared.NodeBuses.{NodeBuses}
 use Rattle.grid_busview.specs.Views.{bus_leasts, bus_place, node_buses_of}
-use Rattle.grid_islands.proofs.Counting.{places_fit}
+use Rattle.grid_islands.proofs.LevelNumbers.{places_fit}
 use Rattle.grid_sums.specs.Sums.{sums_of}
-use Rattle.grid_sums.proofs.Feeding.{all_sums}
+use Rattle.grid_sums.proofs.BusSums.{all_sums}
 use Rattle.grid_sums.proofs.summing.level_buses.Goals as goal
 
 pub sum_buses-requires-clause-long : goal.sum_buses-requires-clause-long

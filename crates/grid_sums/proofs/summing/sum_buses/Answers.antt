@@ -13,12 +13,12 @@ use Rattle.grid_level.specs.Kept.{KeepsLimits}
 use Rattle.grid_powers.specs.Listed.{Listed}
 use Rattle.grid_graph.proofs.Reach.{In}
 use Rattle.grid_groups.proofs.Indices.{index_below}
-use Rattle.grid_groups.proofs.Placing.{placed_node}
+use Rattle.grid_groups.proofs.TerminalNodes.{placed_node}
 use Rattle.grid_busview.specs.Views.{Fed, watts_over}
 use Rattle.grid_watts.specs.Watts.{level_watts, watts_at}
 use Rattle.grid_unions.specs.declared.summed.Sums.{Sums}
 use Rattle.grid_sums.specs.Feeding.{no_sums, with_watts, place_of, sums_in}
-use Rattle.grid_sums.proofs.Feeding.{none_fed, one_fed}
+use Rattle.grid_sums.proofs.BusSums.{none_fed, one_fed}
 use Rattle.grid_sums.proofs.summing.sum_buses.Goals as goal
 
 pub loop-placed-init : goal.loop-placed-init

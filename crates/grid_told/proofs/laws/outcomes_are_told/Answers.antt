@@ -1,4 +1,4 @@
-use Rattle.grid_told.proofs.Telling.{outcomes_are_told}
+use Rattle.grid_told.proofs.EqualLines.{outcomes_are_told}
 use Rattle.grid_told.proofs.laws.outcomes_are_told.Goals as goal
 
 pub returns : goal.returns

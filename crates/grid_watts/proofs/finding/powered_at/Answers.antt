@@ -1,6 +1,6 @@
 use Rattle.std.proofs.Common.{◌≡◌, sym, ap, ◌∙◌, Some, None, cond}
 use Rattle.std.specs.Option.{option_map}
-use Rattle.grid_watts.proofs.Locating.{spot_below, at_spot}
+use Rattle.grid_watts.proofs.FirstSides.{spot_below, at_spot}
 use Rattle.grid_watts.proofs.Sites.{nowhere_at, found_at}
 use Rattle.grid_watts.proofs.finding.powered_at.Goals as goal
 

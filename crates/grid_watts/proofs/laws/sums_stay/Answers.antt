@@ -2,7 +2,7 @@ use Rattle.std.proofs.Common.{subst, refl}
 use Rattle.grid_structure.specs.declared.Edit.TheVariants as edits
 use Rattle.grid_watts.specs.Watts.{powered}
 use Rattle.grid_watts.specs.Ranges.{IsSummed}
-use Rattle.grid_watts.proofs.Keeping.{edit_summed, set_summed, injection_moved, removal_moved, leaving_moved, leaving_narrow}
+use Rattle.grid_watts.proofs.PowerSums.{edit_summed, set_summed, injection_moved, removal_moved, leaving_moved, leaving_narrow}
 use Rattle.grid_watts.proofs.laws.sums_stay.Goals as goal
 
 pub returns-clause-injections : goal.returns-clause-injections

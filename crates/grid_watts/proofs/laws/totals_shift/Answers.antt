@@ -6,9 +6,9 @@ use Rattle.grid_powers.specs.Listed.{Listed}
 use Rattle.grid_busview.specs.Views.{is_load, is_generation}
 use Rattle.grid_watts.specs.Watts.{total_over, load_total, generation_total}
 use Rattle.grid_watts.specs.Shares.{share}
-use Rattle.grid_watts.proofs.Summing.{whole, total_is}
-use Rattle.grid_watts.proofs.Owning.{share_is_part}
-use Rattle.grid_watts.proofs.Leaving.{edit_moves, set_moves}
+use Rattle.grid_watts.proofs.TerminalSums.{whole, total_is}
+use Rattle.grid_watts.proofs.EquipmentShares.{share_is_part}
+use Rattle.grid_watts.proofs.EquipmentShifts.{edit_moves, set_moves}
 use Rattle.grid_watts.proofs.laws.totals_shift.Goals as goal
 
 told : (test : Stand → Bool) (net new : Network) (listed more : Listed) (by : ℤ) → whole (share test) new more ≡ whole (share test) net listed +ℤ by → total_over test new more ≡ total_over test net listed +ℤ by

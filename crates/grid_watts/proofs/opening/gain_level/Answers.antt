@@ -3,7 +3,7 @@ use Rattle.std.proofs.lemmas.List.{take_all, take_more, length-append, append-ni
 use Rattle.grid_level.specs.declared.Placed.{Placed}
 use Rattle.grid_structure.specs.Sites.{levels}
 use Rattle.grid_watts.specs.Watts.{terminals_before}
-use Rattle.grid_watts.proofs.Summing.{all_placed}
+use Rattle.grid_watts.proofs.TerminalSums.{all_placed}
 use Rattle.grid_watts.proofs.Fronts.{IsFront, front_of, sums_of, front_more, front_room, part_long, part_more, short_take}
 use Rattle.grid_watts.proofs.opening.gain_level.Goals as goal
 

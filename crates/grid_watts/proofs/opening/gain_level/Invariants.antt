@@ -1,6 +1,6 @@
 use Rattle.std.proofs.Common.{take, ◌++◌}
 use Rattle.grid_structure.specs.Sites.{levels}
-use Rattle.grid_watts.proofs.Summing.{all_placed}
+use Rattle.grid_watts.proofs.TerminalSums.{all_placed}
 use Rattle.grid_watts.proofs.Fronts.{IsFront}
 use Rattle.grid_watts.proofs.opening.gain_level.Given as goal
 

@@ -5,7 +5,7 @@ use Rattle.grid_structure.specs.Sites.{levels}
 use Rattle.grid_powers.specs.Listed.{PowerList, opening_of}
 use Rattle.grid_watts.specs.Watts.{terminals_before, watts_sum}
 use Rattle.grid_watts.specs.Ranges.{HasSumsOf}
-use Rattle.grid_watts.proofs.Summing.{all_placed}
+use Rattle.grid_watts.proofs.TerminalSums.{all_placed}
 use Rattle.grid_watts.proofs.Fronts.{front_of, front_whole}
 use Rattle.grid_watts.proofs.opening.opening_powers.Goals as goal
 

@@ -2,7 +2,7 @@ use Rattle.std.proofs.Common.{rules, arith}
 use Rattle.std.proofs.lemmas.Int.{ints}
 use mir.Syntax.{w64}
 use mir.Val.{SFits}
-use Rattle.grid_watts.proofs.Rooming.{narrow_by}
+use Rattle.grid_watts.proofs.SumBounds.{narrow_by}
 use Rattle.grid_watts.proofs.rows.change_of.Goals as goal
 
 pub returns-clause-narrow : goal.returns-clause-narrow

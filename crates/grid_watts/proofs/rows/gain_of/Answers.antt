@@ -3,7 +3,7 @@ use Rattle.std.proofs.lemmas.Int.{ints}
 use mir.Syntax.{w64}
 use mir.Val.{SFits}
 use Rattle.grid_watts.specs.Ranges.{is_narrow}
-use Rattle.grid_watts.proofs.Rooming.{narrow_by}
+use Rattle.grid_watts.proofs.SumBounds.{narrow_by}
 use Rattle.grid_watts.proofs.rows.gain_of.Goals as goal
 
 pub returns-clause-narrow : goal.returns-clause-narrow

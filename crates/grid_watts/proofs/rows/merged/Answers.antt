@@ -2,7 +2,7 @@ use Rattle.std.proofs.Common.{ap, ◌∙◌, rules, drop, ◌+◌, ◌∷◌, []
 use Rattle.std.proofs.lemmas.Int.{to_z-of_z}
 use mir.Syntax.{w64}
 use mir.Val.{SFits}
-use Rattle.grid_watts.proofs.Reading.{read_none, rises_ahead, row_ahead, read_more, read_all}
+use Rattle.grid_watts.proofs.RowWatts.{read_none, rises_ahead, row_ahead, read_more, read_all}
 use Rattle.grid_watts.proofs.rows.merged.Goals as goal
 
 pub loop-placed-init : goal.loop-placed-init

@@ -3,7 +3,7 @@ use Rattle.std.proofs.lemmas.Bool.{eqb-true}
 use Rattle.std.specs.Prelude.{IfOk}
 use Rattle.grid_busview.specs.Views.{record_watts}
 use Rattle.grid_watts.proofs.Merges.{ended}
-use Rattle.grid_watts.proofs.Reading.{records_of_level}
+use Rattle.grid_watts.proofs.RowWatts.{records_of_level}
 use Rattle.grid_watts.proofs.rows.row_watts.Goals as goal
 
 pub returns-then-is_empty : goal.returns-then-is_empty

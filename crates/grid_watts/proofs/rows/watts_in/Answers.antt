@@ -5,8 +5,8 @@ use mir.Syntax.{w64}
 use mir.Val.{SFits}
 use Rattle.grid_states.specs.Pairs.{value_at}
 use Rattle.grid_states.specs.Rows.{pairs_at}
-use Rattle.grid_watts.proofs.Reading.{row_powered, row_unpowered}
-use Rattle.grid_watts.proofs.Rooming.{narrow_by}
+use Rattle.grid_watts.proofs.RowWatts.{row_powered, row_unpowered}
+use Rattle.grid_watts.proofs.SumBounds.{narrow_by}
 use Rattle.grid_watts.proofs.rows.watts_in.Goals as goal
 
 pub returns-then-is_powered-clause-watts : goal.returns-then-is_powered-clause-watts

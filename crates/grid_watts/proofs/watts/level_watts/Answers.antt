@@ -2,7 +2,7 @@ use Rattle.std.proofs.Common.{◌≡◌, subst, List, ℤ}
 use Rattle.std.specs.Prelude.{IfOk}
 use Rattle.grid_busview.specs.Views.{record_watts}
 use Rattle.grid_watts.specs.Watts.{level_watts}
-use Rattle.grid_watts.proofs.Recording.{records_stand}
+use Rattle.grid_watts.proofs.RecordWatts.{records_stand}
 use Rattle.grid_watts.proofs.watts.level_watts.Goals as goal
 
 pub returns-then-is_empty : goal.returns-then-is_empty

@@ -4,9 +4,9 @@ use Rattle.std.proofs.lemmas.Int.{ints, to_z-of_z}
 use mir.Syntax.{w64}
 use mir.Val.{SFits}
 use Rattle.grid_powers.specs.Listed.{value_in}
-use Rattle.grid_watts.proofs.Rooming.{narrow_by}
-use Rattle.grid_watts.proofs.Owning.{unpowered_watts}
-use Rattle.grid_watts.proofs.Recording.{powered_watts}
+use Rattle.grid_watts.proofs.SumBounds.{narrow_by}
+use Rattle.grid_watts.proofs.EquipmentShares.{unpowered_watts}
+use Rattle.grid_watts.proofs.RecordWatts.{powered_watts}
 use Rattle.grid_watts.proofs.watts.watts_for.Goals as goal
 
 pub returns-then-is_powered-clause-watts : goal.returns-then-is_powered-clause-watts

@@ -1,5 +1,5 @@
 use Rattle.std.proofs.Common.{arith}
-use Rattle.grid_workers.proofs.Finishing.{finishes_none}
+use Rattle.grid_workers.proofs.ScriptRuns.{finishes_none}
 use Rattle.grid_workers.proofs.finished.run_scripts.Goals as goal
 
 pub returns-then-workers-eq0 : goal.returns-then-workers-eq0

@@ -2,7 +2,7 @@ use Rattle.std.proofs.Common.{◌≡◌, refl, sym, ap, ◌∙◌, subst, Some, 
 use Rattle.std.proofs.lemmas.List.{set-get_or}
 use Rattle.std.specs.Prelude.{slice_set, IsSome}
 use Rattle.grid_bench.specs.Stores.{Store, store, kept_for, IsStore}
-use Rattle.grid_bench.proofs.Storing.{found}
+use Rattle.grid_bench.proofs.StoreChanges.{found}
 use Rattle.grid_bench.proofs.bench.Bench.show.Goals as goal
 use Rattle.grid_bench.proofs.bench.Bench.show.Goals.{After-index_mut, After-show}
 

@@ -1,5 +1,5 @@
 use Rattle.std.proofs.Common.{ap, ◌∙◌}
-use Rattle.grid_bench.proofs.Showing.{view_in}
+use Rattle.grid_bench.proofs.EqualViews.{view_in}
 use Rattle.grid_bench.proofs.bench.Bench.shown_or_made.Goals as goal
 
 pub show-requires : goal.show-requires

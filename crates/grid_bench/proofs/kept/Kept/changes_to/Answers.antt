@@ -4,7 +4,7 @@ use Rattle.grid_level.specs.VoltageLevel.{VoltageLevel}
 use Rattle.grid_bench.specs.Ends.{SameEnds}
 use Rattle.grid_bench.specs.Contents.{Content, content}
 use Rattle.grid_bench.specs.Costs.{differs_at, count_changes, most_followed, CanFollow}
-use Rattle.grid_bench.proofs.Costing.{can_of_few, can_where_same}
+use Rattle.grid_bench.proofs.VisitBounds.{can_of_few, can_where_same}
 use Rattle.grid_bench.proofs.kept.Kept.changes_to.Goals as goal
 
 pub returns-then-changes-le2-clause-can : goal.returns-then-changes-le2-clause-can

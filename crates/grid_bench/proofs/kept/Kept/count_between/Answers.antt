@@ -1,7 +1,7 @@
 use Rattle.std.proofs.Common.{ℕ, Bool, arith}
 use Rattle.grid_bench.specs.Contents.{content}
 use Rattle.grid_bench.specs.Costs.{differs_at}
-use Rattle.grid_bench.proofs.Counted.{counted_step, one_within}
+use Rattle.grid_bench.proofs.PlaceCounts.{counted_step, one_within}
 use Rattle.grid_bench.proofs.kept.Kept.count_between.Goals as goal
 
 pub loop-place-preserved : goal.loop-place-preserved

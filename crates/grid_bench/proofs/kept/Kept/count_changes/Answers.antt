@@ -1,7 +1,7 @@
 use Rattle.std.proofs.Common.{◌≡◌, ap, ◌∙◌, ℕ, Bool, length, arith}
 use Rattle.grid_bench.specs.Contents.{Content, content}
 use Rattle.grid_bench.specs.Costs.{differs_at, count_before, count_changes}
-use Rattle.grid_bench.proofs.Counted.{counted_none, counted_within}
+use Rattle.grid_bench.proofs.PlaceCounts.{counted_none, counted_within}
 use Rattle.grid_bench.proofs.kept.Kept.count_changes.Goals as goal
 
 pub loop-start-init : goal.loop-start-init

@@ -1,7 +1,7 @@
 use Rattle.std.proofs.Common.{sym, ◌∙◌, ℕ, Bool}
 use Rattle.grid_bench.specs.Contents.{content}
 use Rattle.grid_bench.specs.Costs.{differs_at, count_before}
-use Rattle.grid_bench.proofs.Counted.{counted_no}
+use Rattle.grid_bench.proofs.PlaceCounts.{counted_no}
 use Rattle.grid_bench.proofs.kept.Kept.next_change.Goals as goal
 
 pub loop-place-preserved : goal.loop-place-preserved

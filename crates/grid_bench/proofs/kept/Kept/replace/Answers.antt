@@ -4,7 +4,7 @@ use Rattle.grid_bench.specs.Contents.{Content}
 use Rattle.grid_bench.specs.Ends.{SameEnds}
 use Rattle.grid_bench.specs.Shown.{LookSame}
 use Rattle.grid_bench.proofs.Alike.{kept_as}
-use Rattle.grid_bench.proofs.Showing.{shown_as}
+use Rattle.grid_bench.proofs.EqualViews.{shown_as}
 use Rattle.grid_bench.proofs.kept.Kept.replace.Goals as goal
 
 look_as : (level other got given : VoltageLevel) (stays : Bool) → got ≡ level → given ≡ other → (IsTrue stays → LookSame got given) → IsTrue stays → LookSame level other

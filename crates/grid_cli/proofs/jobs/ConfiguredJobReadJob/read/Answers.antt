@@ -1,4 +1,4 @@
-use Rattle.grid_cli.proofs.Scheduled.{configured_runnable}
+use Rattle.grid_cli.proofs.JobSchedules.{configured_runnable}
 use Rattle.grid_cli.proofs.jobs.ConfiguredJobReadJob.read.Goals as goal
 
 pub returns-clause-ready : goal.returns-clause-ready

@@ -1,4 +1,4 @@
-use Rattle.grid_cli.proofs.Scheduled.{hvdc_known_scheduled}
+use Rattle.grid_cli.proofs.JobSchedules.{hvdc_known_scheduled}
 use Rattle.grid_cli.proofs.jobs.HvdcJobReadJob.read.Goals as goal
 
 pub returns-clause-ready : goal.returns-clause-ready

@@ -1,4 +1,4 @@
-use Rattle.grid_cli.proofs.Scheduled.{job_counted}
+use Rattle.grid_cli.proofs.JobSchedules.{job_counted}
 use Rattle.grid_cli.proofs.jobs.JobReadJob.read.Goals as goal
 
 pub returns-clause-ready : goal.returns-clause-ready

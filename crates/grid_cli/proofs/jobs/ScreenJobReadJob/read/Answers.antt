@@ -1,4 +1,4 @@
-use Rattle.grid_cli.proofs.Scheduled.{screen_known_scheduled}
+use Rattle.grid_cli.proofs.JobSchedules.{screen_known_scheduled}
 use Rattle.grid_cli.proofs.jobs.ScreenJobReadJob.read.Goals as goal
 
 pub returns-clause-ready : goal.returns-clause-ready

@@ -1,6 +1,6 @@
 use Rattle.std.specs.Prelude.{codes, decimal}
 use Rattle.grid_cli.specs.Trials.{trial_head, trial_line}
-use Rattle.grid_cli.proofs.Trialled.{parts_put}
+use Rattle.grid_cli.proofs.MadeJobs.{parts_put}
 use Rattle.grid_cli.proofs.trial.TrialShown.show.Goals as goal
 
 pub returns-clause-ok : goal.returns-clause-ok

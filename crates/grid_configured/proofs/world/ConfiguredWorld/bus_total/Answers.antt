@@ -1,6 +1,6 @@
 use Rattle.std.proofs.Common.{sym, ap, ◌∙◌, length}
 use Rattle.grid_configured.specs.Histories.{ConfiguredHistory}
-use Rattle.grid_configured.proofs.Running.{total_of}
+use Rattle.grid_configured.proofs.WorldReadings.{total_of}
 use Rattle.grid_configured.proofs.world.ConfiguredWorld.bus_total.Goals as goal
 
 pub returns : goal.returns

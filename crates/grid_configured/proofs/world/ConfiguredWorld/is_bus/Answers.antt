@@ -1,4 +1,4 @@
-use Rattle.grid_configured.proofs.Running.{some_inside, some_bus, none_bus}
+use Rattle.grid_configured.proofs.WorldReadings.{some_inside, some_bus, none_bus}
 use Rattle.grid_configured.proofs.world.ConfiguredWorld.is_bus.Goals as goal
 
 pub bus_total-requires : goal.bus_total-requires

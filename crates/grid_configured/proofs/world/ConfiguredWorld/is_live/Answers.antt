@@ -1,5 +1,5 @@
 use Rattle.std.proofs.Common.{sym, true, false}
-use Rattle.grid_configured.proofs.Running.{worker_lives}
+use Rattle.grid_configured.proofs.WorldReadings.{worker_lives}
 use Rattle.grid_configured.proofs.world.ConfiguredWorld.is_live.Goals as goal
 
 pub returns-in-Some : goal.returns-in-Some

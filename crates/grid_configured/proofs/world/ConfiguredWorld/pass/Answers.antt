@@ -1,5 +1,5 @@
 use Rattle.std.proofs.Common.{◌∙◌}
-use Rattle.grid_configured.proofs.Running.{worker_told, passed_parts}
+use Rattle.grid_configured.proofs.WorldReadings.{worker_told, passed_parts}
 use Rattle.grid_configured.proofs.world.ConfiguredWorld.pass.Goals as goal
 
 pub returns-clause-reply : goal.returns-clause-reply

@@ -1,6 +1,6 @@
 use Rattle.std.proofs.Common.{ap, ◌∙◌, cond}
 use Rattle.grid_configured.specs.Told.{bus_refusal}
-use Rattle.grid_configured.proofs.Running.{worker_plugged, asked_parts}
+use Rattle.grid_configured.proofs.WorldReadings.{worker_plugged, asked_parts}
 use Rattle.grid_configured.proofs.world.ConfiguredWorld.plug.Goals as goal
 
 pub returns-clause-reply : goal.returns-clause-reply

@@ -2,7 +2,7 @@ use Rattle.std.proofs.Common.{sym, ap, ◌∙◌}
 use Rattle.grid_states.specs.Rows.{Rows}
 use Rattle.grid_structure.specs.Sites as sites
 use Rattle.grid_core.specs.Worlds.{worker_state}
-use Rattle.grid_configured.proofs.Running.{now_structure, level_outside, worker_alive, rows_fit, worker_view, worker_dead, worker_lost}
+use Rattle.grid_configured.proofs.WorldReadings.{now_structure, level_outside, worker_alive, rows_fit, worker_view, worker_dead, worker_lost}
 use Rattle.grid_configured.proofs.world.ConfiguredWorld.reply_view.Goals as goal
 
 pub returns-then-not-is_live : goal.returns-then-not-is_live

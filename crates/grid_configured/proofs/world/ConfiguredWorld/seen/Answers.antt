@@ -5,8 +5,8 @@ use Rattle.grid_configured.specs.Viewed.{told_view, seen_at}
 use Rattle.grid_busview.specs.Views.{record_watts}
 use Rattle.grid_structure.specs.Network.{Network}
 use Rattle.grid_core.specs.Fitting.{RowsFit}
-use Rattle.grid_core.proofs.Looking.{fits_at}
-use Rattle.grid_configured.proofs.Running.{now_structure, level_inside, seen_level}
+use Rattle.grid_core.proofs.VariantViews.{fits_at}
+use Rattle.grid_configured.proofs.WorldReadings.{now_structure, level_inside, seen_level}
 use Rattle.grid_configured.proofs.world.ConfiguredWorld.seen.Goals as goal
 
 pub level-level-requires : goal.level-level-requires

@@ -4,7 +4,7 @@ use Rattle.grid_states.specs.Rows.{Rows}
 use Rattle.grid_core.specs.Replies.{state_of}
 use Rattle.grid_configured.specs.Viewed.{seen_at}
 use Rattle.grid_configured.specs.Histories as configured
-use Rattle.grid_configured.proofs.Running.{rows_fit, named_view}
+use Rattle.grid_configured.proofs.WorldReadings.{rows_fit, named_view}
 use Rattle.grid_configured.proofs.world.ConfiguredWorld.view.Goals as goal
 
 pub seen-requires-clause-rows : goal.seen-requires-clause-rows

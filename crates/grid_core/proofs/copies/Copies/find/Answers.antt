@@ -1,6 +1,6 @@
 use Rattle.std.proofs.Common.{ap, ◌∙◌}
 use Rattle.grid_core.specs.Copied.{copy_at}
-use Rattle.grid_core.proofs.Sharing.{found_at}
+use Rattle.grid_core.proofs.LevelCopies.{found_at}
 use Rattle.grid_core.proofs.copies.Copies.find.Goals as goal
 
 pub returns : goal.returns

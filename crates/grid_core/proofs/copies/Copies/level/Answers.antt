@@ -2,7 +2,7 @@ use Rattle.std.proofs.Common.{◌≡◌, sym, ap, ◌∙◌}
 use Rattle.std.proofs.lemmas.Result.{IfOk-weaker}
 use Rattle.std.specs.Prelude.{slice_get, Some}
 use Rattle.grid_structure.specs.Sites.{levels}
-use Rattle.grid_core.proofs.Sharing.{copies_with}
+use Rattle.grid_core.proofs.LevelCopies.{copies_with}
 use Rattle.grid_core.proofs.copies.Copies.level.Goals as goal
 
 pub returns-in-Some-clause-level : goal.returns-in-Some-clause-level

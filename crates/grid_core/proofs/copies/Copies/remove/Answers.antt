@@ -1,6 +1,6 @@
 use Rattle.std.proofs.Common.{subst, None}
 use Rattle.grid_core.specs.Copied.{Copied, Puts}
-use Rattle.grid_core.proofs.Sharing.{put_at}
+use Rattle.grid_core.proofs.LevelCopies.{put_at}
 use Rattle.grid_core.proofs.copies.Copies.remove.Goals as goal
 
 pub returns : goal.returns

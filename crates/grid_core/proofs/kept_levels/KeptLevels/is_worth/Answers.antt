@@ -1,5 +1,5 @@
 use Rattle.std.proofs.Common.{ap, ◌∙◌, length}
-use Rattle.grid_core.proofs.Looking.{fits_at}
+use Rattle.grid_core.proofs.VariantViews.{fits_at}
 use Rattle.grid_core.proofs.kept_levels.KeptLevels.is_worth.Goals as goal
 
 pub opened_row-requires : goal.opened_row-requires

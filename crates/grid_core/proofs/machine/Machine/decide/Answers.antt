@@ -1,6 +1,6 @@
 use Rattle.std.proofs.Common.{refl}
-use Rattle.grid_core.proofs.Flagging.{stands_slot}
-use Rattle.grid_core.proofs.Carrying.{rows_fit, rows_listed, found_decides}
+use Rattle.grid_core.proofs.VariantSteps.{stands_slot}
+use Rattle.grid_core.proofs.VerdictSteps.{rows_fit, rows_listed, found_decides}
 use Rattle.grid_core.proofs.BySlot.{lent_so, given_back_so}
 use Rattle.grid_core.proofs.machine.Machine.decide.Goals as goal
 

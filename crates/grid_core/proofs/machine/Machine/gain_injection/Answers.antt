@@ -6,8 +6,8 @@ use Rattle.grid_slots.specs.Variants.{all_changed}
 use Rattle.grid_watts.specs.Nodes.{gain}
 use Rattle.grid_core.specs.declared.reply.Reply.TheVariants.{Done}
 use Rattle.grid_core.specs.Made.{made_of}
-use Rattle.grid_core.proofs.Making.{each_ok}
-use Rattle.grid_core.proofs.Reshaping.{all_room, edit_made, edit_refused, gains_injection}
+use Rattle.grid_core.proofs.MachineSteps.{each_ok}
+use Rattle.grid_core.proofs.MachineEdits.{all_room, edit_made, edit_refused, gains_injection}
 use Rattle.grid_core.proofs.machine.Machine.gain_injection.Goals as goal
 
 pub shift_all-requires-clause-room : goal.shift_all-requires-clause-room

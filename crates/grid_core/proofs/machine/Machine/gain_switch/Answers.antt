@@ -2,9 +2,9 @@ use Rattle.std.proofs.Common.{refl, ap, ◌∙◌}
 use Rattle.grid_lemmas.proofs.Results.{on_err}
 use Rattle.grid_core.specs.declared.reply.Reply.TheVariants.{Done}
 use Rattle.grid_core.specs.Made.{made_of}
-use Rattle.grid_core.proofs.Making.{each_ok}
-use Rattle.grid_core.proofs.Reshaping.{level_rows, edit_made, edit_refused}
-use Rattle.grid_core.proofs.Undoing.{switch_added, switch_undone}
+use Rattle.grid_core.proofs.MachineSteps.{each_ok}
+use Rattle.grid_core.proofs.MachineEdits.{level_rows, edit_made, edit_refused}
+use Rattle.grid_core.proofs.Removals.{switch_added, switch_undone}
 use Rattle.grid_core.proofs.machine.Machine.gain_switch.Goals as goal
 
 pub gain_switch-requires : goal.gain_switch-requires

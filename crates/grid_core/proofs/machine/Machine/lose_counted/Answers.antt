@@ -4,7 +4,7 @@ use Rattle.grid_events.specs.declared.event.Event.TheVariants.{Removed}
 use Rattle.grid_core.specs.declared.reply.Reply.TheVariants.{Done}
 use Rattle.grid_core.specs.Replies.{edit_events}
 use Rattle.grid_core.specs.Made.{made_of}
-use Rattle.grid_core.proofs.Reshaping.{all_room, level_rows, edit_made, loses_counted, counted_there, counted_level}
+use Rattle.grid_core.proofs.MachineEdits.{all_room, level_rows, edit_made, loses_counted, counted_there, counted_level}
 use Rattle.grid_core.proofs.machine.Machine.lose_counted.Goals as goal
 
 pub lose_terminal-requires-clause-level : goal.lose_terminal-requires-clause-level

@@ -4,9 +4,9 @@ use Rattle.grid_events.specs.declared.event.Event.TheVariants.{Removed}
 use Rattle.grid_core.specs.declared.reply.Reply.TheVariants.{Done}
 use Rattle.grid_core.specs.Replies.{edit_events}
 use Rattle.grid_core.specs.Made.{made_of}
-use Rattle.grid_core.proofs.Reshaping.{switch_levels, switch_opened, switch_retained, edit_made, loses_switch}
-use Rattle.grid_core.proofs.Making.{present_sound}
-use Rattle.grid_core.proofs.Undoing.{has_switch}
+use Rattle.grid_core.proofs.MachineEdits.{switch_levels, switch_opened, switch_retained, edit_made, loses_switch}
+use Rattle.grid_core.proofs.MachineSteps.{present_sound}
+use Rattle.grid_core.proofs.Removals.{has_switch}
 use Rattle.grid_core.proofs.machine.Machine.lose_switch.Goals as goal
 
 pub lose_switch-requires-clause-level : goal.lose_switch-requires-clause-level

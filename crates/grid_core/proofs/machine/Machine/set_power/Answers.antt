@@ -9,9 +9,9 @@ use Rattle.grid_slots.specs.Variants.{changed}
 use Rattle.grid_watts.specs.Ranges.{is_narrow}
 use Rattle.grid_watts.specs.Nodes.{row_watts_at, change}
 use Rattle.grid_requests.specs.declared.request.Request.TheVariants as requests
-use Rattle.grid_core.proofs.Making.{each_ok, present_sound}
-use Rattle.grid_core.proofs.Flagging.{of_variant, stands_slot, flagged, dead_made}
-use Rattle.grid_core.proofs.Setting.{unpowered, level_in_rows, slot_room, set_nowhere, set_none, set_same, set_made, sides_there, sides_nowhere}
+use Rattle.grid_core.proofs.MachineSteps.{each_ok, present_sound}
+use Rattle.grid_core.proofs.VariantSteps.{of_variant, stands_slot, flagged, dead_made}
+use Rattle.grid_core.proofs.PowerRequests.{unpowered, level_in_rows, slot_room, set_nowhere, set_none, set_same, set_made, sides_there, sides_nowhere}
 use Rattle.grid_core.proofs.machine.Machine.set_power.Goals as goal
 
 pub returns-in-None-clause-made : goal.returns-in-None-clause-made

@@ -1,7 +1,7 @@
 use Rattle.std.proofs.Common.{subst}
 use Rattle.grid_structure.specs.Soundness.{IsSound}
 use Rattle.grid_core.specs.History.{History, IsHistory}
-use Rattle.grid_core.proofs.Presenting.{all_listing}
+use Rattle.grid_core.proofs.WorldVariants.{all_listing}
 use Rattle.grid_core.proofs.world.World.keeps.Goals as goal
 
 pub returns-clause-origin : goal.returns-clause-origin

@@ -1,4 +1,4 @@
-use Rattle.grid_core.proofs.Presenting.{matched}
+use Rattle.grid_core.proofs.WorldVariants.{matched}
 use Rattle.grid_core.proofs.world.World.slot_in.Goals as goal
 
 pub returns : goal.returns

@@ -1,5 +1,5 @@
-use Rattle.grid_core.proofs.Flagging.{stands_slot}
-use Rattle.grid_core.proofs.Presenting.{contradicts, rows_are, structure_is, fits}
+use Rattle.grid_core.proofs.VariantSteps.{stands_slot}
+use Rattle.grid_core.proofs.WorldVariants.{contradicts, rows_are, structure_is, fits}
 use Rattle.grid_core.proofs.world.World.states_in.Goals as goal
 
 pub states-requires : goal.states-requires

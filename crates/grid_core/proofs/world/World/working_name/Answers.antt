@@ -1,4 +1,4 @@
-use Rattle.grid_core.proofs.Presenting.{named}
+use Rattle.grid_core.proofs.WorldVariants.{named}
 use Rattle.grid_core.proofs.world.World.working_name.Goals as goal
 
 pub returns : goal.returns

@@ -1,6 +1,6 @@
 use Rattle.std.proofs.Common.{refl, ap, ◌∙◌, arith, map, length}
 use Rattle.grid_events.specs.Hearing.{hearings, first_told, after_event}
-use Rattle.grid_events.proofs.Telling.{told_more, told_same, told_all, hearings_long}
+use Rattle.grid_events.proofs.ListenerEvents.{told_more, told_same, told_all, hearings_long}
 use Rattle.grid_events.proofs.listener.Subscriptions.hear.Goals as goal
 
 pub loop-place-init : goal.loop-place-init

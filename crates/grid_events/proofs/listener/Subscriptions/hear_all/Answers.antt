@@ -1,6 +1,6 @@
 use Rattle.std.proofs.Common.{sym, ap, ◌∙◌, map, take, drop, suc}
 use Rattle.grid_events.specs.Hearing.{hearings, after_event, after_events}
-use Rattle.grid_events.proofs.Telling.{none_told, told_next_event, cut_at, one_more}
+use Rattle.grid_events.proofs.ListenerEvents.{none_told, told_next_event, cut_at, one_more}
 use Rattle.grid_events.proofs.listener.Subscriptions.hear_all.Goals as goal
 
 pub loop-event-init : goal.loop-event-init

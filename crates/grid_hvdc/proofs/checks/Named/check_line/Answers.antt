@@ -1,4 +1,4 @@
-use Rattle.grid_hvdc.proofs.Checking.{line_last, stations_known}
+use Rattle.grid_hvdc.proofs.LineChecks.{line_last, stations_known}
 use Rattle.grid_hvdc.proofs.checks.Named.check_line.Goals as goal
 
 pub returns-clause-check : goal.returns-clause-check

@@ -10,7 +10,7 @@ use Rattle.grid_graph.specs.Components.{component_numbers}
 use Rattle.grid_components.specs.Ranks.{is_key}
 use Rattle.grid_islands.specs.declared.components.Numbers.{Numbers}
 use Rattle.grid_islands.specs.Numbering.{buses_before, listed, AreNumbers, IsOwn}
-use Rattle.grid_islands.proofs.Assembling.{level_exists, level_inside, listed_as, numbers_long, numbers_below, firsts_counted, first_counted, numbers_joined, total, joining}
+use Rattle.grid_islands.proofs.LevelComponents.{level_exists, level_inside, listed_as, numbers_long, numbers_below, firsts_counted, first_counted, numbers_joined, total, joining}
 use Rattle.grid_islands.proofs.components.Numbers.list_level.Goals as goal
 
 pub index-requires : goal.index-requires

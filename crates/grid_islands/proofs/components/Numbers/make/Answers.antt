@@ -5,7 +5,7 @@ use Rattle.grid_components.specs.Ranks.{is_key}
 use Rattle.grid_islands.specs.declared.numbering.Counts.{Counts}
 use Rattle.grid_structure.specs.Sites.{levels}
 use Rattle.grid_islands.specs.Numbering.{buses_before, counts_before}
-use Rattle.grid_islands.proofs.Assembling.{numbers_long, numbers_below, counts_total, ends_counted, numbers_counted}
+use Rattle.grid_islands.proofs.LevelComponents.{numbers_long, numbers_below, counts_total, ends_counted, numbers_counted}
 use Rattle.grid_islands.proofs.components.Numbers.make.Goals as goal
 
 pub components-requires : goal.components-requires

@@ -5,8 +5,8 @@ use Rattle.grid_structure.specs.Sites.{levels}
 use Rattle.grid_busview.specs.Views.{bus_leasts, node_buses_of}
 use Rattle.grid_islands.specs.Numbering.{standing, counts_before, with_count}
 use Rattle.grid_islands.specs.Kept.{kept_of}
-use Rattle.grid_islands.proofs.Assembling.{level_exists}
-use Rattle.grid_islands.proofs.Counting.{counts_none, counts_more}
+use Rattle.grid_islands.proofs.LevelComponents.{level_exists}
+use Rattle.grid_islands.proofs.LevelNumbers.{counts_none, counts_more}
 use Rattle.grid_islands.proofs.kept.KeptBuses.count.Goals as goal
 
 pub loop-place-init : goal.loop-place-init

@@ -7,8 +7,8 @@ use Rattle.grid_islands.specs.declared.kept.KeptBuses.{KeptBuses}
 use Rattle.grid_islands.specs.Numbering.{numbered_pairs, counts_before, IsCounted}
 use Rattle.grid_islands.specs.Kept.{AreKept}
 use Rattle.grid_islands.specs.Spots.{network_spots, pairs_of_spots}
-use Rattle.grid_islands.proofs.Following.{still_kept}
-use Rattle.grid_islands.proofs.Spotting.{pairs_as, numbers_fit}
+use Rattle.grid_islands.proofs.KeptLevels.{still_kept}
+use Rattle.grid_islands.proofs.SpotNumbers.{pairs_as, numbers_fit}
 use Rattle.grid_islands.proofs.kept.KeptBuses.find_numbers.Goals as goal
 
 pub count-requires : goal.count-requires

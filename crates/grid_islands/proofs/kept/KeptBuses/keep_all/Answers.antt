@@ -1,7 +1,7 @@
 use Rattle.std.proofs.Common.{arith}
 use Rattle.std.proofs.lemmas.Option.{slice_get_within}
 use Rattle.grid_islands.specs.Kept.{kept_of}
-use Rattle.grid_islands.proofs.Following.{still_made, more_kept}
+use Rattle.grid_islands.proofs.KeptLevels.{still_made, more_kept}
 use Rattle.grid_islands.proofs.kept.KeptBuses.keep_all.Goals as goal
 
 pub loop-place-init : goal.loop-place-init

@@ -8,8 +8,8 @@ use Rattle.grid_busview.specs.Views.{node_buses_of}
 use Rattle.grid_islands.specs.Islands.{level_components}
 use Rattle.grid_islands.specs.Numbering.{AreNumbers, IsOwn}
 use Rattle.grid_islands.specs.Kept.{kept_of}
-use Rattle.grid_islands.proofs.Assembling.{level_exists}
-use Rattle.grid_islands.proofs.Following.{still_kept, own_kept, numbers_are}
+use Rattle.grid_islands.proofs.LevelComponents.{level_exists}
+use Rattle.grid_islands.proofs.KeptLevels.{still_kept, own_kept, numbers_are}
 use Rattle.grid_islands.proofs.kept.KeptBuses.list_level.Goals as goal
 use Rattle.grid_islands.proofs.kept.KeptBuses.list_level.Goals.{After-slice}
 

@@ -2,7 +2,7 @@ use Rattle.std.proofs.Common.{refl, sym, ◌∙◌}
 use Rattle.std.specs.Prelude.{codes}
 use Rattle.grid_json.specs.Kinds.{injection_kind_at}
 use Rattle.grid_json.specs.Slots.{InjectionKindHolds, injection_kind_names}
-use Rattle.grid_json.proofs.Filling.{offered}
+use Rattle.grid_json.proofs.MemberSlots.{offered}
 use Rattle.grid_json.proofs.injections.InjectionKindSlotSlots.take.Goals as goal
 
 pub returns-then-is_named : goal.returns-then-is_named

@@ -1,7 +1,7 @@
 use Rattle.std.proofs.Common.{rules}
 use Rattle.serde_json.specs.Data.{object}
 use Rattle.grid_json.specs.Network.{internal_at}
-use Rattle.grid_json.proofs.Filling.{filled_is}
+use Rattle.grid_json.proofs.MemberSlots.{filled_is}
 use Rattle.grid_json.proofs.slots.InternalDraftFromTokens.from_tokens.Goals as goal
 
 pub returns-clause-read : goal.returns-clause-read

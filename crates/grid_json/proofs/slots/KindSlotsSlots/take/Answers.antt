@@ -4,7 +4,7 @@ use Rattle.grid_json.specs.Reading.{id_at}
 use Rattle.grid_json.specs.Kinds.{switch_kind_at}
 use Rattle.grid_json.specs.Kept.{kept}
 use Rattle.grid_json.specs.Slots.{KindHolds, kind_names}
-use Rattle.grid_json.proofs.Filling.{offered}
+use Rattle.grid_json.proofs.MemberSlots.{offered}
 use Rattle.grid_json.proofs.slots.KindSlotsSlots.take.Goals as goal
 
 pub returns-then-is_named : goal.returns-then-is_named

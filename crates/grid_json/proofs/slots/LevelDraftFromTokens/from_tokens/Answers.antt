@@ -3,7 +3,7 @@ use Rattle.std.specs.Prelude.{codes}
 use Rattle.serde_json.specs.Data.{object}
 use Rattle.grid_json.specs.Reading.{array_at}
 use Rattle.grid_json.specs.Network.{busbar_at, injection_at, internal_at, level_at, level_members_at, switch_at}
-use Rattle.grid_json.proofs.Filling.{filled_is, member_or_is}
+use Rattle.grid_json.proofs.MemberSlots.{filled_is, member_or_is}
 use Rattle.grid_json.proofs.slots.LevelDraftFromTokens.from_tokens.Goals as goal
 
 pub returns-clause-read : goal.returns-clause-read

@@ -4,7 +4,7 @@ use Rattle.grid_json.specs.Reading.{id_at}
 use Rattle.grid_json.specs.Network.{end_draft_at, two_at}
 use Rattle.grid_json.specs.Kept.{kept}
 use Rattle.grid_json.specs.Slots.{LineHolds, line_names}
-use Rattle.grid_json.proofs.Filling.{offered}
+use Rattle.grid_json.proofs.MemberSlots.{offered}
 use Rattle.grid_json.proofs.slots.LineSlotsSlots.take.Goals as goal
 
 pub returns-then-is_named : goal.returns-then-is_named

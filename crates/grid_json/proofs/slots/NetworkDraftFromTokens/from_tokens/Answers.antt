@@ -4,7 +4,7 @@ use Rattle.serde_json.specs.Data.{object}
 use Rattle.grid_json.specs.Reading.{id_at, array_at}
 use Rattle.grid_json.specs.Network.{line_at, network_at, substation_at}
 use Rattle.grid_json.specs.Streams.{Holds}
-use Rattle.grid_json.proofs.Filling.{member_is, member_or_is}
+use Rattle.grid_json.proofs.MemberSlots.{member_is, member_or_is}
 use Rattle.grid_json.proofs.slots.NetworkDraftFromTokens.from_tokens.Goals as goal
 
 pub returns-clause-read : goal.returns-clause-read

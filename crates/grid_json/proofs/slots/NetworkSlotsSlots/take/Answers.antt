@@ -4,7 +4,7 @@ use Rattle.grid_json.specs.Reading.{array_at, id_at}
 use Rattle.grid_json.specs.Network.{line_at, substation_at}
 use Rattle.grid_json.specs.Kept.{kept}
 use Rattle.grid_json.specs.Slots.{NetworkHolds, network_names}
-use Rattle.grid_json.proofs.Filling.{offered}
+use Rattle.grid_json.proofs.MemberSlots.{offered}
 use Rattle.grid_json.proofs.slots.NetworkSlotsSlots.take.Goals as goal
 
 pub returns-then-is_named : goal.returns-then-is_named

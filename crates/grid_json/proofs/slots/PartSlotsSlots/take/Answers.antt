@@ -4,7 +4,7 @@ use Rattle.grid_json.specs.Reading.{array_at}
 use Rattle.grid_json.specs.Network.{busbar_at, injection_at, internal_at, switch_at}
 use Rattle.grid_json.specs.Kept.{kept}
 use Rattle.grid_json.specs.Slots.{PartHolds, part_names}
-use Rattle.grid_json.proofs.Filling.{offered}
+use Rattle.grid_json.proofs.MemberSlots.{offered}
 use Rattle.grid_json.proofs.slots.PartSlotsSlots.take.Goals as goal
 
 pub returns-then-is_named : goal.returns-then-is_named

@@ -1,4 +1,4 @@
-use Rattle.grid_json.proofs.Filling.{vacant}
+use Rattle.grid_json.proofs.MemberSlots.{vacant}
 use Rattle.grid_json.proofs.slots.PlaceSlotsSlots.empty.Goals as goal
 
 pub returns : goal.returns

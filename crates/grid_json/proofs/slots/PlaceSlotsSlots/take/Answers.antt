@@ -3,7 +3,7 @@ use Rattle.std.specs.Prelude.{codes}
 use Rattle.grid_json.specs.Reading.{id_at, whole_at}
 use Rattle.grid_json.specs.Kept.{kept}
 use Rattle.grid_json.specs.Slots.{PlaceHolds, place_names}
-use Rattle.grid_json.proofs.Filling.{offered}
+use Rattle.grid_json.proofs.MemberSlots.{offered}
 use Rattle.grid_json.proofs.slots.PlaceSlotsSlots.take.Goals as goal
 
 pub returns-then-is_named : goal.returns-then-is_named

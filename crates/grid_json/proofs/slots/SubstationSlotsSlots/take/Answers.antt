@@ -4,7 +4,7 @@ use Rattle.grid_json.specs.Reading.{array_at, id_at}
 use Rattle.grid_json.specs.Network.{any_level_at, transformer_at}
 use Rattle.grid_json.specs.Kept.{kept}
 use Rattle.grid_json.specs.Slots.{SubstationHolds, substation_names}
-use Rattle.grid_json.proofs.Filling.{offered}
+use Rattle.grid_json.proofs.MemberSlots.{offered}
 use Rattle.grid_json.proofs.slots.SubstationSlotsSlots.take.Goals as goal
 
 pub returns-then-is_named : goal.returns-then-is_named

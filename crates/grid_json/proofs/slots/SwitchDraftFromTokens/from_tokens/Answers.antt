@@ -3,7 +3,7 @@ use Rattle.std.specs.Prelude.{codes}
 use Rattle.serde_json.specs.Data.{object}
 use Rattle.grid_json.specs.Reading.{flag_at}
 use Rattle.grid_json.specs.Network.{switch_at}
-use Rattle.grid_json.proofs.Filling.{filled_is, member_or_is}
+use Rattle.grid_json.proofs.MemberSlots.{filled_is, member_or_is}
 use Rattle.grid_json.proofs.slots.SwitchDraftFromTokens.from_tokens.Goals as goal
 
 pub returns-clause-read : goal.returns-clause-read

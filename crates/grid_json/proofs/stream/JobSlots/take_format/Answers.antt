@@ -3,7 +3,7 @@ use Rattle.std.specs.Prelude.{codes}
 use Rattle.grid_json.specs.Job.{format_at}
 use Rattle.grid_json.specs.Kept.{kept}
 use Rattle.grid_json.specs.Slots.{JobHolds}
-use Rattle.grid_json.proofs.Filling.{taken_where, vacated}
+use Rattle.grid_json.proofs.MemberSlots.{taken_where, vacated}
 use Rattle.grid_json.proofs.stream.JobSlots.take_format.Goals as goal
 
 pub returns : goal.returns

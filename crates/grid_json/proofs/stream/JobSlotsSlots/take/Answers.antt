@@ -6,7 +6,7 @@ use Rattle.grid_json.specs.Network.{network_at}
 use Rattle.grid_json.specs.Job.{listeners_at, workers_at}
 use Rattle.grid_json.specs.Kept.{kept}
 use Rattle.grid_json.specs.Slots.{JobHolds, job_names}
-use Rattle.grid_json.proofs.Filling.{offered, taken_known}
+use Rattle.grid_json.proofs.MemberSlots.{offered, taken_known}
 use Rattle.grid_json.proofs.stream.JobSlotsSlots.take.Goals as goal
 
 pub returns-then-is_named : goal.returns-then-is_named

@@ -4,7 +4,7 @@ use Rattle.std.proofs.lemmas.List.{nil_from_length}
 use Rattle.grid_events.specs.declared.filter.Filter.{Filter}
 use Rattle.grid_jsonl.specs.Borrowed.{step_in}
 use Rattle.grid_jsonl.specs.Lines.{line_text, texts, heard_for}
-use Rattle.grid_jsonl.proofs.Coming.{heard_next, heard_on, heard_over, heard_step}
+use Rattle.grid_jsonl.proofs.RemainingLines.{heard_next, heard_on, heard_over, heard_step}
 use Rattle.grid_jsonl.proofs.cursors.Heard.next.Goals as goal
 
 pub returns-in_err-wanted : goal.returns-in_err-wanted

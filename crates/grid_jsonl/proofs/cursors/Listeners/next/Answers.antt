@@ -3,7 +3,7 @@ use Rattle.std.proofs.lemmas.List.{nil_from_length}
 use Rattle.grid_jsonl.specs.Borrowed.{step_in}
 use Rattle.grid_jsonl.specs.Outcomes.{listeners_from}
 use Rattle.grid_jsonl.specs.Lines.{texts}
-use Rattle.grid_jsonl.proofs.Coming.{listener_next, listeners_over}
+use Rattle.grid_jsonl.proofs.RemainingLines.{listener_next, listeners_over}
 use Rattle.grid_jsonl.proofs.cursors.Listeners.next.Goals as goal
 
 pub returns-in_err-wanted : goal.returns-in_err-wanted

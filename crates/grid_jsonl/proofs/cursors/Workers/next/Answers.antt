@@ -2,7 +2,7 @@ use Rattle.std.proofs.Common.{map, [], refl, sym, ap, ◌∙◌}
 use Rattle.grid_jsonl.specs.Borrowed.{step_in}
 use Rattle.grid_jsonl.specs.Outcomes.{steps_by}
 use Rattle.grid_jsonl.specs.Lines.{line_object, texts}
-use Rattle.grid_jsonl.proofs.Coming.{workers_for, command_next, worker_next, workers_over}
+use Rattle.grid_jsonl.proofs.RemainingLines.{workers_for, command_next, worker_next, workers_over}
 use Rattle.grid_jsonl.proofs.cursors.Workers.next.Goals as goal
 
 pub returns-in-Some : goal.returns-in-Some

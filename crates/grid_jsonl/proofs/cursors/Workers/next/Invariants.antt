@@ -1,7 +1,7 @@
 use Rattle.std.proofs.Common.{◌≡◌, ◌-◌, map}
 use Rattle.grid_jsonl.specs.Borrowed.{step_in}
 use Rattle.grid_jsonl.specs.Lines.{texts}
-use Rattle.grid_jsonl.proofs.Coming.{workers_for}
+use Rattle.grid_jsonl.proofs.RemainingLines.{workers_for}
 use Rattle.grid_jsonl.proofs.cursors.Workers.next.Given as goal
 
 -- the workers that were passed have no step left

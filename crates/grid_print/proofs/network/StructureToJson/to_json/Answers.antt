@@ -7,8 +7,8 @@ use Rattle.grid_print.specs.Network.{named_branch_value, network_of, network_val
 use Rattle.grid_print.specs.Cutting.{between}
 use Rattle.grid_print.specs.Readable.{IsId, IsReadableBranch}
 use Rattle.grid_print.proofs.Each.{within_both}
-use Rattle.grid_print.proofs.Printed.{network_readable}
-use Rattle.grid_print.proofs.Standing.{transformers_within, lines_are}
+use Rattle.grid_print.proofs.ReadableNetworks.{network_readable}
+use Rattle.grid_print.proofs.SubstationPlaces.{transformers_within, lines_are}
 use Rattle.grid_print.proofs.network.StructureToJson.to_json.Goals as goal
 
 pub branches-requires-clause-order : goal.branches-requires-clause-order

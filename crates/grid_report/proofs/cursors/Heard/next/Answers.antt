@@ -7,7 +7,7 @@ use Rattle.grid_events.specs.Filters.{matches}
 use Rattle.grid_core.specs.declared.journal.Entry.{Entry}
 use Rattle.grid_report.specs.Events.{event_line}
 use Rattle.grid_report.specs.Cursors.{lines_for}
-use Rattle.grid_report.proofs.Coming.{heard_next, heard_all, heard_step}
+use Rattle.grid_report.proofs.RemainingText.{heard_next, heard_all, heard_step}
 use Rattle.grid_report.proofs.cursors.Heard.next.Goals as goal
 
 pub returns-in_err-wanted : goal.returns-in_err-wanted

@@ -3,7 +3,7 @@ use Rattle.std.specs.List.{flat_map}
 use Rattle.grid_events.specs.declared.filter.Filter.{Filter}
 use Rattle.grid_report.specs.Events.{event_line}
 use Rattle.grid_report.specs.Outcomes.{numbered, heard_in, listener_line, listener_text}
-use Rattle.grid_report.proofs.Coming.{items_next, none_left}
+use Rattle.grid_report.proofs.RemainingText.{items_next, none_left}
 use Rattle.grid_report.proofs.cursors.Listeners.next.Goals as goal
 
 pub returns-then-self : goal.returns-then-self

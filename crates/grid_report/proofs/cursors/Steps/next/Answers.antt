@@ -1,7 +1,7 @@
 use Rattle.std.proofs.Common.{◌+◌, ◌++◌, drop, sym, ap, ◌∙◌, arith}
 use Rattle.grid_core.specs.declared.journal.Entry.{Entry}
 use Rattle.grid_report.specs.Outcomes.{numbered, step_text, steps_by}
-use Rattle.grid_report.proofs.Coming.{step_next, step_passed, no_step}
+use Rattle.grid_report.proofs.RemainingText.{step_next, step_passed, no_step}
 use Rattle.grid_report.proofs.cursors.Steps.next.Goals as goal
 
 pub returns-then-entry-self : goal.returns-then-entry-self

@@ -1,5 +1,5 @@
 use Rattle.std.proofs.Common.{length, arith}
-use Rattle.grid_report.proofs.Coming.{no_step}
+use Rattle.grid_report.proofs.RemainingText.{no_step}
 use Rattle.grid_report.proofs.cursors.Steps.none.Goals as goal
 
 pub returns : goal.returns

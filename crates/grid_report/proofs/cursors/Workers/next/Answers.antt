@@ -1,7 +1,7 @@
 use Rattle.std.proofs.Common.{◌+◌, ◌-◌, ◌++◌, sym, ap, ◌∙◌, append_assoc}
 use Rattle.std.specs.List.{flat_map, range_with_len}
 use Rattle.grid_report.specs.Outcomes.{numbered, step_text, steps_by, worker_line, worker_text}
-use Rattle.grid_report.proofs.Coming.{range_next}
+use Rattle.grid_report.proofs.RemainingText.{range_next}
 use Rattle.grid_report.proofs.cursors.Workers.next.Goals as goal
 
 pub returns : goal.returns

@@ -1,4 +1,4 @@
-use Rattle.grid_report.proofs.Coming.{less_given}
+use Rattle.grid_report.proofs.RemainingText.{less_given}
 use Rattle.grid_report.proofs.report.ReportBlocks.next.Goals as goal
 
 pub returns-clause-left : goal.returns-clause-left

@@ -1,6 +1,5 @@
-use Rattle.std.proofs.Common.{rules}
-use Rattle.std.proofs.lemmas.Fmt.{length-decimal-le}
+use Rattle.std.proofs.lemmas.Fmt.{decimal_digit}
 use Rattle.grid_report.proofs.text.Text.put_unsigned.Goals as goal
 
-pub write_digits-start-requires : goal.write_digits-start-requires
-write_digits-start-requires c = search (rules, length-decimal-le 20)
+pub returns-then-number-lt10-clause-ok : goal.returns-then-number-lt10-clause-ok
+returns-then-number-lt10-clause-ok c = rw (decimal_digit c.args.number c.if-number-lt10.true) c.put_byte.ensures.ok

@@ -1,10 +1,10 @@
 use Rattle.std.proofs.Common.{subst, ℕ, List}
 use Rattle.grid_core.proofs.Ranges.{rows_of_levels}
-use Rattle.grid_core.proofs.Looking.{flags_fit}
+use Rattle.grid_core.proofs.VariantViews.{flags_fit}
 use Rattle.grid_json.specs.Seen.{Knows}
 use Rattle.grid_structure.specs.Sites.{levels}
 use Rattle.grid_outages.specs.Steps.{Shows, levels_after, rows_after}
-use Rattle.grid_screen.proofs.Scened.{is_ground, is_scene}
+use Rattle.grid_screen.proofs.FaultScenes.{is_ground, is_scene}
 use Rattle.grid_screen.proofs.scene.Scene.before_fault.Goals as goal
 
 pub changes_without-requires-clause-rows : goal.changes_without-requires-clause-rows

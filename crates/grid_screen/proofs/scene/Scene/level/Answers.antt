@@ -4,7 +4,7 @@ use Rattle.grid_structure.specs.Sites.{levels}
 use Rattle.grid_level.specs.VoltageLevel.{VoltageLevel}
 use Rattle.grid_outages.specs.declared.outage.Changed.{Changed}
 use Rattle.grid_screen.specs.Grounds.{Ground}
-use Rattle.grid_outages.proofs.Showing.{level_changed, level_kept}
+use Rattle.grid_outages.proofs.ShownLevels.{level_changed, level_kept}
 use Rattle.grid_screen.proofs.scene.Scene.level.Goals as goal
 
 pub returns-in-Some : goal.returns-in-Some

@@ -3,7 +3,7 @@ use Rattle.grid_structure.specs.Sites.{levels}
 use Rattle.grid_states.specs.Rows.{row_at}
 use Rattle.grid_outages.specs.declared.outage.Changed.{Changed}
 use Rattle.grid_screen.specs.Grounds.{Ground}
-use Rattle.grid_outages.proofs.Showing.{row_changed, row_kept}
+use Rattle.grid_outages.proofs.ShownLevels.{row_changed, row_kept}
 use Rattle.grid_screen.proofs.scene.Scene.opened.Goals as goal
 
 pub opened_row-requires : goal.opened_row-requires

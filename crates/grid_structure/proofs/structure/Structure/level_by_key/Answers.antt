@@ -4,7 +4,7 @@ use Rattle.std.specs.Option.{option_map}
 use Rattle.std.proofs.lemmas.Option.{IfSome_then}
 use Rattle.grid_ids.specs.Name.{same_id}
 use Rattle.grid_level.specs.VoltageLevel.{VoltageLevel}
-use Rattle.grid_structure.proofs.Cutting.{kept_levels}
+use Rattle.grid_structure.proofs.FlatNetworks.{kept_levels}
 use Rattle.grid_structure.proofs.Certain.{level_sure}
 use Rattle.grid_structure.proofs.structure.Structure.level_by_key.Goals as goal
 

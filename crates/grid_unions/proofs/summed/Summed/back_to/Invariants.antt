@@ -1,5 +1,5 @@
 use Rattle.std.proofs.Common.{◌≡◌, ◌≤◌, length}
-use Rattle.grid_unions.proofs.Taking.{AreOlder}
+use Rattle.grid_unions.proofs.JoinReversals.{AreOlder}
 use Rattle.grid_unions.proofs.summed.Summed.back_to.Given as goal
 
 abbrev pub invariant-loop-self : goal.invariant-loop-self

@@ -1,7 +1,7 @@
 use Rattle.std.proofs.Common.{◌≡◌, ◌<◌, ℕ, length, reverse, subst, sym}
 use Rattle.std.specs.Prelude.{eqb}
 use Rattle.grid_graph.specs.Graph.{Graph, joined_in}
-use Rattle.grid_unions.proofs.Taking.{graph_of, right_forest}
+use Rattle.grid_unions.proofs.JoinReversals.{graph_of, right_forest}
 use Rattle.grid_unions.proofs.Trees.{same_roots}
 use Rattle.grid_unions.proofs.unions.Unions.are_joined.Goals as goal
 

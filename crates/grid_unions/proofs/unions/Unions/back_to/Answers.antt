@@ -1,5 +1,5 @@
 use Rattle.std.proofs.Common.{◌≡◌, ◌<◌, ap, length, drop, arith, length-drop}
-use Rattle.grid_unions.proofs.Taking.{one_older}
+use Rattle.grid_unions.proofs.JoinReversals.{one_older}
 use Rattle.grid_unions.proofs.unions.Unions.back_to.Goals as goal
 
 pub loop-self-preserved : goal.loop-self-preserved

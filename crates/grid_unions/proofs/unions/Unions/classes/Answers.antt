@@ -3,8 +3,8 @@ use Rattle.grid_graph.specs.Components.{places}
 use Rattle.grid_graph.specs.Graph.{Graph}
 use Rattle.grid_graph.specs.Joined.{groups}
 use Rattle.grid_graph.proofs.Below.{pairs_below}
-use Rattle.grid_unions.proofs.Taking.{graph_of, right_forest}
-use Rattle.grid_unions.proofs.Uniting.{count_groups}
+use Rattle.grid_unions.proofs.JoinReversals.{graph_of, right_forest}
+use Rattle.grid_unions.proofs.UnionCounts.{count_groups}
 use Rattle.grid_unions.proofs.unions.Unions.classes.Goals as goal
 
 pub returns : goal.returns

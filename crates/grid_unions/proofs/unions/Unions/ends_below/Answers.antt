@@ -1,6 +1,6 @@
 use Rattle.std.proofs.Common.{length, reverse, subst}
 use Rattle.grid_graph.specs.Graph.{Graph, EndsBelow}
-use Rattle.grid_unions.proofs.Taking.{right_forest}
+use Rattle.grid_unions.proofs.JoinReversals.{right_forest}
 use Rattle.grid_unions.proofs.unions.Unions.ends_below.Goals as goal
 
 pub returns : goal.returns

@@ -1,8 +1,8 @@
 use Rattle.std.proofs.Common.{◌≡◌, ◌<◌, ℕ, length, reverse, subst, sym, arith}
 use Rattle.grid_graph.specs.Graph.{Graph}
 use Rattle.grid_unions.specs.Ranks.{IsGreatest}
-use Rattle.grid_unions.proofs.Taking.{graph_of, right_forest}
-use Rattle.grid_unions.proofs.Ranked.{ranks_of, is_greatest_class}
+use Rattle.grid_unions.proofs.JoinReversals.{graph_of, right_forest}
+use Rattle.grid_unions.proofs.TreeRanks.{ranks_of, is_greatest_class}
 use Rattle.grid_unions.specs.Ranks.{first_at}
 use Rattle.grid_unions.proofs.unions.Unions.greatest.Goals as goal
 

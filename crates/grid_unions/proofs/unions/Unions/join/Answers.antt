@@ -3,9 +3,9 @@ use Rattle.grid_graph.specs.Graph.{Graph}
 use Rattle.grid_unions.specs.declared.join.Join.{Join}
 use Rattle.grid_unions.specs.Trees.{Trees, hung, size_at}
 use Rattle.grid_unions.specs.Unions.{AreRight}
-use Rattle.grid_unions.proofs.Taking.{graph_of, right_forest, kept_same, kept_hung}
+use Rattle.grid_unions.proofs.JoinReversals.{graph_of, right_forest, kept_same, kept_hung}
 use Rattle.grid_unions.proofs.Trees.{AreApart, IsRootOf, one_root, two_roots, sum_fits, some_roots}
-use Rattle.grid_unions.proofs.Ranked.{ranks_of, ranks_same, ranks_hung}
+use Rattle.grid_unions.proofs.TreeRanks.{ranks_of, ranks_same, ranks_hung}
 use Rattle.grid_unions.specs.Ranks.{Ranking, AreRanked, IsChosen}
 use Rattle.grid_unions.proofs.unions.Unions.join.Goals as goal
 

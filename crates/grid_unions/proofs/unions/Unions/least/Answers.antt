@@ -1,7 +1,7 @@
 use Rattle.std.proofs.Common.{◌≡◌, ◌∙◌, ℕ, length, reverse, subst, arith}
 use Rattle.grid_graph.specs.Graph.{Graph, least_joined}
-use Rattle.grid_unions.proofs.Taking.{graph_of, right_forest}
-use Rattle.grid_unions.proofs.Ranked.{ranks_of}
+use Rattle.grid_unions.proofs.JoinReversals.{graph_of, right_forest}
+use Rattle.grid_unions.proofs.TreeRanks.{ranks_of}
 use Rattle.grid_unions.proofs.unions.Unions.least.Goals as goal
 
 pub root-requires-clause-kept : goal.root-requires-clause-kept

@@ -2,7 +2,7 @@ use Rattle.std.proofs.Common.{◌<◌, ℕ, List, reverse, subst, sym, arith}
 use Rattle.grid_unions.specs.declared.join.Join.{Join}
 use Rattle.grid_unions.specs.Ranks.{AreRanked}
 use Rattle.grid_unions.specs.Unions.{AreRight}
-use Rattle.grid_unions.proofs.Ranked.{ranked_alone}
+use Rattle.grid_unions.proofs.TreeRanks.{ranked_alone}
 use Rattle.grid_unions.proofs.unions.Unions.new.Goals as goal
 
 pub invariant_of-result : goal.invariant_of-result

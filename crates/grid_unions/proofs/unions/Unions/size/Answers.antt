@@ -3,7 +3,7 @@ use Rattle.grid_graph.specs.Graph.{Graph, count_joined}
 use Rattle.grid_graph.proofs.Below.{pairs_below}
 use Rattle.grid_graph.proofs.Least.{joined_from_least}
 use Rattle.grid_components.proofs.Sizes.{count_same}
-use Rattle.grid_unions.proofs.Taking.{graph_of, right_forest}
+use Rattle.grid_unions.proofs.JoinReversals.{graph_of, right_forest}
 use Rattle.grid_unions.proofs.unions.Unions.size.Goals as goal
 
 pub root-requires-clause-kept : goal.root-requires-clause-kept

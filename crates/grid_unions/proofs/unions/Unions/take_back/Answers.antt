@@ -1,7 +1,7 @@
 use Rattle.std.proofs.Common.{◌≤◌, ℕ, Option, length, reverse, subst, arith}
 use Rattle.grid_unions.specs.Unions.{before_join, AreRight}
 use Rattle.grid_unions.specs.Trees.{unhung}
-use Rattle.grid_unions.proofs.Taking.{before_newest, roots_few}
+use Rattle.grid_unions.proofs.JoinReversals.{before_newest, roots_few}
 use Rattle.grid_unions.proofs.unions.Unions.take_back.Goals as goal
 
 pub take_back-top-requires-clause-roots : goal.take_back-top-requires-clause-roots

@@ -1,8 +1,0 @@
-use Rattle.std.proofs.Common.{◌≡◌, map, take}
-use Rattle.std.specs.List.{zip}
-use Rattle.grid_level.specs.Passing.{nodes}
-use Rattle.grid_connect.specs.Indexed.{switch_path_edge}
-use Rattle.grid_connect.proofs.connect.switch_edges.Given as goal
-
-abbrev pub invariant-loop-place : goal.invariant-loop-place
-invariant-loop-place l = l.edges.items ≡ map (λ pair. switch_path_edge (nodes l.indices) pair.0 pair.1) (take l.place (zip l.switch-items l.states))

@@ -1,0 +1,9 @@
+use Rattle.grid_json.specs.declared.fault.Reason.TheVariants.{Unknown}
+use Rattle.grid_json.specs.Kinds.{switch_kind_at}
+use Rattle.grid_json.proofs.Leaves.{text_streams}
+use Rattle.grid_json.proofs.tokens.SwitchKindFromTokens.from_tokens.Goals as goal
+
+pub returns-clause-read : goal.returns-clause-read
+returns-clause-read c =
+    let next = c.in_ok-next_text in
+    text_streams c.args._depth c.args.reader.now c.next_text.new.reader (switch_kind_at c.args._format) next.field-0.now c.switch_kind_of.result Unknown next.ensures.text c.switch_kind_of.ensures
