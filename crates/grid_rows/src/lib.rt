@@ -15,4 +15,3 @@ mod networks;
 #[cfg(test)]
 mod stale;
 #[cfg(test)]
-mod telling;
