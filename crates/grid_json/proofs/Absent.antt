@@ -1,10 +1,11 @@
 -- Members whose names are among fewer than those that may be there, since no member has one of the others.
-use Rattle.std.proofs.Common.{◌≡◌, ℕ, List, [], ◌∷◌, Bool, true, false, ◌&&◌, ◌||◌, Some, Ordering, Less, Equal, Greater, nat_cmp, is_eq, refl, sym, ap, ◌∙◌}
+use Rattle.std.proofs.Common.{◌≡◌, ℕ, List, [], ◌∷◌, Bool, true, false, ◌||◌, Some, Ordering, Less, Equal, Greater, nat_cmp, is_eq, refl, sym, ap, ◌∙◌}
 use Rattle.std.specs.Prelude.{not, is_some, codes}
 use Rattle.std.specs.List.{list_all}
 use Rattle.std.specs.Ordering.{match_ordering}
 use Rattle.std.specs.Str.{bytes_eq}
 use Rattle.std.specs.Cmp.Lexicographic.{slice_cmp}
+use Rattle.std.proofs.lemmas.Bool.{and_parts}
 use Rattle.std.proofs.lemmas.Map.Text.{is_eq-slice_cmp}
 use Rattle.std.proofs.lemmas.Slice.Eq.{bytes_eq-Decides}
 use Rattle.serde_json.specs.Data.{Data, Members, no_members, member}
@@ -12,16 +13,12 @@ use Rattle.serde_json.specs.Find.{get_member}
 use Rattle.grid_json.specs.Reading.{knows, all_known}
 use Rattle.grid_json.specs.declared.kinds.InjectionKind.{InjectionKind}
 use Rattle.grid_json.specs.declared.kinds.InjectionKind.TheVariants as injections
-use Rattle.grid_json.specs.Network.{injection_names}
+use Rattle.grid_json.specs.Network.{injection_names, item_names}
 use Rattle.grid_json.specs.Slots.{figure_names, has_none, other_names}
 
 -- each name is among the kept or among the dropped
 abbrev pub covers : List (List ℕ) → List (List ℕ) → List (List ℕ) → Bool
 covers names kept dropped = list_all (λ name. knows kept name || knows dropped name) names
-
-is_and : (a b : Bool) → (a && b) ≡ true → (a ≡ true) × (b ≡ true)
-is_and true b is = (refl, is)
-is_and false b is = cc
 
 one_behind : (k l : List ℕ) (e : Data) (ms : Members) (o : Ordering) → slice_cmp nat_cmp k l ≡ o
     → not (is_some (match_ordering o (get_member k ms) (Some e) (get_member k ms))) ≡ true
@@ -34,7 +31,7 @@ none_behind : (dropped : List (List ℕ)) (l : List ℕ) (e : Data) (ms : Member
     → (has_none dropped ms ≡ true) × (knows dropped l ≡ false)
 none_behind [] l e ms none = (refl, refl)
 none_behind (k ∷ dropped) l e ms none =
-    let here = is_and (not (is_some (get_member k (member l e ms)))) (has_none dropped (member l e ms)) none in
+    let here = and_parts (not (is_some (get_member k (member l e ms)))) (has_none dropped (member l e ms)) none in
     let one = one_behind k l e ms _ refl here.0 in
     let rest = none_behind dropped l e ms here.1 in
     (rw (one.0, rest.0) refl, rw (one.1, rest.1) refl)
@@ -43,7 +40,7 @@ covered : (names kept dropped : List (List ℕ)) (l : List ℕ) → covers names
     → (knows kept l || knows dropped l) ≡ true
 covered [] kept dropped l all is = cc
 covered (n ∷ names) kept dropped l all is =
-    let both = is_and (knows kept n || knows dropped n) (covers names kept dropped) all in
+    let both = and_parts (knows kept n || knows dropped n) (covers names kept dropped) all in
     in_front (bytes_eq n l) refl both.0 is (covered names kept dropped l both.1)
   where
     in_front : (b : Bool) → bytes_eq n l ≡ b → (knows kept n || knows dropped n) ≡ true → (b || knows names l) ≡ true
@@ -61,7 +58,7 @@ pub narrower : (names kept dropped : List (List ℕ)) (found : Members) → cove
     → all_known names found ≡ true → has_none dropped found ≡ true → all_known kept found ≡ true
 narrower names kept dropped no_members all known none = refl
 narrower names kept dropped (member l e ms) all known none =
-    let both = is_and (knows names l) (all_known names ms) known in
+    let both = and_parts (knows names l) (all_known names ms) known in
     let rest = none_behind dropped l e ms none in
     let one = or_false (knows kept l) (knows dropped l) (covered names kept dropped l all both.0) rest.1 in
     rw (one, narrower names kept dropped ms all both.1 rest.0) refl
@@ -84,3 +81,25 @@ pub injection_known : (kind : InjectionKind) (found : Members) → all_known inj
     → has_none (other_names kind) found ≡ true → all_known (injection_names kind) found ≡ true
 injection_known kind found known none =
     narrower injection_slots (injection_names kind) (other_names kind) found (figures_cover kind) known none
+
+-- ---- added injections
+
+abbrev pub added_injection_slots : List (List ℕ)
+added_injection_slots = codes "do" ∷ codes "kind" ∷ codes "id" ∷ codes "node" ∷ codes "level" ∷ figure_names
+
+abbrev pub added_injection_names : InjectionKind → List (List ℕ)
+added_injection_names kind = codes "do" ∷ codes "kind" ∷ codes "id" ∷ codes "level" ∷ codes "node" ∷ item_names kind
+
+added_figures_cover : (kind : InjectionKind) → covers added_injection_slots (added_injection_names kind) (other_names kind) ≡ true
+added_figures_cover injections.Load = refl
+added_figures_cover injections.Generator = refl
+added_figures_cover injections.Battery = refl
+added_figures_cover injections.ShuntCompensator = refl
+added_figures_cover injections.StaticVarCompensator = refl
+added_figures_cover injections.ConverterStation = refl
+
+-- so it is with an added injection
+pub added_injection_known : (kind : InjectionKind) (found : Members) → all_known added_injection_slots found ≡ true
+    → has_none (other_names kind) found ≡ true → all_known (added_injection_names kind) found ≡ true
+added_injection_known kind found known none =
+    narrower added_injection_slots (added_injection_names kind) (other_names kind) found (added_figures_cover kind) known none

@@ -7,7 +7,7 @@ use Rattle.grid_ids.specs.Refusing.{refuse_if, found_or, map_fault}
 use Rattle.grid_level.specs.declared.Stand.TheVariants.{Busbar}
 use Rattle.grid_level.specs.VoltageLevel.{VoltageLevel}
 use Rattle.grid_level.specs.LevelEdits.{Unfit, node_range, max_node, node_of, terminal_fits, level_with_terminal}
-use Rattle.grid_level.proofs.Editing.{went}
+use Rattle.grid_level.proofs.LevelEdits.{went}
 use Rattle.grid_structure.specs.declared.Edit.TheVariants as edits
 use Rattle.grid_structure.specs.declared.EditFault.{EditFault}
 use Rattle.grid_structure.specs.declared.EditFault.TheVariants as faults

@@ -13,7 +13,7 @@ use Rattle.grid_level.specs.declared.Stand.TheVariants.{Busbar, Feeder, BranchEn
 use Rattle.grid_level.specs.VoltageLevel.{VoltageLevel}
 use Rattle.grid_level.specs.Passing.{is_busbar, is_rising, placed_at, stands_at}
 use Rattle.grid_level.specs.Sound.{level_passes, side_passes, stand_passes}
-use Rattle.grid_level.proofs.Editing.{passes_of}
+use Rattle.grid_level.proofs.LevelEdits.{passes_of}
 use Rattle.grid_structure.specs.Network.{Network}
 use Rattle.grid_structure.specs.declared.Site.{Site}
 use Rattle.grid_structure.specs.Sites.{find_level, level_named, levels, site, terminal_spot}

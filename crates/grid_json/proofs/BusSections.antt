@@ -11,7 +11,7 @@ use Rattle.grid_level.specs.declared.Stand.TheVariants.{Busbar}
 use Rattle.grid_level.specs.VoltageLevel.{VoltageLevel}
 use Rattle.grid_level.specs.LevelEdits.{Unfit, node_range, too_many_nodes, max_node, max_nodes, node_of, refuse_taken, terminal_fits, level_with_terminal, with_placed}
 use Rattle.grid_level.specs.Passing.{nodes, placed_at, with_node}
-use Rattle.grid_level.proofs.Editing.{went}
+use Rattle.grid_level.proofs.LevelEdits.{went}
 use Rattle.grid_placed.specs.Translation.{bus_section}
 use Rattle.grid_structure.specs.declared.Edit.TheVariants as edits
 use Rattle.grid_structure.specs.declared.EditFault.TheVariants as faults

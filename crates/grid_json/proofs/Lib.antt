@@ -19,3 +19,4 @@ pub mod Pairs
 pub mod Limits
 pub mod Lengths
 pub mod Leaves
+pub mod CommandTokens

@@ -46,7 +46,7 @@ put_known names k d (member l e ms) = put_at names _ k l d e ms refl (put_known 
 abbrev pub are_known : List (List ℕ) → Listed → Bool
 are_known names ms = list_all (λ m. knows names m.0) ms
 
-each_known : (names : List (List ℕ)) (ms : Listed) (found : Members) → all_known names (put_each ms found) ≡ (are_known names ms && all_known names found)
+pub each_known : (names : List (List ℕ)) (ms : Listed) (found : Members) → all_known names (put_each ms found) ≡ (are_known names ms && all_known names found)
 each_known names [] found = refl
 each_known names (m ∷ ms) found =
     each_known names ms (put m.0 m.1 found) ∙ ap (λ b. are_known names ms && b) (put_known names m.0 m.1 found)

@@ -5,7 +5,7 @@ use Rattle.std.specs.Str.{bytes_eq}
 use Rattle.std.proofs.lemmas.List.Folds.{list_any-append}
 use Rattle.std.proofs.lemmas.Slice.Eq.{bytes_eq-Decides}
 use Rattle.serde_json.specs.Data.{Data, Members, put}
-use Rattle.grid_value.proofs.Growing.{found_at}
+use Rattle.grid_value.proofs.MemberLists.{found_at}
 use Rattle.grid_json.specs.declared.fault.Fault.{Fault}
 use Rattle.grid_json.specs.declared.format.Format.{Format}
 use Rattle.grid_json.specs.Reading.{present_or, some_of, knows}
@@ -21,7 +21,7 @@ kept {A} {read} {name} k d {found} {slot} held other = record {
 }
 
 -- a name that is not among these is none of them
-unlike : (names : List (List ℕ)) (name known : List ℕ) → knows names name ≡ false → knows names known ≡ true
+pub unlike : (names : List (List ℕ)) (name known : List ℕ) → knows names name ≡ false → knows names known ≡ true
     → bytes_eq name known ≡ false
 unlike names name known other is = differs (bytes_eq name known) refl
   where
@@ -37,6 +37,12 @@ pub stays : {A : Type 0} {read : Data → Result A Fault} {slot : Option A} (nam
     → knows names name ≡ false → Holds read own found slot → knows names own ≡ true
     → Holds read own (put name d found) slot
 stays {A} {read} {slot} names {own} name d {found} other held is = kept name d held (unlike names name own other is)
+
+-- a slot that is alone stays where a member of another name is put
+pub lone_kept : {A : Type 0} {read : Data → Result A Fault} {slot : Option A} (own name : List ℕ) (d : Data)
+    {found : Members} → knows (own ∷ []) name ≡ false → Holds read own found slot → Holds read own (put name d found) slot
+lone_kept {A} {read} {slot} own name d {found} other held =
+    stays (own ∷ []) name d other held (ap (λ b. b || false) ((bytes_eq-Decides own own).1 refl))
 
 -- ---- two groups of slots
 

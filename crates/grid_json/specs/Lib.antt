@@ -6,6 +6,7 @@ pub mod Streams
 pub mod Slots
 pub mod Kept
 pub mod Command
+pub mod CommandTokens
 pub mod Job
 pub mod Loading
 pub mod BusPositions

@@ -1,12 +1,15 @@
 -- What the slots of an object hold of the members that were found.
-use Rattle.std.specs.Prelude.{◌≡◌, ℕ, List, [], ◌∷◌, ◌++◌, Bool, true, not, unwrap_or, codes, is_some, Ok}
+use Rattle.std.specs.Prelude.{◌≡◌, ℕ, ℤ, List, [], ◌∷◌, ◌++◌, Bool, true, not, unwrap_or, codes, is_some, Ok}
 use Rattle.std.specs.List.{list_all, filter}
-use Rattle.serde_json.specs.Data.{Members, object}
+use Rattle.serde_json.specs.Data.{Data, Members, object}
 use Rattle.serde_json.specs.Find.{get_member}
 use Rattle.grid_kinds.specs.declared.Injection.{Injection}
 use Rattle.grid_json.specs.declared.format.Format.{Format}
 use Rattle.grid_json.specs.declared.format.Format.TheVariants.{One}
 use Rattle.grid_json.specs.declared.kinds.InjectionKind.{InjectionKind}
+use Rattle.grid_json.specs.declared.kinds.WindingsKind.{WindingsKind}
+use Rattle.grid_json.specs.declared.buses.EndDraft.{EndDraft}
+use Rattle.grid_json.specs.declared.network.Windings.{Windings}
 use Rattle.grid_json.specs.declared.tokens.Both.{Both}
 use Rattle.grid_json.specs.declared.slots.NodeSlots.{NodeSlots}
 use Rattle.grid_json.specs.declared.slots.FlagSlots.{FlagSlots}
@@ -25,9 +28,9 @@ use Rattle.grid_json.specs.declared.slots.SubstationSlots.{SubstationSlots}
 use Rattle.grid_json.specs.declared.slots.NetworkSlots.{NetworkSlots}
 use Rattle.grid_json.specs.declared.injections.Figures.{Figures}
 use Rattle.grid_json.specs.declared.stream.JobSlots.{JobSlots}
-use Rattle.grid_json.specs.Reading.{id_at, whole_at, flag_at, array_at, knows}
+use Rattle.grid_json.specs.Reading.{id_at, whole_at, flag_at, array_at, member_at, knows}
 use Rattle.grid_json.specs.Kinds.{switch_kind_at, injection_kind_at}
-use Rattle.grid_json.specs.Network.{busbar_at, switch_at, internal_at, injection_at, any_level_at, transformer_at, substation_at, line_at, network_at, two_at, end_draft_at, item_names, item_at}
+use Rattle.grid_json.specs.Network.{busbar_at, switch_at, internal_at, injection_at, any_level_at, transformer_at, substation_at, line_at, network_at, two_at, end_draft_at, item_names, item_at, windings_at}
 use Rattle.grid_json.specs.Job.{format_at, listeners_at, workers_at}
 use Rattle.grid_json.specs.Streams.{Holds}
 
@@ -239,3 +242,9 @@ JobHolds first slots found = record {
   workers : Holds (workers_at (unwrap_or slots.format One)) (codes "workers") found slots.workers;
   order : Holds (array_at whole_at) (codes "order") found slots.order;
 }
+
+-- the ends and the rated voltages that were found are those of the kind, and these are the windings
+abbrev pub WindingsOf : WindingsKind → List EndDraft → List ℤ → Windings → Type 0
+WindingsOf kind ends rated_u windings =
+    (format : Format) (d : Data) → member_at (array_at (end_draft_at format)) (codes "ends") d ≡ Ok ends
+    → member_at (array_at whole_at) (codes "rated_u") d ≡ Ok rated_u → windings_at format kind d ≡ Ok windings

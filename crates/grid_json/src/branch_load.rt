@@ -19,7 +19,7 @@ use std::alloc::Global;
 
 /// The node of the end of a side.
 #[derive(Clone, Copy, Debug)]
-struct Standing {
+struct SideNode {
     side: u8,
     node: i64,
 }
@@ -97,7 +97,7 @@ fn add_end_breaker(
     alloc: Global,
     id: &Id,
     end: &EndDraft,
-    standing: Standing,
+    standing: SideNode,
     structure: &mut Structure,
 ) -> Result<(), ReadError>
     ensures { Leads structure.new result
@@ -129,11 +129,11 @@ fn add_two_breakers(
     ensures { Leads structure.new result
         (loading.two_breakers id.now ends.now nodes structure.old) }
 {
-    let first = Standing {
+    let first = SideNode {
         side: 1,
         node: nodes.first,
     };
-    let second = Standing {
+    let second = SideNode {
         side: 2,
         node: nodes.second,
     };
@@ -153,15 +153,15 @@ fn add_three_breakers(
     ensures { Leads structure.new result
         (loading.three_breakers id.now ends.now nodes structure.old) }
 {
-    let first = Standing {
+    let first = SideNode {
         side: 1,
         node: nodes.first,
     };
-    let second = Standing {
+    let second = SideNode {
         side: 2,
         node: nodes.second,
     };
-    let third = Standing {
+    let third = SideNode {
         side: 3,
         node: nodes.third,
     };

@@ -56,7 +56,7 @@ pub struct Fault {
     pub reason: Reason,
 }
 
-/// The first fault, or want of memory.
+/// The first fault, or out of memory.
 #[derive(Drop)]
 pub enum ReadError {
     Memory,

@@ -40,7 +40,7 @@ impl SeenIds {
         self.ids.contains(id)
     }
 
-    /// Puts the id in, and tells whether it was not there. After want of memory all is as before.
+    /// Puts the id in, and tells whether it was not there. Where memory runs out all is as before.
     pub fn add(&mut self, id: &Id) -> Result<bool, Memory>
         ensures new { IfOk result (λ new. new ≡ not (has_id self.old id.now)) }
         ensures known { OnOk result (Knows self.new (self.old ++ id.now ∷ [])) }

@@ -13,7 +13,7 @@ use crate::network::NetworkDraft;
 use crate::order::order_of_some;
 use crate::tokens::{FromTokens, Offer, Slots, fill, is_named, leaf, object_of, small};
 use grid_ids::Seq;
-use grid_requests::{Request, Scripts};
+use grid_requests::Scripts;
 use grid_value::{MAX_DEPTH, Scratch};
 use json::{Reader, Token};
 use std::alloc::Global;
@@ -36,18 +36,6 @@ impl FromTokens for Listeners {
         reader: &mut Reader<'_>,
         depth: usize,
     ) -> Option<Listeners> {
-        small(alloc, format, reader, depth)
-    }
-}
-
-/// A command by way of a tree of it alone, so that the trees of a script are not in memory together.
-impl FromTokens for Request {
-    fn from_tokens(
-        alloc: Global,
-        format: Format,
-        reader: &mut Reader<'_>,
-        depth: usize,
-    ) -> Option<Request> {
         small(alloc, format, reader, depth)
     }
 }

@@ -5,11 +5,10 @@ ghost use Rattle.serde_json.specs.Data.{Data, Members as MembersData, no_members
 ghost use Rattle.grid_json.specs.declared.format.Format.{Format as FormatAt};
 ghost use Rattle.grid_json.specs.Reading.{knows};
 ghost use Rattle.grid_json.specs.Kept.{first_unknown, second_unknown};
-ghost use Rattle.grid_json.specs.Streams.{Streams, Among, Fills, Offered, WhereTaken, IsObject, disjoint};
+ghost use Rattle.grid_json.specs.Streams.{Streams, Among, Fills, Offered, WhereTaken, IsObject, IsRest, disjoint};
 
 use crate::format::Format;
 use crate::kinds::{InjectionKind, injection_kind_of, switch_kind_of};
-use crate::network::TransformerDraft;
 use crate::read::FromJson;
 use grid_ids::{Id, Seq};
 use grid_kinds::SwitchKind;
@@ -109,17 +108,6 @@ impl FromTokens for InjectionKind {
     }
 }
 
-impl FromTokens for TransformerDraft {
-    fn from_tokens(
-        alloc: Global,
-        format: Format,
-        reader: &mut Reader<'_>,
-        depth: usize,
-    ) -> Option<TransformerDraft> {
-        small(alloc, format, reader, depth)
-    }
-}
-
 impl<T: FromTokens> FromTokens for Seq<T> {
     fn from_tokens(
         alloc: Global,
@@ -149,7 +137,7 @@ pub enum Offer {
     Taken,
     /// There is no slot of its name.
     Unknown,
-    /// Its value has a fault, or memory is wanting.
+    /// Its value has a fault, or memory runs out.
     Fault,
 }
 
@@ -256,6 +244,28 @@ pub fn fill<T: FromTokens>(
     }
 }
 
+/// The members up to the end of an object that was begun, put into slots that may hold some of its members. Arrays and
+/// objects may nest `depth` deep in it.
+pub fn members_of<S: Slots>(
+    alloc: Global,
+    format: Format,
+    reader: &mut Reader<'_>,
+    depth: usize,
+    begun: S,
+) -> Option<S>
+    requires { S.apart ≡ true }
+    ensures rest { IfSome result (IsRest S.names (S.holds format) depth reader.old reader.new begun) }
+    ensures shorter { OnSome result (length reader.new < length reader.old) }
+{
+    let mut slots = begun;
+    'members: while let Some(name) = reader.next_key().ok()? {
+        let Offer::Taken = slots.take(alloc, format, name, reader, depth) else {
+            return None;
+        };
+    }
+    Some(slots)
+}
+
 /// The next value of the reader as an object.
 pub fn object_of<S: Slots>(
     alloc: Global,
@@ -274,13 +284,7 @@ pub fn object_of<S: Slots>(
     let Some(Token::BeginObject) = reader.next() else {
         return None;
     };
-    let mut slots = S::empty();
-    'members: while let Some(name) = reader.next_key().ok()? {
-        let Offer::Taken = slots.take(alloc, format, name, reader, depth - 1) else {
-            return None;
-        };
-    }
-    Some(slots)
+    members_of(alloc, format, reader, depth - 1, S::empty())
 }
 
 /// The items of a slot, or none.

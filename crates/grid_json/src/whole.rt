@@ -1,7 +1,8 @@
-// Jobs from bytes. A draft is made from the tokens as they come, each member into its place, with a tree of one load,
-// line, command or the like at a time. What does not go so (a fault, want of memory, a format that stands behind what
-// it chooses) is read again over a tree of the whole, which names the first fault. So nothing is owed of the first way
-// but that what it gives is the draft. Then the network is loaded by edits.
+// Jobs from bytes. A draft is made from the tokens as they come, each member into its place, with a tree of the
+// listeners alone, or of one level or end at a time in a format that has configured buses. What does not go so (a
+// fault, out of memory, a format that stands behind what it chooses, a command whose `do` is not its first member) is
+// read again over a tree of the whole, which names the first fault. So nothing is owed of the first way but that what
+// it gives is the draft. Then the network is loaded by edits.
 ghost use Rattle.std.specs.Prelude.{◌≡◌, ◌≤◌, None, Result, Ok, codes, IfOk, IsTrue};
 ghost use Rattle.grid_json.specs.declared.fault.Fault.{Fault};
 ghost use Rattle.grid_value.specs.Bytes.{reading};
@@ -36,7 +37,7 @@ pub enum JobFault {
     BadJson,
     /// The first fault of the job, and its place.
     BadJob { place: Place, reason: Reason },
-    /// Memory is wanting.
+    /// Out of memory.
     Memory,
 }
 

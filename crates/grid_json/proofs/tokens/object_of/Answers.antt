@@ -1,44 +1,11 @@
-use Rattle.std.proofs.Common.{◌≡◌, ◌-◌, ◌<◌, ◌∷◌, length, Some, None, refl, arith}
+use Rattle.std.proofs.Common.{◌≡◌, ◌∷◌, arith}
 use Rattle.json.specs.Token.{Token}
-use Rattle.json.specs.Json.{read_key}
-use Rattle.json.proofs.Grammar.{read_key-shorter}
-use Rattle.grid_json.specs.declared.tokens.Offer.TheVariants.{Taken}
-use Rattle.grid_json.specs.Streams.{Among, Offered}
-use Rattle.grid_json.proofs.MemberSlots.{among}
-use Rattle.grid_json.proofs.Streams.{members_begin, members_go_on, members_end}
+use Rattle.grid_json.proofs.Streams.{object_read}
 use Rattle.grid_json.proofs.tokens.object_of.Goals as goal
-
-pub members-init : goal.members-init
-members-init g c = record {
-  read = members_begin (Among g.S.Slots.names (g.S.Slots.holds c.args.format) c.empty-slots.result) (c.args.depth - 1)
-      c.next.new.self (refl, c.empty-slots.ensures c.args.format);
-  shorter = omega arith;
-}
-
-pub members-preserved : goal.members-preserved
-members-preserved g c =
-    let l = c.members in
-    let name = c.in-Some.name.now in
-    let behind = c.next_key.new.self in
-    let key : read_key l.reader ≡ Some (Some name, behind) = grind arith in
-    let less = read_key-shorter l.reader (Some name) behind key in
-    let names = g.S.Slots.names in
-    let holds = g.S.Slots.holds c.args.format in
-    let went : Offered names holds name (c.args.depth - 1) behind c.take.new.reader l.slots
-    c.take.new.self Taken = grind arith in
-    let takes = among names holds name (c.args.depth - 1) behind c.take.new.reader l.slots
-    c.take.new.self went.0 went.1 in
-    let lesser : length c.take.new.reader < length behind = went.2 in
-    record {
-      read = members_go_on (Among names holds) (c.args.depth - 1) c.next.new.self l.reader behind
-          c.take.new.reader name l.slots c.take.new.self l.invariant.read key takes lesser;
-      shorter = omega (arith, less, lesser, l.invariant.shorter);
-    }
 
 pub returns-clause-object : goal.returns-clause-object
 returns-clause-object g c =
-    let l = c.members in
-    let first : c.args.reader.now ≡ Token.begin_object ∷ c.next.new.self = grind arith in
-    let ends : read_key l.reader ≡ Some (None, c.next_key.new.self) = grind arith in
-    members_end (Among g.S.Slots.names (g.S.Slots.holds c.args.format) l.slots) c.args.depth c.args.reader.now
-    c.next.new.self l.reader c.next_key.new.self (omega arith) first l.invariant.read ends
+    let opens : c.args.reader.now ≡ Token.begin_object ∷ c.next.new.self = grind arith in
+    object_read g.S.Slots.names (g.S.Slots.holds c.args.format) c.args.depth c.args.reader.now c.next.new.self
+    c.members_of.new.reader c.empty.result c.members_of.result (omega arith) opens (c.empty.ensures c.args.format)
+    c.members_of.ensures.rest

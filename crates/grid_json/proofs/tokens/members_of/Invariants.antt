@@ -1,11 +1,10 @@
-use Rattle.std.proofs.Common.{◌≤◌, ◌-◌, length}
-use Rattle.grid_json.specs.Streams.{Among}
+use Rattle.std.proofs.Common.{◌≤◌, length}
 use Rattle.grid_json.proofs.Streams.{MembersRead}
-use Rattle.grid_json.proofs.tokens.object_of.Given as goal
+use Rattle.grid_json.proofs.tokens.members_of.Given as goal
 
 abbrev pub invariant-members : goal.invariant-members
 invariant-members g l = record {
-  read : MembersRead (Among g.S.Slots.names (g.S.Slots.holds l.format) l.slots) (l.depth - 1) l.initial.reader l.reader;
+  read : MembersRead g.S.Slots.names (g.S.Slots.holds l.format) l.depth l.initial.reader l.reader l.initial.slots l.slots;
   shorter : length l.reader ≤ length l.initial.reader;
 }
 
