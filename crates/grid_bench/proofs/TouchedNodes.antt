@@ -9,7 +9,7 @@ use Rattle.grid_graph.specs.Graph.{Graph, joined_in}
 use Rattle.grid_graph.specs.Joined.{joined}
 use Rattle.grid_graph.proofs.Counts.{count_le}
 use Rattle.grid_graph.proofs.Reach.{In}
-use Rattle.grid_graph.proofs.Renamed.{EndsIn}
+use Rattle.grid_graph.proofs.RenamedNodes.{EndsIn}
 use Rattle.grid_level.specs.declared.Switch.{Switch}
 use Rattle.grid_level.specs.VoltageLevel.{VoltageLevel}
 use Rattle.grid_level.specs.Passing.{Rule, bus, nodes, passing, joined_under, stood}

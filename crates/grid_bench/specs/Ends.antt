@@ -1,9 +1,13 @@
 -- What the labels of a level rest on beside its flags.
-use Rattle.std.specs.Prelude.{◌≡◌, ℕ, List, map}
+use Rattle.std.specs.Prelude.{◌≡◌, ◌<◌, ℕ, List, length, map, get_or}
 use Rattle.grid_level.specs.declared.Switch.{Switch}
 use Rattle.grid_level.specs.VoltageLevel.{VoltageLevel}
 use Rattle.grid_level.specs.Passing as passing
 use Rattle.grid_level.specs.Passing.{nodes}
+
+-- the numbers are counted from 0 without a gap
+abbrev pub IsGapless : List ℕ → Type 0
+IsGapless ns = (i : ℕ) → i < length ns → get_or ns i 0 ≡ i
 
 -- the two nodes of each switch
 abbrev pub all_ends : List Switch → List (ℕ × ℕ)

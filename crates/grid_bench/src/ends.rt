@@ -1,7 +1,7 @@
 // Whether two levels have the same ends.
 ghost use Rattle.std.specs.Prelude.{◌≡◌, ◌↔◌, IsTrue, length};
 ghost use Rattle.grid_level.specs.Passing.{nodes};
-ghost use Rattle.grid_bench.specs.Ends.{SameEnds};
+ghost use Rattle.grid_bench.specs.Ends.{IsGapless, SameEnds};
 
 use grid_ids::same_items;
 use grid_level::Level;
@@ -18,6 +18,27 @@ fn same_nodes(level: &Level, other: &Level) -> bool
         same &= level.node_at(index) == other.node_at(index);
     }
     same
+}
+
+// Whether the level's nodes are counted from 0 without a gap, as the last of them tells.
+fn is_gapless(level: &Level) -> bool
+    ensures { IsTrue result → IsGapless (nodes level.now) }
+{
+    level.keeps();
+    match level.node_count().checked_sub(1) {
+        Some(last) => u32::from(level.node_at(last)) == last,
+        None => false,
+    }
+}
+
+// Whether both levels have the same nodes. Where both count theirs from 0 without a gap, how many there are tells.
+fn have_same_nodes(level: &Level, other: &Level) -> bool
+    ensures { IsTrue result ↔ (nodes level.now ≡ nodes other.now) }
+{
+    if is_gapless(level) && is_gapless(other) {
+        return level.node_count() == other.node_count();
+    }
+    same_nodes(level, other)
 }
 
 // Zero exactly where both pairs are equal. Each is taken as one number, so that several can be compared at once.
@@ -50,5 +71,5 @@ pub(crate) fn same_ends(level: &Level, other: &Level) -> bool
 {
     same_pairs(level.switch_ends(), other.switch_ends())
         && same_items(level.internals(), other.internals())
-        && same_nodes(level, other)
+        && have_same_nodes(level, other)
 }

@@ -43,8 +43,8 @@ impl Bench {
         self.find(level).unwrap()
     }
 
-    // The net that is kept of a level under the rule of the bus view, with its labels, where it is that of the level with
-    // these flags.
+    // The net that is kept of a level under the rule of the bus view, with its labels, where it is that of the level
+    // with these flags.
     fn net_kept(
         &self,
         level: &Shared<Level>,
@@ -106,6 +106,58 @@ impl Bench {
         }
     }
 
+    // The net of a level that is kept with these flags, under the rule of the bus view, with its labels.
+    fn net_of_kept(&self, level: &Level, opened: &[bool], retained: &[bool]) -> LabelledNet<'_>
+        requires opened { length opened.now ≡ length level.now.switches }
+        requires retained { length retained.now ≡ length level.now.switches }
+        requires kept { kept_for self.now level.now.id
+            ≡ Some (content level.now opened.now retained.now) }
+        ensures net { result.net.now ≡ net_where level.now (closed_flags opened.now) }
+        ensures labels { result.labels.now ≡ labels_of (passing_graph result.net.now) }
+    {
+        self.kept_of(level.id()).bus_net()
+    }
+
+    /// The plan that connects a node of a level that is kept with these flags.
+    pub fn connect_kept(
+        &self,
+        level: &Level,
+        opened: &[bool],
+        retained: &[bool],
+        node: u16,
+    ) -> Result<ConnectPlan, Memory>
+        requires opened { length opened.now ≡ length level.now.switches }
+        requires retained { length retained.now ≡ length level.now.switches }
+        requires kept { kept_for self.now level.now.id
+            ≡ Some (content level.now opened.now retained.now) }
+        requires node { IsTrue (among (nodes level.now) node) }
+        ensures { IfOk result (λ plan. plan
+            ≡ connect_plan_of (positioned level.now opened.now) node) }
+    {
+        let net = self.net_of_kept(level, opened, retained);
+        plan_connect_from(self.alloc(), level, opened, node, &net)
+    }
+
+    /// The plan that disconnects a node of a level that is kept with these flags.
+    pub fn disconnect_kept(
+        &self,
+        level: &Level,
+        opened: &[bool],
+        retained: &[bool],
+        node: u16,
+    ) -> Result<DisconnectPlan, Memory>
+        requires opened { length opened.now ≡ length level.now.switches }
+        requires retained { length retained.now ≡ length level.now.switches }
+        requires kept { kept_for self.now level.now.id
+            ≡ Some (content level.now opened.now retained.now) }
+        requires node { IsTrue (among (nodes level.now) node) }
+        ensures { IfOk result (λ plan. plan
+            ≡ disconnect_plan_of (positioned level.now opened.now) node) }
+    {
+        let net = self.net_of_kept(level, opened, retained);
+        plan_disconnect_from(self.alloc(), level, opened, node, &net)
+    }
+
     // Makes the bus/breaker view of a level that is kept with these flags.
     fn make_breaker_view(
         &self,
@@ -125,7 +177,7 @@ impl Bench {
         Shared::new(self.alloc(), view)
     }
 
-    /// The bus/breaker view of a level that is kept with these flags. After want of memory nothing is kept of it.
+    /// The bus/breaker view of a level that is kept with these flags. Where memory runs out nothing is kept of it.
     pub fn bus_breaker_view(
         &mut self,
         level: &Shared<Level>,
@@ -199,7 +251,7 @@ impl Bench {
     }
 
     /// The bus view of a level that is kept with these flags, under the watts of its placed terminals, by rising node:
-    /// the one that was made last, where that is still the view. Else it is made, and kept. After want of memory
+    /// the one that was made last, where that is still the view. Else it is made, and kept. Where memory runs out
     /// nothing is kept of the level.
     pub fn bus_view(
         &mut self,

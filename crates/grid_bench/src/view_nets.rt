@@ -151,7 +151,7 @@ impl ViewNets {
     }
 
     /// Lets the edge at a place, between two nodes, pass or not in each net. It visits, and writes to, at most the
-    /// nodes that are joined to one of them before or after. After want of memory the nets are as they were, and
+    /// nodes that are joined to one of them before or after. Where memory runs out the nets are as they were, and
     /// nothing was visited or written.
     pub(crate) fn set<L: Ledger, W: Ledger>(
         &mut self,

@@ -1,6 +1,5 @@
 -- What is kept by slot.
-use Rattle.std.proofs.Common.{◌≡◌, refl, sym, ap, ◌∙◌, subst, arith, ℕ, zero, suc, ◌+◌, ◌⊎◌, inl, inr, ◌<◌, ◌≤◌, Bool, Some, List, [], ◌∷◌, ◌++◌, length, map, get_or}
-use Rattle.std.proofs.lemmas.Bool.{false≢true}
+use Rattle.std.proofs.Common.{◌≡◌, refl, sym, ap, ◌∙◌, subst, arith, ℕ, zero, suc, ◌+◌, ◌⊎◌, inl, inr, ◌<◌, ◌≤◌, Bool, Some, List, [], ◌∷◌, ◌++◌, length, get_or}
 use Rattle.std.specs.Prelude.{slice_get, slice_set}
 use Rattle.std.proofs.lemmas.Bool.Decides.{eqb_tells, leb_tells}
 use Rattle.std.proofs.lemmas.Option.{same_Some, slice_get_within}
@@ -12,7 +11,7 @@ use Rattle.grid_slots.specs.Variants.{rows_at}
 use Rattle.grid_core.specs.declared.kept.SlotKept.{SlotKept}
 use Rattle.grid_core.specs.declared.kept.Kept.{Kept}
 use Rattle.grid_core.specs.declared.kept_levels.KeptLevels.{KeptLevels}
-use Rattle.grid_core.specs.Kept.{AreSlotBuses, AreBySlot, IsKept, forgotten}
+use Rattle.grid_core.specs.Kept.{AreSlotBuses, AreBySlot, IsKept}
 use Rattle.grid_core.proofs.LevelCopies.{no_copies}
 
 -- ---- items by place
@@ -22,11 +21,6 @@ got_of [] x zero y h = let same : x ≡ y = cc in inr (sym same)
 got_of [] x (suc k) y h = absurd (cc)
 got_of (z ∷ xs) x zero y h = inl h
 got_of (z ∷ xs) x (suc k) y h = got_of xs x k y h
-
-mapped_from : {X Y : Type 0} (f : X → Y) (xs : List X) (k : ℕ) (y : Y) → slice_get (map f xs) k ≡ Some y → (x : X) × ((slice_get xs k ≡ Some x) × (f x ≡ y))
-mapped_from f [] k y h = absurd (cc)
-mapped_from f (x ∷ xs) zero y h = let same : f x ≡ y = cc in (x, (refl, same))
-mapped_from f (x ∷ xs) (suc k) y h = mapped_from f xs k y h
 
 got_set : {X : Type 0} (xs : List X) (k j : ℕ) (y z : X) → slice_get (slice_set xs k y) j ≡ Some z → (slice_get xs j ≡ Some z) ⊎ ((j ≡ k) × (z ≡ y))
 got_set [] k j y z h = inl h
@@ -47,13 +41,6 @@ none_so net variants all is slot own at = let some : slice_get [] slot ≡ Some 
 -- nothing is kept
 pub nothing_so : (net : Network) (variants : List Variant) (all : Kept) → all.slots.items ≡ [] → all.copies ≡ [] → IsKept net variants all
 nothing_so net variants all slots copies = record { slots = none_so net variants all.slots.items slots; copies = no_copies net all.copies copies }
-
-pub forgotten_so : (net next : Network) (before after : List Variant) (all new : List SlotKept) → new ≡ map forgotten all → next ≡ net → AreBySlot net before all → AreBySlot next after new
-forgotten_so net next before after all new is same k slot own at =
-    let was = mapped_from forgotten all slot own (ap (λ (z : List SlotKept). slice_get z slot) (sym is) ∙ at) in
-    let opened = (rows_at after slot).opened in
-    subst (λ (n : Network). AreSlotBuses n opened own) (sym same)
-    (subst (λ (z : SlotKept). AreSlotBuses net opened z) was.1.1 (record { made = (k slot was.0 was.1.0).made; known = λ h. absurd (false≢true h) }))
 
 pub one_more_so : (net : Network) (variants : List Variant) (all new : List SlotKept) (more : SlotKept) → new ≡ all ++ more ∷ [] → ((net : Network) (opened : List (List Bool)) → AreSlotBuses net opened more) → AreBySlot net variants all → AreBySlot net variants new
 one_more_so net variants all new more is fits k slot own at = by (got_of all more slot own (ap (λ (z : List SlotKept). slice_get z slot) (sym is) ∙ at))

@@ -14,7 +14,7 @@ use Rattle.grid_slots.specs.Names.{with_name}
 use Rattle.grid_slots.specs.Places.{variant}
 use Rattle.grid_slots.specs.Variants.{names, slot_of, has_slot, rows_of, with_variant, IsTable}
 use Rattle.grid_slots.specs.Answers.{clone_fault, IsClone}
-use Rattle.grid_slots.proofs.Looping.{used_below}
+use Rattle.grid_slots.proofs.UsedSlots.{used_below}
 use Rattle.grid_requests.specs.declared.request.Request.TheVariants as requests
 use Rattle.grid_core.specs.declared.reply.Reply.{Reply}
 use Rattle.grid_core.specs.declared.reply.Reply.TheVariants as replies

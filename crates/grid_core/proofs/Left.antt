@@ -1,10 +1,10 @@
 -- What is kept where a request leaves levels and branches as they are.
-use Rattle.std.proofs.Common.{◌≡◌, refl, sym, ap, ◌∙◌, subst, ℕ, ◌<◌, Bool, true, Option, Some, None, List, [], ◌∷◌, ◌++◌, length}
+use Rattle.std.proofs.Common.{◌≡◌, ◌≢◌, refl, sym, ap, ◌∙◌, subst, ℕ, ◌<◌, Bool, true, Option, Some, None, List, [], ◌∷◌, ◌++◌, length}
 use Rattle.std.proofs.lemmas.Bool.{false≢true}
-use Rattle.std.specs.Prelude.{flat_map, slice_get, IfSome, Ok, Err, Result}
+use Rattle.std.specs.Prelude.{flat_map, map, slice_get, IfSome, Ok, Err, Result}
 use Rattle.grid_ids.specs.Refusing.{refuse_if}
 use Rattle.grid_lemmas.proofs.Lists.{map_alike}
-use Rattle.grid_level.proofs.Editing as on_level
+use Rattle.grid_level.proofs.LevelEdits as on_level
 use Rattle.grid_level.specs.VoltageLevel.{VoltageLevel}
 use Rattle.grid_structure.specs.declared.Branch.{Branch}
 use Rattle.grid_structure.specs.declared.Branch.TheVariants.{Line, TwoWindings, ThreeWindings}
@@ -25,17 +25,19 @@ use Rattle.grid_islands.specs.declared.kept.KeptBuses.{KeptBuses}
 use Rattle.grid_islands.specs.declared.components.Numbers.{Numbers}
 use Rattle.grid_islands.specs.Islands.{pairs_among}
 use Rattle.grid_islands.specs.Numbering.{numbered, number_of_end, pairs_of_branch, numbered_pairs, counts_before}
-use Rattle.grid_islands.specs.Spots.{spot_of_end, spots_of_branch, network_spots}
-use Rattle.grid_islands.specs.Kept.{kept_of, IsKeptAt, IsMadeOf, AreNumbersOf, AreBusesOf, AreKept}
+use Rattle.grid_islands.specs.Spots.{spot_of_end, spots_of_branch, network_spots, buses_of_spots}
+use Rattle.grid_islands.specs.Kept.{kept_of, IsKeptAt, IsMadeOf, AreNumbersOf, AreBusesOf, AreKept, AreKeptBut}
 use Rattle.grid_requests.specs.Changes.{structure_after, changed_or}
 use Rattle.grid_requests.specs.declared.request.Request.{Request}
 use Rattle.grid_requests.specs.declared.request.Request.TheVariants as requests
 use Rattle.grid_core.specs.declared.kept.SlotKept.{SlotKept}
 use Rattle.grid_core.specs.declared.kept.Kept.{Kept}
+use Rattle.grid_core.specs.declared.kept.Known.{Known}
+use Rattle.grid_core.specs.declared.kept.Known.TheVariants as knowns
 use Rattle.grid_core.specs.declared.verdict.Verdict.TheVariants as verdicts
 use Rattle.grid_core.specs.declared.machine.Machine.{Machine}
 use Rattle.grid_core.specs.Verdicts.{puts, DecidesSome}
-use Rattle.grid_core.specs.Kept.{AreBySlot, IsKept, leaves, edit_leaves}
+use Rattle.grid_core.specs.Kept.{AreKnown, AreBySlot, IsKept, SameFlags, leaves, edit_leaves}
 use Rattle.grid_core.proofs.Fits.{substation-alike}
 use Rattle.grid_core.proofs.LevelCopies.{copies_same}
 
@@ -92,12 +94,23 @@ module _ (a b : Network) (same : SameLists a b) where
       rows = n.rows ∙ ap length (sym same.levels_are);
       every = kept_same n.opened n.every;
       numbered = record {
-        firsts = n.numbered.firsts ∙ ap (λ (ls : List VoltageLevel). (counts_before n.opened ls (length ls)).firsts) (sym same.levels_are);
+        counts = n.numbered.counts ∙ ap (λ (ls : List VoltageLevel). counts_before n.opened ls (length ls)) (sym same.levels_are);
+        few = n.numbered.few;
         components = rw (same.levels_are, pairs_same n.opened) n.numbered.components;
         long = n.numbered.long;
         sizes = n.numbered.sizes;
       };
+      ended = n.ended ∙ ap (map (buses_of_spots numbers.counts.firsts kept.levels)) (sym spots_same);
     }
+
+    but_same : (opened : List (List Bool)) (place : ℕ) → AreKeptBut a opened place kept → AreKeptBut b opened place kept
+    but_same opened place = subst (λ (ls : List VoltageLevel). (k : ℕ) (level : VoltageLevel) → k ≢ place → slice_get ls k ≡ Some level → IsKeptAt kept k (kept_of level (row_at opened k))) (sym same.levels_are)
+
+    known_same : (opened : List (List Bool)) (known : Known) → AreKnown a opened kept known → AreKnown b opened kept known
+    unfolding AreKnown
+    known_same opened knowns.All = kept_same opened
+    known_same opened (knowns.AllBut place) = but_same opened place
+    known_same opened knowns.Nothing = λ k. k
 
     buses_same : AreBusesOf a kept → AreBusesOf b kept
     buses_same k = record {
@@ -106,10 +119,10 @@ module _ (a b : Network) (same : SameLists a b) where
       numbered = some_too kept.numbers k.numbered numbers_same;
     }
 
-  pub by_slot_same : (variants : List Variant) (all : List SlotKept) → AreBySlot a variants all → AreBySlot b variants all
-  by_slot_same variants all k slot own at =
+  pub by_slot_same : (before after : List Variant) (all : List SlotKept) → SameFlags before after → AreBySlot a before all → AreBySlot b after all
+  by_slot_same before after all flags k slot own at =
       let was = k slot own at in
-      record { made = buses_same own.buses was.made; known = λ h. kept_same own.buses _ (was.known h) }
+      record { made = buses_same own.buses was.made; known = subst (λ (opened : List (List Bool)). AreKnown b opened own.buses own.known) (sym (flags slot)) (known_same own.buses _ own.known was.known) }
 
 -- ---- what a request leaves
 
@@ -166,12 +179,12 @@ leaves_same net (requests.Components level) h = itself net
 leaves_same net (requests.CloneVariant from to overwrite) h = itself net
 leaves_same net (requests.RemoveVariant name) h = itself net
 
-pub left_so : (net : Network) (request : Request) (before after : List Variant) (all : Kept) → leaves request ≡ true → IsKept net before all → after ≡ before → IsKept (structure_after net request) after all
+pub left_so : (net : Network) (request : Request) (before after : List Variant) (all : Kept) → leaves request ≡ true → IsKept net before all → SameFlags before after → IsKept (structure_after net request) after all
 left_so net request before after all h k same =
     let next = structure_after net request in
     let stays = leaves_same net request h in
     record {
-      slots = subst (λ (vs : List Variant). AreBySlot next vs all.slots.items) (sym same) (by_slot_same net next stays before all.slots.items k.slots);
+      slots = by_slot_same net next stays before after all.slots.items same k.slots;
       copies = copies_same net next all.copies stays.levels_are k.copies;
     }
 

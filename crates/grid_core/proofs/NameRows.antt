@@ -15,9 +15,9 @@ use Rattle.grid_slots.specs.Names.{names_rise}
 use Rattle.grid_slots.specs.Places.{variant}
 use Rattle.grid_slots.specs.Answers.{IsClone}
 use Rattle.grid_slots.proofs.Order.{same_back, above_differs}
-use Rattle.grid_slots.proofs.Changing.{changed_none, names-changed, names-all_changed}
+use Rattle.grid_slots.proofs.RowChanges.{changed_none, names-changed, names-all_changed}
 use Rattle.grid_slots.proofs.Tables.{has_slot-slots}
-use Rattle.grid_slots.proofs.Placed.{none_slot}
+use Rattle.grid_slots.proofs.TableEdits.{none_slot}
 use Rattle.grid_core.specs.Slotted.{Holds}
 use Rattle.grid_core.proofs.LiveNames.{slot_live}
 

@@ -13,7 +13,7 @@ use Rattle.grid_slots.specs.Variants.{names, is_live as has_name, slot_of, rows_
 use Rattle.grid_slots.specs.Places.{variant}
 use Rattle.grid_slots.specs.Answers.{IsClone}
 use Rattle.grid_slots.proofs.Order.{above_differs}
-use Rattle.grid_slots.proofs.Changing.{names-changed}
+use Rattle.grid_slots.proofs.RowChanges.{names-changed}
 use Rattle.grid_slots.proofs.Tables.{has_slot-slots}
 use Rattle.grid_core.specs.Slotted.{target_slot}
 use Rattle.grid_core.specs.History.{Command, live, is_live, least_free, slot_in}

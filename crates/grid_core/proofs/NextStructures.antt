@@ -19,7 +19,8 @@ use Rattle.grid_core.specs.declared.reply.Reply.{Reply}
 use Rattle.grid_core.specs.Replies.{reply, reply_to, change_reply}
 use Rattle.grid_core.specs.declared.touched.Touched.{Touched}
 use Rattle.grid_core.specs.Touched.{IsTouch}
-use Rattle.grid_core.specs.Kept.{IsKept, leaves, accepts}
+use Rattle.grid_core.specs.Kept.{IsKept, IsMoveOf, AreMoved, SameFlags, moves_at, moved_level, leaves, accepts}
+use Rattle.grid_core.proofs.RowMoves.{move_of}
 
 pub structure_next : (origin : Network) (before : List Command) (old new : Machine) (worker : ℕ) (request : Request) (made : Made) → Held origin before old → Makes origin before (command worker request) made new → new.structure ≡ structure_after old.structure request
 unfolding structure
@@ -53,9 +54,11 @@ not_accepted_same origin before worker (requests.RemoveVariant name) r is h = re
 
 -- what `follow` leaves is of the structure after the step
 pub followed_so : (origin : Network) (before : List Command) (old new : Machine) (worker : ℕ) (request : Request) (made : Made) (was now : Kept) (touched : Touched) → Held origin before old → Makes origin before (command worker request) made new
-    → IsTouch old.structure (structure_after old.structure request) touched
-    → ((net : Network) (olds news : List Variant) → IsKept net olds was → IsTouch net (structure_after net request) touched → (leaves request ≡ true → news ≡ olds) → (accepts request made.reply ≡ false → structure_after net request ≡ net) → IsKept (structure_after net request) news now)
-    → (leaves request ≡ true → new.slots ≡ old.slots) → IsKept old.structure old.slots was → IsKept new.structure new.slots now
-followed_so origin before old new worker request made was now touched held makes touches follows stays k =
+    → IsTouch old.structure (structure_after old.structure request) touched → IsMoveOf old.structure request touched
+    → ((net : Network) (olds news : List Variant) → IsKept net olds was → IsTouch net (structure_after net request) touched → (leaves request ≡ true → SameFlags olds news) → (accepts request made.reply ≡ false → structure_after net request ≡ net)
+    → AreMoved (moved_level request touched) olds news → IsKept (structure_after net request) news now)
+    → (leaves request ≡ true → SameFlags old.slots new.slots) → AreMoved (moves_at old.structure request) old.slots new.slots → IsKept old.structure old.slots was → IsKept new.structure new.slots now
+followed_so origin before old new worker request made was now touched held makes touches of follows stays moved k =
     subst (λ (n : Network). IsKept n new.slots now) (sym (structure_next origin before old new worker request made held makes))
-    (follows old.structure old.slots new.slots k touches stays (λ h. subst (λ (n : Network). structure_after n request ≡ n) (sym held.parts.structure_is) (not_accepted_same origin before worker request made.reply makes.replied h)))
+    (follows old.structure old.slots new.slots k touches stays (λ h. subst (λ (n : Network). structure_after n request ≡ n) (sym held.parts.structure_is) (not_accepted_same origin before worker request made.reply makes.replied h))
+    (move_of old.structure request touched old.slots new.slots of moved))

@@ -58,7 +58,7 @@ module _ (origin : Network) (m new : Machine) (journal begun entries : List Entr
 pub worker_works : (m : Machine) (worker : ℕ) (name variant : List ℕ) → worker < length m.working.items → name ≡ get_or m.working.items worker name → variant ≡ name → WorksOn m worker variant
 worker_works m worker name variant h is same = get_there m.working.items worker name h is ∙ ap (λ (z : List ℕ). Some z) (sym same)
 
--- ---- where want of memory has changed nothing
+-- ---- where out of memory has changed nothing
 
 pub world_same : (origin : Network) (m new : Machine) (journal entries : List Entry) → IsSame m new → entries ≡ journal → IsWorld origin m journal → IsWorld origin new entries
 world_same origin m new journal entries same kept w =

@@ -4,7 +4,7 @@ use Rattle.std.specs.Prelude.{IsTrue, IsFalse, MatchOption}
 use Rattle.grid_structure.specs.Network.{Network}
 use Rattle.grid_states.specs.Rows.{Rows}
 use Rattle.grid_slots.specs.Variants.{rows_at, IsTable}
-use Rattle.grid_slots.proofs.Looping.{used_below}
+use Rattle.grid_slots.proofs.UsedSlots.{used_below}
 use Rattle.grid_core.specs.declared.journal.Entry.{Entry}
 use Rattle.grid_core.specs.declared.machine.Machine.{Machine}
 use Rattle.grid_requests.specs.declared.request.Request.{Request}

@@ -1,10 +1,11 @@
 // What is kept for the variant in each slot, for its next request, and what all slots share.
-ghost use Rattle.std.specs.Prelude.{◌≡◌, ◌<◌, IsTrue, IsFalse, OnOk, Bool, List, length, map};
+ghost use Rattle.std.specs.Prelude.{◌≡◌, ◌<◌, IsTrue, IsFalse, OnOk, Bool, List, length};
 ghost use Rattle.grid_structure.specs.Network.{Network};
 ghost use Rattle.grid_slots.specs.Variant.{Variant};
 ghost use Rattle.grid_requests.specs.Changes.{structure_after};
 ghost use Rattle.grid_core.specs.Kept as kept;
-ghost use Rattle.grid_core.specs.Kept.{AreSlotBuses, AreBySlot, IsKept, forgotten};
+ghost use Rattle.grid_islands.specs.declared.kept.KeptBuses.{KeptBuses};
+ghost use Rattle.grid_core.specs.Kept.{AreKnown, AreSlotBuses, AreBySlot, IsKept, LeavesRow, IsRowMove, AreMoved, IsMoveOf, SameFlags};
 ghost use Rattle.grid_core.specs.Touched.{IsTouch};
 
 use crate::copies::Copies;
@@ -16,13 +17,46 @@ use grid_islands::KeptBuses;
 use grid_structure::{Edit, Structure};
 use std::alloc::Global;
 
+/// Of which levels it is known that their buses are kept under the flags that the variant has now. Others may be so
+/// nevertheless.
+#[derive(Clone, Copy)]
+pub(crate) enum Known {
+    /// Of all.
+    All,
+    /// Of all but the one at a place.
+    AllBut(u32),
+    /// Of none.
+    Nothing,
+}
+
+impl Known {
+    // What is known where the flags of the level at a place may have changed.
+    fn but(self, level: u32) -> Known
+        ensures { (net : Network) (was opened : List (List Bool)) (buses : KeptBuses)
+            → LeavesRow level was opened → AreKnown net was buses self
+            → AreKnown net opened buses result }
+    {
+        match self {
+            Known::All => Known::AllBut(level),
+            Known::AllBut(other) => {
+                if other == level {
+                    Known::AllBut(level)
+                } else {
+                    Known::Nothing
+                }
+            }
+            Known::Nothing => Known::Nothing,
+        }
+    }
+}
+
 /// What is kept for the variant in a slot.
 #[derive(Drop)]
 pub(crate) struct SlotKept {
     /// The buses of the levels, for the next request for components.
     pub(crate) buses: KeptBuses,
-    /// All buses are kept under the flags that the variant has now. Where it does not say so they may be nevertheless.
-    pub(crate) known: bool,
+    /// Which of them are known to be those under the flags that the variant has now.
+    pub(crate) known: Known,
     /// Levels with the labels of their nodes, for the next view or plan.
     pub(crate) levels: KeptLevels,
 }
@@ -41,7 +75,7 @@ impl SlotKept {
     {
         SlotKept {
             buses: KeptBuses::empty(alloc),
-            known: false,
+            known: Known::Nothing,
             levels: KeptLevels::none(alloc),
         }
     }
@@ -52,7 +86,7 @@ impl SlotKept {
         ensures { (net next : Network) (was opened : List (List Bool)) → IsTouch net next touched
             → AreSlotBuses net was self.old → AreSlotBuses next opened self.new }
     {
-        self.known = false;
+        self.known = Known::Nothing;
         match touched {
             Touched::Level(place) => self.buses.let_go(alloc, place),
             Touched::Ends(first, second, third) => {
@@ -64,6 +98,18 @@ impl SlotKept {
                 self.buses = KeptBuses::empty(alloc);
                 self.levels.forget_places(alloc);
             }
+        }
+    }
+
+    // Takes it for unknown whether the buses of the level at this place are kept under the flags that the variant has
+    // now, or where there is no place, those of any level.
+    fn doubt(&mut self, moved: Option<u32>)
+        ensures { (net : Network) (was opened : List (List Bool)) → IsRowMove moved was opened
+            → AreSlotBuses net was self.old → AreSlotBuses net opened self.new }
+    {
+        match moved {
+            Some(level) => self.known = self.known.but(level),
+            None => self.known = Known::Nothing,
         }
     }
 }
@@ -79,9 +125,11 @@ impl Kept {
         }
     }
 
-    /// The levels that a request touches, if it is an edit; where nothing is kept none is looked for. It takes no memory.
+    /// The levels that a request touches, if it is an edit or moves one switch; where nothing is kept none is looked
+    /// for. It takes no memory.
     pub(crate) fn touched_by(&self, structure: &Structure, request: &Request) -> Touched
-        ensures { IsTouch structure.now (structure_after structure.now request.now) result }
+        ensures touch { IsTouch structure.now (structure_after structure.now request.now) result }
+        ensures moved { IsMoveOf structure.now request.now result }
     {
         if self.slots.is_empty() && self.copies.is_empty() {
             return Touched::All;
@@ -124,13 +172,14 @@ pub(crate) fn bound_benches(alloc: Global, all: &mut Kept)
     all.copies.count_anew();
 }
 
-// Whether a request leaves levels and branches, and in each slot its variant with the variant's flags, as they are.
+// Whether a request leaves levels and branches, and in the variant in each slot what is open, as they are.
 #[tactic(auto, unfolding(crate::specs::Kept::leaves, crate::specs::Kept::edit_leaves))]
 fn leaves(request: &Request) -> bool
     ensures { result ≡ kept.leaves request.now }
 {
     match request {
         Request::UseVariant { .. }
+        | Request::SetPower { .. }
         | Request::Totals
         | Request::BusBreakerView { .. }
         | Request::BusView { .. }
@@ -139,7 +188,6 @@ fn leaves(request: &Request) -> bool
         Request::OpenSwitch { .. }
         | Request::CloseSwitch { .. }
         | Request::RetainSwitch { .. }
-        | Request::SetPower { .. }
         | Request::Connect { .. }
         | Request::Disconnect { .. }
         | Request::CloneVariant { .. }
@@ -177,12 +225,27 @@ fn accepts(request: &Request, reply: &Reply) -> bool
     }
 }
 
-// That all buses are kept under the present flags is known of no slot any more.
-fn forget(all: &mut Vec<SlotKept>)
-    ensures { all.new.items ≡ map forgotten all.old.items }
+// The level whose flags alone a request may have changed, where it touches that level alone.
+#[tactic(auto, unfolding(crate::specs::Kept::moved_level))]
+fn moved_level(request: &Request, touched: Touched) -> Option<u32>
+    ensures { result ≡ kept.moved_level request.now touched }
+{
+    match (request, touched) {
+        (Request::OpenSwitch { .. } | Request::CloseSwitch { .. }, Touched::Level(place)) => {
+            Some(place)
+        }
+        _ => None,
+    }
+}
+
+// Takes it for unknown, for each slot, whether the level's buses at this place are kept under the present flags, or
+// where there is no place, those of any level.
+fn doubt(all: &mut Vec<SlotKept>, moved: Option<u32>)
+    ensures { (net : Network) (before after : List Variant) → AreMoved moved before after
+        → AreBySlot net before all.old.items → AreBySlot net after all.new.items }
 {
     for slot in 0..all.len() {
-        all[slot].known = false;
+        all[slot].doubt(moved);
     }
 }
 
@@ -196,18 +259,17 @@ fn follow_slots(alloc: Global, all: &mut Vec<SlotKept>, touched: Touched)
     }
 }
 
-// As how many moves a request counts that changes something: each switch of a plan, and else one. Watts move nothing.
-fn moves_of(request: &Request, reply: &Reply) -> u64 {
-    match (request, reply) {
-        (Request::SetPower { .. }, _) => 0,
-        (_, Reply::Closed(ids) | Reply::Opened(ids)) => ids.get().len() as u64,
+// As how many moves a request counts that does not leave all as it is: each switch of a plan, and else one.
+fn moves_of(reply: &Reply) -> u64 {
+    match reply {
+        Reply::Closed(ids) | Reply::Opened(ids) => ids.get().len() as u64,
         _ => 1,
     }
 }
 
-/// Lets go what a request may have made wrong: after an accepted edit what is kept of the levels that it touches, unless
-/// levels and branches are as before; and where flags may have changed, that all buses are kept under them. Of switches
-/// that may have moved it counts how many.
+/// Lets go what a request may have made wrong: after an accepted edit what is kept of the levels that it touches,
+/// unless levels and branches are as before; and where flags may have changed, that the buses of those levels are
+/// kept under them. Of switches that may have moved it counts how many.
 pub(crate) fn follow(
     alloc: Global,
     all: &mut Kept,
@@ -217,18 +279,19 @@ pub(crate) fn follow(
 )
     ensures { (net : Network) (before after : List Variant) → IsKept net before all.old
         → IsTouch net (structure_after net request.now) touched
-        → (IsTrue (kept.leaves request.now) → after ≡ before)
+        → (IsTrue (kept.leaves request.now) → SameFlags before after)
         → (IsFalse (kept.accepts request.now reply.now) → structure_after net request.now ≡ net)
+        → AreMoved (kept.moved_level request.now touched) before after
         → IsKept (structure_after net request.now) after all.new }
 {
     if leaves(request) {
         return;
     }
-    all.copies.count_moves(moves_of(request, reply));
+    all.copies.count_moves(moves_of(reply));
     if accepts(request, reply) {
         all.copies.follow(alloc, touched);
         follow_slots(alloc, &mut all.slots, touched);
     } else {
-        forget(&mut all.slots);
+        doubt(&mut all.slots, moved_level(request, touched));
     }
 }

@@ -1,9 +1,11 @@
 // Plans of connecting and disconnecting, of a state by its parts.
-ghost use Rattle.std.specs.Prelude.{◌≡◌, ◌<◌, Bool, IsTrue, List, IfOk, length};
+ghost use Rattle.std.specs.Prelude.{◌≡◌, ◌<◌, Bool, IsTrue, List, IfOk, Some, length};
 ghost use Rattle.grid_level.specs.Kept.{among};
 ghost use Rattle.grid_level.specs.Passing.{nodes, positioned};
 ghost use Rattle.grid_powers.specs.Listed.{Listed};
 ghost use Rattle.grid_states.specs.Rows.{row_at};
+ghost use Rattle.grid_bench.specs.Contents.{content};
+ghost use Rattle.grid_bench.specs.Stores.{kept_for};
 ghost use Rattle.grid_core.specs.Fitting.{RowsFit};
 ghost use Rattle.grid_core.specs.Copied.{AreCopies};
 ghost use Rattle.grid_core.specs.Solo.{state_seen};
@@ -12,7 +14,7 @@ ghost use Rattle.grid_core.specs.Verdicts.{IsFound, operating, plan_verdict};
 
 use crate::copies::Copies;
 use crate::kept_levels::KeptLevels;
-use crate::{Reply, Verdict, find_site};
+use crate::{Reply, Request, Verdict, find_site};
 use grid_bench::Bench;
 use grid_connect::{ConnectPlan, DisconnectPlan, plan_connect, plan_disconnect};
 use grid_ids::{Id, Memory};
@@ -62,7 +64,31 @@ pub(crate) struct Operated<'a> {
     pub(crate) opening: bool,
 }
 
-// What the plan for the terminal at a site comes to, where a bench keeps the level.
+impl<'a> Operated<'a> {
+    /// The terminal of a side of an equipment, which is to be connected.
+    pub(crate) fn to_connect(id: &'a Id, side: i64) -> Operated<'a>
+        ensures { operating result.id.now result.side result.opening ≡ Request.Connect id.now side }
+    {
+        Operated {
+            id,
+            side,
+            opening: false,
+        }
+    }
+
+    /// The terminal of a side of an equipment, which is to be disconnected.
+    pub(crate) fn to_disconnect(id: &'a Id, side: i64) -> Operated<'a>
+        ensures { operating result.id.now result.side result.opening ≡ Request.Disconnect id.now side }
+    {
+        Operated {
+            id,
+            side,
+            opening: true,
+        }
+    }
+}
+
+// What the plan for the terminal at a site comes to, where a bench keeps the level with the flags of these states.
 fn plan_kept(
     bench: &Bench,
     level: &Shared<Level>,
@@ -73,17 +99,21 @@ fn plan_kept(
     requires below { at.level < length states.now.opened }
     requires opened { length (row_at states.now.opened at.level) ≡ length level.now.switches }
     requires retained { length (row_at states.now.retained at.level) ≡ length level.now.switches }
+    requires kept { kept_for bench.now level.now.id
+        ≡ Some (content level.now (row_at states.now.opened at.level) (row_at states.now.retained
+        at.level)) }
     requires node { IsTrue (among (nodes level.now) at.node) }
     ensures { IfOk result (λ verdict. verdict ≡ plan_verdict opening at.level
         (positioned level.now (row_at states.now.opened at.level)) at.node) }
 {
     let opened = states.opened_row(at.level);
     let retained = states.retained_row(at.level);
+    let level = level.get();
     if opening {
-        let plan = bench.disconnect(level, opened, retained, at.node)?;
+        let plan = bench.disconnect_kept(level, opened, retained, at.node)?;
         Ok(disconnect_verdict(at.level, plan))
     } else {
-        let plan = bench.connect(level, opened, retained, at.node)?;
+        let plan = bench.connect_kept(level, opened, retained, at.node)?;
         Ok(connect_verdict(at.level, plan))
     }
 }

@@ -1,6 +1,7 @@
 // Watts in one variant.
-ghost use Rattle.std.specs.Prelude.{◌≡◌, length, OnErr, IfOk};
+ghost use Rattle.std.specs.Prelude.{◌≡◌, length, OnErr, OnOk, IfOk};
 ghost use Rattle.grid_core.specs.Machines.{IsMachine, IsSame, IsDead, StandsAt, Steps, WorksOn};
+ghost use Rattle.grid_core.specs.Kept.{SameFlags};
 
 use crate::machine::{Machine, Made, answer};
 use crate::{Refusal, Reply, Request};
@@ -45,6 +46,7 @@ impl Machine {
         ensures made { IfOk result (Steps self.old self.new worker
             (Request.SetPower id.now watts)) }
         ensures same { OnErr result (IsSame self.old self.new) }
+        ensures flags { OnOk result (SameFlags self.old.slots self.new.slots) }
         ensures count { length self.new.working.items ≡ length self.old.working.items }
     {
         self.slots.keeps();

@@ -1,16 +1,17 @@
-// Which levels an edit changes, so that what is kept of the others can stay.
+// Which levels a request changes, so that what is kept of the others can stay.
 ghost use Rattle.std.specs.Prelude.{◌≡◌, ℕ, ◌<◌, Some, length};
 ghost use Rattle.grid_structure.specs.Sites.{levels, site};
 ghost use Rattle.grid_structure.specs.Editing.{apply};
 ghost use Rattle.grid_requests.specs.Changes.{changed_or, structure_after};
 ghost use Rattle.grid_core.specs.Touched.{IsTouch, IsLevelOf, IsLevelOfSwitch, AreLevelsOf};
 ghost use Rattle.grid_core.specs.Touched.{AreLevelsOfEnds, AreLevelsOfSides};
+ghost use Rattle.grid_core.specs.Kept.{IsMoveOf};
 
 use crate::Request;
 use grid_ids::Id;
 use grid_structure::{Branch, Edit, End, Structure};
 
-/// The places of the levels that an edit may change.
+/// The places of the levels that an edit may change, or of the level whose flags a request may.
 #[derive(Clone, Copy)]
 pub(crate) enum Touched {
     /// Of one level.
@@ -61,7 +62,7 @@ fn levels_of_branch(structure: &Structure, branch: &Branch) -> Touched
     }
 }
 
-// The level of a switch. Where there is none the edit that removes it is refused.
+// The level of a switch. Where there is none a request that names it is refused.
 fn level_of_switch(structure: &Structure, id: &Id) -> Touched
     ensures { IsLevelOfSwitch structure.now id.now result }
 {
@@ -115,12 +116,16 @@ fn touched_by_edit(structure: &Structure, edit: &Edit) -> Touched
     }
 }
 
-/// The levels that a request touches, if it is an edit. It takes no memory.
+/// The levels that a request touches, if it is an edit or moves one switch. It takes no memory.
+#[tactic(auto, unfolding(crate::specs::Kept::moved_level))]
 pub(crate) fn touched_by(structure: &Structure, request: &Request) -> Touched
-    ensures { IsTouch structure.now (structure_after structure.now request.now) result }
+    ensures touch { IsTouch structure.now (structure_after structure.now request.now) result }
+    ensures moved { IsMoveOf structure.now request.now result }
 {
     match request {
         Request::Change { edit } => touched_by_edit(structure, edit),
+        Request::OpenSwitch { id } => level_of_switch(structure, id),
+        Request::CloseSwitch { id } => level_of_switch(structure, id),
         _ => Touched::All,
     }
 }

@@ -1,20 +1,21 @@
 -- One level more that is kept as its flags make it.
-use Rattle.std.proofs.Common.{◌≡◌, ◌≢◌, refl, sym, ap, ◌∙◌, subst, ℕ, zero, suc, ◌+◌, ◌<◌, Bool, List, [], ◌∷◌, length, Option, Some, None, inl, inr, arith}
-use Rattle.std.specs.Prelude.{slice_get, IfSome}
+use Rattle.std.proofs.Common.{◌≡◌, ◌≢◌, refl, sym, ap, ◌∙◌, subst, ℕ, zero, suc, ◌+◌, ◌<◌, ◌≤◌, Bool, List, [], ◌∷◌, length, Option, Some, None, inl, inr, arith}
+use Rattle.std.specs.Prelude.{slice_get, IfSome, IsTrue}
 use Rattle.std.proofs.lemmas.Bool.Decides.{eqb_tells}
 use Rattle.std.proofs.lemmas.Option.{same_Some, slice_get_within}
 use Rattle.grid_level.specs.VoltageLevel.{VoltageLevel}
 use Rattle.grid_level.specs.Passing.{positioned}
 use Rattle.grid_structure.specs.Network.{Network}
 use Rattle.grid_structure.specs.Sites.{levels}
-use Rattle.grid_busview.specs.Views.{bus_leasts}
+use Rattle.grid_busview.specs.Views.{bus_leasts, node_buses_of}
 use Rattle.grid_states.specs.Rows.{row_at}
 use Rattle.grid_islands.specs.declared.kept.KeptLevel.{KeptLevel}
 use Rattle.grid_islands.specs.declared.kept.KeptBuses.{KeptBuses}
-use Rattle.grid_islands.specs.Numbering.{standing, IsOwn, AreNumbers}
+use Rattle.grid_islands.specs.Numbering.{standing, counts_before, with_count, IsOwn, AreNumbers}
 use Rattle.grid_islands.proofs.LevelComponents.{level_exists}
 use Rattle.grid_islands.specs.declared.components.Numbers.{Numbers}
-use Rattle.grid_islands.specs.Kept.{kept_of, IsKeptAt, IsLeftOrNone, AreBusesOf, AreNumbersOf, AreKept, AreKeptBefore}
+use Rattle.grid_islands.specs.Kept.{kept_of, IsKeptAt, IsLeftOrNone, AreBusesOf, AreNumbersOf, AreKept, AreKeptBefore, AreKeptBut, IsFollowedBy}
+use Rattle.grid_islands.proofs.LevelNumbers.{counts_none, counts_more}
 
 module _ (net : Network) (old new : KeptBuses) (place : ℕ) (level : VoltageLevel) (row : List Bool) (at : slice_get (levels net) place ≡ Some level) (own : IsKeptAt new place (kept_of level row))
     (others : (other : ℕ) → other ≢ place → slice_get new.levels other ≡ slice_get old.levels other) where
@@ -46,9 +47,74 @@ module _ (net : Network) (old new : KeptBuses) (place : ℕ) (level : VoltageLev
         | inr n ↦ others k n.1 ∙ before k l (omega (arith, lt, n.1)) there
       ]
 
+  pub all_kept : (opened : List (List Bool)) → row ≡ row_at opened place → AreKeptBut net opened place old → AreKept net opened new
+  all_kept opened is but k l lt there =
+      elim (eqb_tells k place) [
+        | inl e ↦ ap (slice_get new.levels) e.1 ∙ own
+            ∙ ap Some (ap (λ z. kept_of z row) (sym (level_there k l e.1 there)) ∙ ap (kept_of l) (is ∙ ap (row_at opened) (sym e.1)))
+        | inr n ↦ others k n.1 ∙ but k l n.1 there
+      ]
+
+-- a level whose flags are those with which it is kept
+pub has_kept : (net : Network) (kept : KeptBuses) (place : ℕ) (level : VoltageLevel) (row : List Bool) (own : KeptLevel) → AreBusesOf net kept → slice_get (levels net) place ≡ Some level → IsKeptAt kept place own → IsTrue own.valid → own.opened ≡ row
+    → IsKeptAt kept place (kept_of level row)
+has_kept net kept place level row own is at there valid same = there ∙ ap Some (is.made place level own at there valid ∙ ap (kept_of level) same)
+
+-- no level is at the place that is left out
+pub none_but : (net : Network) (opened : List (List Bool)) (place : ℕ) (kept : KeptBuses) → length (levels net) ≤ place → AreKeptBut net opened place kept → AreKept net opened kept
+none_but net opened place kept past but k level lt at = but k level (λ e. absurd (omega (arith, lt, past, e))) at
+
+-- the levels before the one that is left out are kept
+pub but_long : (net : Network) (opened : List (List Bool)) (place : ℕ) (kept : KeptBuses) → place < length (levels net) → AreKeptBut net opened place kept → place ≤ length kept.levels
+but_long net opened zero kept inside but = omega arith
+but_long net opened (suc k) kept inside but =
+    let level = level_exists net k (omega (arith, inside)) in
+    omega (arith, slice_get_within kept.levels k (kept_of level.0 (row_at opened k)) (but k level.0 (λ e. absurd (omega (arith, e))) level.1))
+
+-- the numbers are let go
+pub numbers_gone : (net : Network) (old new : KeptBuses) → new.levels ≡ old.levels → new.spots ≡ old.spots → new.numbers ≡ None → AreBusesOf net old → AreBusesOf net new
+numbers_gone net old new same spots none is = record {
+  made = λ k level own at there. is.made k level own at (ap (λ (z : List KeptLevel). slice_get z k) (sym same) ∙ there);
+  spotted = λ some. spots ∙ is.spotted (omega (arith, some, ap length spots));
+  numbered = subst (λ (z : Option Numbers). IfSome z (AreNumbersOf net new)) (sym none) tt;
+}
+
 -- what is kept of the levels stays
 pub still_kept : (net : Network) (opened : List (List Bool)) (count : ℕ) (old new : KeptBuses) → new.levels ≡ old.levels → AreKeptBefore net opened count old → AreKeptBefore net opened count new
 still_kept net opened count old new same every k level lt at = ap (λ z. slice_get z k) same ∙ every k level lt at
+
+-- what is kept of all levels but one stays
+pub still_but : (net : Network) (opened : List (List Bool)) (place : ℕ) (old new : KeptBuses) → new.levels ≡ old.levels → AreKeptBut net opened place old → AreKeptBut net opened place new
+still_but net opened place old new same but k level other at = ap (λ z. slice_get z k) same ∙ but k level other at
+
+-- as many buses of each level make the same counts
+module _ (net : Network) (one two : List (List Bool)) (alike : (k : ℕ) (level : VoltageLevel) → slice_get (levels net) k ≡ Some level → length (bus_leasts (standing one (k, level))) ≡ length (bus_leasts (standing two (k, level)))) where
+  pub same_counts : (k : ℕ) → k ≤ length (levels net) → counts_before one (levels net) k ≡ counts_before two (levels net) k
+  same_counts zero le = sym (counts_none one (levels net)) ∙ counts_none two (levels net)
+  same_counts (suc k) le =
+      let next : k + 1 ≡ suc k = omega arith in
+      let level = level_exists net k (omega (arith, le)) in
+      ap (counts_before one (levels net)) (sym next) ∙ sym (counts_more one (levels net) k level.0 level.1)
+      ∙ ap (λ z. with_count z (length (bus_leasts (standing one (k, level.0))))) (same_counts k (omega (arith, le)))
+      ∙ ap (with_count (counts_before two (levels net) k)) (alike k level.0 level.1)
+      ∙ counts_more two (levels net) k level.0 level.1 ∙ ap (counts_before two (levels net)) next
+
+-- where one level has other buses, but as many, the counts are the same
+module _ (net : Network) (place : ℕ) (numbers : Numbers) (kept : KeptBuses) (opened : List (List Bool)) (is : IsFollowedBy net place numbers kept) (every : AreKept net opened kept) where
+  alike : (k : ℕ) (level : VoltageLevel) → slice_get (levels net) k ≡ Some level → length (bus_leasts (standing is.were.opened (k, level))) ≡ length (bus_leasts (standing opened (k, level)))
+  unfolding standing kept_of node_buses_of
+  alike k level at =
+      let lt = slice_get_within (levels net) k level at in
+      let was = is.were.every k level lt at in
+      let now = every k level lt at in
+      elim (eqb_tells k place) [
+        | inl e ↦ is.as_many (kept_of level (row_at is.were.opened k)) (kept_of level (row_at opened k)) (ap (slice_get is.before.levels) (sym e.1) ∙ was) (ap (slice_get kept.levels) (sym e.1) ∙ now)
+        | inr n ↦ ap (λ (z : KeptLevel). length z.buses.leasts)
+            (same_Some (kept_of level (row_at is.were.opened k)) (kept_of level (row_at opened k)) (sym was ∙ sym (is.others k n.1) ∙ now))
+      ]
+
+  pub counts_stay : numbers.counts ≡ counts_before opened (levels net) (length (levels net))
+  counts_stay = is.were.numbered.counts ∙ same_counts net is.were.opened opened alike (length (levels net)) (omega arith)
 
 -- rows of flags with which all levels are kept are no others
 pub same_rows : (net : Network) (kept : KeptBuses) (one other : List (List Bool)) → length one ≡ length (levels net) → length other ≡ length (levels net) → AreKept net one kept → AreKept net other kept → one ≡ other

@@ -20,9 +20,12 @@ use Rattle.grid_islands.specs.declared.kept.KeptLevel.{KeptLevel}
 use Rattle.grid_islands.specs.declared.kept.KeptBuses.{KeptBuses}
 use Rattle.grid_islands.specs.declared.spots.Spot.{Spot}
 use Rattle.grid_islands.specs.declared.spots.BranchSpots.{BranchSpots}
-use Rattle.grid_islands.specs.Numbering.{standing, buses_before, counted_from, node_numbers, numbered, number_of_node, number_of_end, pairs_of_branch}
-use Rattle.grid_islands.specs.Kept.{kept_of, AreKeptBefore}
-use Rattle.grid_islands.specs.Spots.{node_index, spot_at, spot_of_end, spots_of_branch, network_spots, number_of_spot, pairs_of_spots, NumbersFit}
+use Rattle.grid_islands.specs.declared.spots.BranchBuses.{BranchBuses}
+use Rattle.grid_islands.specs.declared.numbering.Counts.{Counts}
+use Rattle.grid_islands.specs.declared.components.Numbers.{Numbers}
+use Rattle.grid_islands.specs.Numbering.{standing, buses_before, counted_from, node_numbers, numbered, number_of_node, number_of_end, pairs_of_branch, counts_before, numbered_pairs, IsCounted}
+use Rattle.grid_islands.specs.Kept.{kept_of, AreKeptBefore, AreKept, IsFollowedBy}
+use Rattle.grid_islands.specs.Spots.{node_index, spot_at, spot_of_end, spots_of_branch, network_spots, number_of_spot, buses_of_spots, pairs_of_buses, NumbersFit, SameElsewhere}
 use Rattle.grid_islands.proofs.LevelComponents.{level_exists, level_inside}
 use Rattle.grid_islands.proofs.LevelNumbers.{places_fit}
 use Rattle.grid_islands.proofs.BusPlaces.{all_rows, all_long, row_read}
@@ -101,17 +104,17 @@ module _ (net : Network) (opened : List (List Bool)) (kept : KeptBuses) (every :
       by (Some k) = here k (slice_get (levels net) k) refl
       by None = refl
 
-  branch_as : (branch : Branch) → pairs_of_spots firsts kept.levels (spots_of_branch net branch) ≡ pairs_of_branch net rows branch
-  unfolding pairs_of_spots spots_of_branch pairs_of_branch branch_ends
+  branch_as : (branch : Branch) → pairs_of_buses (buses_of_spots firsts kept.levels (spots_of_branch net branch)) ≡ pairs_of_branch net rows branch
+  unfolding pairs_of_buses buses_of_spots spots_of_branch pairs_of_branch branch_ends
   branch_as (Line a b) = rw (spot_as a, spot_as b) (none_among (number_of_end net rows a) (number_of_end net rows b))
   branch_as (TwoWindings s a b u v) = rw (spot_as a, spot_as b) (none_among (number_of_end net rows a) (number_of_end net rows b))
   branch_as (ThreeWindings s a b c u v w) = rw (spot_as a, spot_as b, spot_as c) refl
 
-  gathered_as : (bs : List NamedBranch) → flat_map (pairs_of_spots firsts kept.levels) (map (λ b. spots_of_branch net b.shape) bs) ≡ flat_map (λ b. pairs_of_branch net rows b.shape) bs
+  gathered_as : (bs : List NamedBranch) → flat_map pairs_of_buses (map (buses_of_spots firsts kept.levels) (map (λ b. spots_of_branch net b.shape) bs)) ≡ flat_map (λ b. pairs_of_branch net rows b.shape) bs
   gathered_as [] = refl
   gathered_as (b ∷ bs) = rw (branch_as b.shape, gathered_as bs) refl
 
-  pub pairs_as : flat_map (pairs_of_spots firsts kept.levels) (network_spots net) ≡ flat_map (λ b. pairs_of_branch net (numbered net opened).rows b.shape) (branches net)
+  pub pairs_as : flat_map pairs_of_buses (map (buses_of_spots firsts kept.levels) (network_spots net)) ≡ flat_map (λ b. pairs_of_branch net (numbered net opened).rows b.shape) (branches net)
   unfolding network_spots numbered
   pairs_as = gathered_as (branches net)
 
@@ -127,6 +130,25 @@ module _ (net : Network) (opened : List (List Bool)) (kept : KeptBuses) (every :
       let read : get_or (node_buses_of here).places node None ≡ Some place = get_or_from_slice_get (node_buses_of here).places node (Some place) None (ap (λ z. slice_get z node) (sym places_own) ∙ at_node) in
       let fits : place < length (bus_leasts here) = places_fit here node place read in
       omega (arith, same_first, fits, level_inside net opened opened k level.0 level.1, all_long net opened opened, is, few)
+
+-- where all levels are kept, the buses at the spots make the network's pairs
+pub ends_counted_so : (net : Network) (opened : List (List Bool)) (kept : KeptBuses) (counts : Counts) (ends : List BranchBuses) (firsts : List ℕ) → AreKept net opened kept → kept.spots ≡ network_spots net
+    → counts ≡ counts_before opened (levels net) (length (levels net)) → firsts ≡ counts.firsts → ends ≡ map (buses_of_spots firsts kept.levels) kept.spots → IsCounted net opened counts (flat_map pairs_of_buses ends)
+unfolding counts_before numbered_pairs
+ends_counted_so net opened kept counts ends firsts every spots is at made = record {
+  counted = is;
+  paired = ap (flat_map pairs_of_buses) (made ∙ ap (map (buses_of_spots firsts kept.levels)) spots) ∙ pairs_as net opened kept every firsts (at ∙ ap (λ (z : Counts). z.firsts) is);
+}
+
+-- where the ends at one level were written anew, they are those at the spots
+pub followed_ends : (net : Network) (place : ℕ) (numbers : Numbers) (kept : KeptBuses) (firsts : List ℕ) (levels_now : List KeptLevel) (spots_now : List BranchSpots) (ends new : List BranchBuses) → IsFollowedBy net place numbers kept
+    → kept.spots ≡ network_spots net → firsts ≡ numbers.counts.firsts → ends ≡ numbers.ends → levels_now ≡ kept.levels → spots_now ≡ kept.spots
+    → ((before : List KeptLevel) → SameElsewhere place before levels_now → ends ≡ map (buses_of_spots firsts before) spots_now → new ≡ map (buses_of_spots firsts levels_now) spots_now)
+    → new ≡ map (buses_of_spots firsts kept.levels) kept.spots
+followed_ends net place numbers kept firsts levels_now spots_now ends new is spots counted were there at follows =
+    follows is.before.levels (λ other ne. ap (λ (z : List KeptLevel). slice_get z other) there ∙ is.others other ne)
+    (were ∙ is.were.ended ∙ ap (λ z. map (buses_of_spots z is.before.levels) (network_spots net)) (sym counted) ∙ ap (map (buses_of_spots firsts is.before.levels)) (sym (at ∙ spots)))
+    ∙ ap (λ z. map (buses_of_spots firsts z) spots_now) there ∙ ap (map (buses_of_spots firsts kept.levels)) at
 
 -- ---- the spots of one branch more
 

@@ -1,5 +1,5 @@
 -- The buses of levels, kept with the flags that they were made of, and the spots of branches.
-use Rattle.std.specs.Prelude.{◌≡◌, ◌≢◌, ◌⊎◌, ℕ, ◌<◌, Bool, true, IsTrue, Some, None, IfSome, List, length, slice_get}
+use Rattle.std.specs.Prelude.{◌≡◌, ◌≢◌, ◌⊎◌, ℕ, ◌<◌, Bool, true, IsTrue, Some, None, IfSome, List, length, map, slice_get}
 use Rattle.grid_level.specs.VoltageLevel.{VoltageLevel}
 use Rattle.grid_level.specs.Passing.{positioned}
 use Rattle.grid_structure.specs.Network.{Network}
@@ -10,7 +10,7 @@ use Rattle.grid_islands.specs.declared.kept.KeptLevel.{KeptLevel}
 use Rattle.grid_islands.specs.declared.kept.KeptBuses.{KeptBuses}
 use Rattle.grid_islands.specs.declared.components.Numbers.{Numbers}
 use Rattle.grid_islands.specs.Numbering.{AreNumbers}
-use Rattle.grid_islands.specs.Spots.{network_spots}
+use Rattle.grid_islands.specs.Spots.{network_spots, buses_of_spots, SameElsewhere}
 
 -- what is kept of a level under these flags
 unfoldable pub kept_of : VoltageLevel → List Bool → KeptLevel
@@ -40,12 +40,24 @@ AreKeptBefore net opened count kept = (place : ℕ) (level : VoltageLevel) → p
 abbrev pub AreKept : Network → List (List Bool) → KeptBuses → Type 0
 AreKept net opened kept = AreKeptBefore net opened (length (levels net)) kept
 
--- the numbers are those under the flags of all levels, with which the levels are kept
+-- all but the one at a place are
+abbrev pub AreKeptBut : Network → List (List Bool) → ℕ → KeptBuses → Type 0
+AreKeptBut net opened but kept = (place : ℕ) (level : VoltageLevel) → place ≢ but → slice_get (levels net) place ≡ Some level → IsKeptAt kept place (kept_of level (row_at opened place))
+
+-- the numbers are those under the flags of all levels, with which the levels are kept; so are the buses in which branches end
 pub record AreNumbersOf (net : Network) (kept : KeptBuses) (numbers : Numbers) : Type 0 where
   pub opened : List (List Bool)
   pub rows : length opened ≡ length (levels net)
   pub every : AreKept net opened kept
   pub numbered : AreNumbers net opened numbers
+  pub ended : numbers.ends ≡ map (buses_of_spots numbers.counts.firsts kept.levels) (network_spots net)
+
+-- the numbers are those of levels that were kept before, of which the one at a place alone has other buses by now, but as many
+pub record IsFollowedBy (net : Network) (place : ℕ) (numbers : Numbers) (kept : KeptBuses) : Type 0 where
+  pub before : KeptBuses
+  pub were : AreNumbersOf net before numbers
+  pub others : SameElsewhere place before.levels kept.levels
+  pub as_many : (one other : KeptLevel) → IsKeptAt before place one → IsKeptAt kept place other → length one.buses.leasts ≡ length other.buses.leasts
 
 -- what is kept of each level of a network, where something is, is of that level, unless it was let go; the spots, where some are
 -- kept, are those of the network's branches; and so are the numbers, where they are kept

@@ -1,5 +1,5 @@
 -- Where the ends of branches stand, and the pairs of buses that follow.
-use Rattle.std.specs.Prelude.{ℕ, ℤ, pos, negsuc, ◌+◌, ◌<◌, ◌^◌, ◌==◌, ◌≡◌, Option, Some, None, List, [], ◌∷◌, map, position, slice_get, option_and_then}
+use Rattle.std.specs.Prelude.{ℕ, ℤ, pos, negsuc, ◌+◌, ◌<◌, ◌^◌, ◌==◌, ◌||◌, ◌≡◌, ◌≢◌, Bool, false, Option, Some, None, List, [], ◌∷◌, map, position, slice_get, option_and_then}
 use Rattle.std.specs.Option.{option_map}
 use Rattle.grid_level.specs.Passing.{nodes}
 use Rattle.grid_structure.specs.declared.Branch.{Branch}
@@ -10,6 +10,7 @@ use Rattle.grid_structure.specs.Sites.{levels, branches, find_level}
 use Rattle.grid_islands.specs.declared.kept.KeptLevel.{KeptLevel}
 use Rattle.grid_islands.specs.declared.spots.Spot.{Spot}
 use Rattle.grid_islands.specs.declared.spots.BranchSpots.{BranchSpots}
+use Rattle.grid_islands.specs.declared.spots.BranchBuses.{BranchBuses}
 use Rattle.grid_islands.specs.Islands.{pairs_among}
 
 -- ---- spots
@@ -45,8 +46,29 @@ unfoldable pub number_of_spot : List ℕ → List KeptLevel → Spot → Option 
 number_of_spot firsts kept spot =
     option_and_then (λ first. option_and_then (λ own. option_and_then (option_map (λ place. first + place)) (slice_get own.buses.places spot.node)) (slice_get kept spot.level)) (slice_get firsts spot.level)
 
-unfoldable pub pairs_of_spots : List ℕ → List KeptLevel → BranchSpots → List (ℕ × ℕ)
-pairs_of_spots firsts kept branch = pairs_among (map (option_and_then (number_of_spot firsts kept)) (branch.first ∷ branch.second ∷ branch.third ∷ []))
+-- the numbers of the buses at a branch's spots
+unfoldable pub buses_of_spots : List ℕ → List KeptLevel → BranchSpots → BranchBuses
+buses_of_spots firsts kept branch = record {
+  first = option_and_then (number_of_spot firsts kept) branch.first;
+  second = option_and_then (number_of_spot firsts kept) branch.second;
+  third = option_and_then (number_of_spot firsts kept) branch.third;
+}
+
+unfoldable pub pairs_of_buses : BranchBuses → List (ℕ × ℕ)
+pairs_of_buses branch = pairs_among (branch.first ∷ branch.second ∷ branch.third ∷ [])
+
+-- ---- what stands in a level
+
+unfoldable pub is_in : ℕ → Option Spot → Bool
+is_in level None = false
+is_in level (Some spot) = spot.level == level
+
+unfoldable pub touches : ℕ → BranchSpots → Bool
+touches level branch = is_in level branch.first || (is_in level branch.second || is_in level branch.third)
+
+-- what is kept of the other levels is the same
+abbrev pub SameElsewhere : ℕ → List KeptLevel → List KeptLevel → Type 0
+SameElsewhere level before after = (other : ℕ) → other ≢ level → slice_get after other ≡ slice_get before other
 
 -- ---- what callers must give
 

@@ -1,12 +1,14 @@
 // The components of a network's buses.
-ghost use Rattle.std.specs.Prelude.{◌≡◌, ◌<◌, ◌^◌, IfOk, List, Bool};
+ghost use Rattle.std.specs.Prelude.{◌≡◌, ◌<◌, ◌^◌, IfOk, List, Bool, flat_map};
 ghost use Rattle.grid_structure.specs.Network.{Network};
 ghost use Rattle.grid_islands.specs.Islands as islands;
 ghost use Rattle.grid_islands.specs.Numbering.{IsCounted, IsOwn, AreNumbers};
+ghost use Rattle.grid_islands.specs.Spots.{pairs_of_buses};
 
 use crate::BusComponents;
 use crate::numbering::Counts;
 use crate::sizes::{component_sizes, list_components};
+use crate::spots::{Ends, end_pairs};
 use grid_components::{Components, components};
 use grid_ids::{Memory, Seq};
 use std::alloc::Global;
@@ -14,8 +16,10 @@ use std::alloc::Global;
 /// The components of a network's buses.
 #[derive(Drop)]
 pub(crate) struct Numbers {
-    /// For each level the number of its first bus: how many the levels before it have.
-    firsts: Seq<u32>,
+    /// How many buses the levels have.
+    counts: Counts,
+    /// The buses in which the ends of the branches stand.
+    ends: Ends,
     /// For each bus the number of its component.
     components: Components,
     /// For each component's number how many buses have it.
@@ -23,25 +27,40 @@ pub(crate) struct Numbers {
 }
 
 impl Numbers {
-    /// The components that the pairs make of the buses that are counted.
-    pub(crate) fn make(
-        alloc: Global,
-        counts: Counts,
-        pairs: &[(u32, u32)],
-    ) -> Result<Numbers, Memory>
+    /// The components of the buses that are counted, by those in which the ends of the branches stand.
+    pub(crate) fn make(alloc: Global, counts: Counts, ends: Ends) -> Result<Numbers, Memory>
         requires few { counts.count < 2 ^ 32 }
         requires counted { (net : Network) × (opened : List (List Bool))
-            × IsCounted net opened counts pairs.now }
-        ensures { IfOk result (λ numbers. (net : Network) (opened : List (List Bool))
-            → IsCounted net opened counts pairs.now → AreNumbers net opened numbers) }
+            × IsCounted net opened counts (flat_map pairs_of_buses ends) }
+        ensures made { IfOk result (λ numbers. (net : Network) (opened : List (List Bool))
+            → IsCounted net opened counts (flat_map pairs_of_buses ends)
+            → AreNumbers net opened numbers) }
+        ensures counts { IfOk result (λ numbers. numbers.counts ≡ counts) }
+        ensures ends { IfOk result (λ numbers. numbers.ends ≡ ends) }
     {
-        let components = components(alloc, counts.count, pairs)?;
+        let pairs = end_pairs(alloc, ends.slice())?;
+        let components = components(alloc, counts.count, pairs.slice())?;
         let sizes = component_sizes(alloc, components.slice())?;
         Ok(Numbers {
-            firsts: counts.firsts,
+            counts,
+            ends,
             components,
             sizes: Seq::from_vec(sizes),
         })
+    }
+
+    /// How many buses the levels have, and those in which the ends of the branches stand.
+    pub(crate) fn into_parts(self) -> (Counts, Ends)
+        ensures counts { result.0 ≡ self.counts }
+        ensures ends { result.1 ≡ self.ends }
+    {
+        let Numbers {
+            counts,
+            ends,
+            components: _,
+            sizes: _,
+        } = self;
+        (counts, ends)
     }
 
     /// The buses of the level at a place with these least nodes, each with the number and the size of its component.
@@ -60,7 +79,7 @@ impl Numbers {
         list_components(
             alloc,
             leasts,
-            self.firsts[level as usize],
+            self.counts.firsts[level as usize],
             self.components.slice(),
             self.sizes.slice(),
         )

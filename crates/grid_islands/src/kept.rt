@@ -1,19 +1,18 @@
 // The buses of levels, kept for the next call with the flags that they were made of, and the spots of branches.
-ghost use Rattle.std.specs.Prelude.{◌≡◌, ◌≢◌, ℕ, ◌<◌, ◌≤◌, ◌^◌, Bool, IsTrue, IsFalse, IsSome, IfOk, OnOk, OnErr, List, length, flat_map, slice_get};
+ghost use Rattle.std.specs.Prelude.{◌≡◌, ◌≢◌, ℕ, ◌<◌, ◌≤◌, ◌^◌, Bool, IsTrue, IsFalse, IsSome, IfOk, OnOk, OnErr, List, length, map, slice_get};
 ghost use Rattle.grid_structure.specs.Network.{Network};
 ghost use Rattle.grid_structure.specs.Sites.{levels};
 ghost use Rattle.grid_islands.specs.declared.kept.KeptLevel.{KeptLevel};
 ghost use Rattle.grid_islands.specs.Numbering.{FlagsFit, counts_before};
 ghost use Rattle.grid_islands.specs.Islands as islands;
-ghost use Rattle.grid_islands.specs.Kept.{kept_of, IsKeptAt, IsMadeOf, IsLeftOrNone, LeavesOthers, AreBusesOf, AreKept};
+ghost use Rattle.grid_islands.specs.Kept.{kept_of, IsKeptAt, IsMadeOf, IsLeftOrNone, LeavesOthers, AreBusesOf, AreKept, AreKeptBut, IsFollowedBy};
 ghost use Rattle.grid_islands.specs.Spots as spots;
 ghost use Rattle.grid_islands.specs.Spots.{NumbersFit};
 
 use crate::BusComponents;
 use crate::components::Numbers;
 use crate::numbering::Counts;
-use crate::pairs::Pairs;
-use crate::spots::{Spots, network_spots, spot_pairs};
+use crate::spots::{Ends, Spots, follow_level, network_spots, spot_buses};
 use grid_busview::{NodeBuses, node_buses};
 use grid_ids::{Memory, Seq, same_items};
 use grid_level::Level;
@@ -217,14 +216,14 @@ impl KeptBuses {
         Ok(())
     }
 
-    // The pairs that the branches whose spots are kept make of the buses that are kept, by the numbers of the levels'
-    // first buses.
-    fn pairs(&self, alloc: Global, firsts: &[u32]) -> Result<Pairs, Memory>
+    // The buses that are kept in which the ends of the branches stand whose spots are kept, by the numbers of the
+    // levels' first buses.
+    fn ends(&self, alloc: Global, firsts: &[u32]) -> Result<Ends, Memory>
         requires { NumbersFit firsts.now self.now.levels }
-        ensures { IfOk result (λ pairs. pairs
-            ≡ flat_map (spots.pairs_of_spots firsts.now self.now.levels) self.now.spots) }
+        ensures { IfOk result (λ ends. ends
+            ≡ map (spots.buses_of_spots firsts.now self.now.levels) self.now.spots) }
     {
-        spot_pairs(alloc, firsts, self.levels.slice(), self.spots.slice())
+        spot_buses(alloc, firsts, self.levels.slice(), self.spots.slice())
     }
 
     // Finds the components, where they are not kept. The levels are kept under these flags.
@@ -246,9 +245,88 @@ impl KeptBuses {
         }
         self.find_spots(alloc, structure)?;
         let counts = self.count(alloc, structure, states)?;
-        let pairs = self.pairs(alloc, counts.firsts.slice())?;
-        self.numbers = Some(Numbers::make(alloc, counts, pairs.slice())?);
+        let ends = self.ends(alloc, counts.firsts.slice())?;
+        self.numbers = Some(Numbers::make(alloc, counts, ends)?);
         Ok(())
+    }
+
+    // How many buses are kept of the level at a place.
+    fn bus_count(&self, place: u32) -> usize
+        ensures { (own : KeptLevel) → IsKeptAt self.now place own
+            → result ≡ length own.buses.leasts }
+    {
+        match self.levels.get(place as usize) {
+            Some(own) => own.buses.leasts.len(),
+            None => 0,
+        }
+    }
+
+    // Finds the components anew from these, where the level at a place alone has other buses than when they were found,
+    // but as many.
+    fn follow_numbers(
+        &mut self,
+        alloc: Global,
+        structure: &Structure,
+        states: &States,
+        place: u32,
+        numbers: Numbers,
+    ) -> Result<(), Memory>
+        requires rows { length states.now.opened ≡ length (levels structure.now) }
+        requires kept { AreBusesOf structure.now self.old }
+        requires spots { self.old.spots ≡ spots.network_spots structure.now }
+        requires every { AreKept structure.now states.now.opened self.old }
+        requires numbers { IsFollowedBy structure.now place numbers self.old }
+        ensures levels { self.new.levels ≡ self.old.levels }
+        ensures kept { AreBusesOf structure.now self.new }
+    {
+        let (counts, mut ends) = numbers.into_parts();
+        follow_level(
+            &mut ends,
+            counts.firsts.slice(),
+            self.levels.slice(),
+            self.spots.slice(),
+            place,
+        );
+        self.numbers = Some(Numbers::make(alloc, counts, ends)?);
+        Ok(())
+    }
+
+    // Keeps the level at a place under these flags, where all others are kept under them. Where it has as many buses as
+    // before, what is known of the others' buses serves to find the components.
+    pub(crate) fn keep_one(
+        &mut self,
+        alloc: Global,
+        structure: &Structure,
+        states: &States,
+        place: u32,
+    ) -> Result<(), Memory>
+        requires rows { length states.now.opened ≡ length (levels structure.now) }
+        requires flags { FlagsFit structure.now states.now.opened }
+        requires kept { AreBusesOf structure.now self.old }
+        requires others { AreKeptBut structure.now states.now.opened place self.old }
+        ensures every { OnOk result (AreKept structure.now states.now.opened self.new) }
+        ensures kept { AreBusesOf structure.now self.new }
+    {
+        if place >= structure.level_count() {
+            return Ok(());
+        }
+        if self.has(place, states.opened_row(place)) {
+            return Ok(());
+        }
+        self.find_spots(alloc, structure)?;
+        let count = self.bus_count(place);
+        let numbers = self.numbers.take();
+        let level = structure.level(place);
+        self.keep(alloc, place, level, states.opened_row(place))?;
+        match numbers {
+            Some(numbers) => {
+                if self.bus_count(place) != count {
+                    return Ok(());
+                }
+                self.follow_numbers(alloc, structure, states, place, numbers)
+            }
+            None => Ok(()),
+        }
     }
 
     /// The buses of the level at a place, each with the number and the size of its component. The levels are kept

@@ -1,7 +1,8 @@
 // Where the ends of branches stand, and the pairs of buses that follow.
-ghost use Rattle.std.specs.Prelude.{◌≡◌, ◌++◌, IfOk, OnOk, flat_map, option_and_then};
+ghost use Rattle.std.specs.Prelude.{◌≡◌, ◌++◌, IfOk, OnOk, List, length, map, flat_map, option_and_then};
 ghost use Rattle.grid_islands.specs.Spots as spots;
-ghost use Rattle.grid_islands.specs.Spots.{NumbersFit};
+ghost use Rattle.grid_islands.specs.Spots.{NumbersFit, SameElsewhere};
+ghost use Rattle.grid_islands.specs.declared.kept.KeptLevel.{KeptLevel};
 
 use crate::kept::KeptLevel;
 use crate::pairs::{Pairs, node_index, push_between};
@@ -29,6 +30,18 @@ pub(crate) struct BranchSpots {
 
 /// The spots of branches, in their order.
 pub(crate) type Spots = Seq<BranchSpots>;
+
+/// The numbers of the buses in which the ends of a branch stand: none for an end that stands in none, or for a third
+/// end that there is not.
+#[derive(Clone, Copy)]
+pub(crate) struct BranchBuses {
+    pub(crate) first: Option<u32>,
+    pub(crate) second: Option<u32>,
+    pub(crate) third: Option<u32>,
+}
+
+/// The buses of branches, in their order.
+pub(crate) type Ends = Seq<BranchBuses>;
 
 // Where an end of the branch at a place stands.
 #[tactic(auto, unfolding(crate::specs::Spots::spot_of_end))]
@@ -120,39 +133,98 @@ fn number_of_spot(firsts: &[u32], kept: &[KeptLevel], spot: Option<Spot>) -> Opt
     }
 }
 
-// Puts the pairs of a branch last.
-fn push_branch(
-    pairs: &mut Pairs,
-    firsts: &[u32],
-    kept: &[KeptLevel],
-    branch: &BranchSpots,
-) -> Result<(), Memory>
+// The numbers of the buses at a branch's spots.
+#[tactic(auto, unfolding(crate::specs::Spots::buses_of_spots))]
+fn buses_at(firsts: &[u32], kept: &[KeptLevel], branch: &BranchSpots) -> BranchBuses
     requires { NumbersFit firsts.now kept.now }
-    ensures { OnOk result (pairs.new
-        ≡ pairs.old ++ spots.pairs_of_spots firsts.now kept.now branch.now) }
+    ensures { result ≡ spots.buses_of_spots firsts.now kept.now branch.now }
 {
-    let first = number_of_spot(firsts, kept, branch.first);
-    let second = number_of_spot(firsts, kept, branch.second);
-    let third = number_of_spot(firsts, kept, branch.third);
-    push_between(pairs, first, second)?;
-    push_between(pairs, first, third)?;
-    push_between(pairs, second, third)
+    BranchBuses {
+        first: number_of_spot(firsts, kept, branch.first),
+        second: number_of_spot(firsts, kept, branch.second),
+        third: number_of_spot(firsts, kept, branch.third),
+    }
 }
 
-/// The pairs that branches with these spots make of the buses that are kept, by the numbers of the levels' first buses.
-pub(crate) fn spot_pairs(
+/// The numbers of the buses at the spots of branches, by the numbers of the levels' first buses and by what is kept of
+/// the levels.
+pub(crate) fn spot_buses(
     alloc: Global,
     firsts: &[u32],
     kept: &[KeptLevel],
     branches: &[BranchSpots],
-) -> Result<Pairs, Memory>
+) -> Result<Ends, Memory>
     requires { NumbersFit firsts.now kept.now }
-    ensures { IfOk result (λ pairs. pairs
-        ≡ flat_map (spots.pairs_of_spots firsts.now kept.now) branches.now) }
+    ensures { IfOk result (λ ends. ends
+        ≡ map (spots.buses_of_spots firsts.now kept.now) branches.now) }
+{
+    let mut ends = Ends::from_vec(Vec::with_capacity(alloc, branches.len())?);
+    for branch in branches {
+        ends.push(buses_at(firsts, kept, branch))?;
+    }
+    Ok(ends)
+}
+
+// Whether a spot is in a level.
+#[tactic(auto, unfolding(crate::specs::Spots::is_in))]
+fn is_in(spot: Option<Spot>, level: u32) -> bool
+    ensures { result ≡ spots.is_in level spot }
+{
+    match spot {
+        Some(spot) => spot.level == level,
+        None => false,
+    }
+}
+
+// Whether an end of a branch stands in a level.
+#[tactic(auto, unfolding(crate::specs::Spots::touches))]
+fn touches(branch: &BranchSpots, level: u32) -> bool
+    ensures { result ≡ spots.touches level branch.now }
+{
+    is_in(branch.first, level) || is_in(branch.second, level) || is_in(branch.third, level)
+}
+
+/// Writes the numbers of the buses at the spots of the branches that stand in a level anew, where what is kept of that
+/// level alone is another than when they were found.
+pub(crate) fn follow_level(
+    ends: &mut Ends,
+    firsts: &[u32],
+    kept: &[KeptLevel],
+    branches: &[BranchSpots],
+    level: u32,
+)
+    requires fit { NumbersFit firsts.now kept.now }
+    requires long { length ends.old ≡ length branches.now }
+    ensures { (before : List KeptLevel) → SameElsewhere level before kept.now
+        → ends.old ≡ map (spots.buses_of_spots firsts.now before) branches.now
+        → ends.new ≡ map (spots.buses_of_spots firsts.now kept.now) branches.now }
+{
+    for (place, branch) in branches.iter().enumerate() {
+        if touches(branch, level) {
+            ends.set(place, buses_at(firsts, kept, branch));
+        }
+    }
+}
+
+// Puts the pairs of a branch last.
+fn push_branch(pairs: &mut Pairs, branch: &BranchBuses) -> Result<(), Memory>
+    ensures { OnOk result (pairs.new ≡ pairs.old ++ spots.pairs_of_buses branch.now) }
+{
+    push_between(pairs, branch.first, branch.second)?;
+    if branch.third.is_none() {
+        return Ok(());
+    }
+    push_between(pairs, branch.first, branch.third)?;
+    push_between(pairs, branch.second, branch.third)
+}
+
+/// The pairs that branches whose ends stand in these buses make of them.
+pub(crate) fn end_pairs(alloc: Global, branches: &[BranchBuses]) -> Result<Pairs, Memory>
+    ensures { IfOk result (λ pairs. pairs ≡ flat_map spots.pairs_of_buses branches.now) }
 {
     let mut pairs = Pairs::from_vec(Vec::with_capacity(alloc, branches.len())?);
     for branch in branches {
-        push_branch(&mut pairs, firsts, kept, branch)?;
+        push_branch(&mut pairs, branch)?;
     }
     Ok(pairs)
 }

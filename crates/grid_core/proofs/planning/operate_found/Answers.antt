@@ -38,6 +38,9 @@ pub plan_kept-requires-clause-retained : goal.plan_kept-requires-clause-retained
 plan_kept-requires-clause-retained c =
     (fits_at c.args.structure.now c.args.states.now.retained c.in-Ok.at.level c.in-Some.level c.requires.retained (kept_is (goal.at.plan_kept-requires-clause-retained c).In-Some).there).1
 
+pub plan_kept-requires-clause-kept : goal.plan_kept-requires-clause-kept
+plan_kept-requires-clause-kept c = (kept_is (goal.at.plan_kept-requires-clause-kept c).In-Some).kept
+
 pub plan_kept-requires-clause-node : goal.plan_kept-requires-clause-node
 plan_kept-requires-clause-node c =
     subst (λ (l : VoltageLevel). IsTrue (among (nodes l) c.in-Ok.at.node)) (same_level (goal.at.plan_kept-requires-clause-node c).In-Some)

@@ -11,12 +11,12 @@ use Rattle.grid_core.proofs.verdict.find_verdict.Goals as goal
 pub returns-in-Connect-clause-found : goal.returns-in-Connect-clause-found
 returns-in-Connect-clause-found c =
     each_ok c.operate_found.result c.operate_found.ensures.found
-    (λ verdict is powers listed v. subst (λ (r : Request). IsVerdict (state_seen c.args.structure.now c.args.states.now.opened c.args.states.now.retained powers) v r verdict) (sym (c.in-Connect.is ∙ ap (requests.Connect c.in-Connect.id) (sym (to_z-of_z w64 c.in-Connect.side (search rules))))) (is c.args.states.now.retained powers v))
+    (λ verdict is powers listed v. subst (λ (r : Request). IsVerdict (state_seen c.args.structure.now c.args.states.now.opened c.args.states.now.retained powers) v r verdict) (c.to_connect-operated.ensures ∙ sym (c.in-Connect.is ∙ ap (requests.Connect c.in-Connect.id) (sym (to_z-of_z w64 c.in-Connect.side (search rules))))) (is c.args.states.now.retained powers v))
 
 pub returns-in-Disconnect-clause-found : goal.returns-in-Disconnect-clause-found
 returns-in-Disconnect-clause-found c =
     each_ok c.operate_found-in-Disconnect.result c.operate_found-in-Disconnect.ensures.found
-    (λ verdict is powers listed v. subst (λ (r : Request). IsVerdict (state_seen c.args.structure.now c.args.states.now.opened c.args.states.now.retained powers) v r verdict) (sym (c.in-Disconnect.is ∙ ap (requests.Disconnect c.in-Disconnect.id) (sym (to_z-of_z w64 c.in-Disconnect.side (search rules))))) (is c.args.states.now.retained powers v))
+    (λ verdict is powers listed v. subst (λ (r : Request). IsVerdict (state_seen c.args.structure.now c.args.states.now.opened c.args.states.now.retained powers) v r verdict) (c.to_disconnect-operated.ensures ∙ sym (c.in-Disconnect.is ∙ ap (requests.Disconnect c.in-Disconnect.id) (sym (to_z-of_z w64 c.in-Disconnect.side (search rules))))) (is c.args.states.now.retained powers v))
 
 pub returns-in-BusView-clause-found : goal.returns-in-BusView-clause-found
 returns-in-BusView-clause-found c =

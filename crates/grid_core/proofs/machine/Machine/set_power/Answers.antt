@@ -11,6 +11,8 @@ use Rattle.grid_watts.specs.Nodes.{row_watts_at, change}
 use Rattle.grid_requests.specs.declared.request.Request.TheVariants as requests
 use Rattle.grid_core.proofs.MachineSteps.{each_ok, present_sound}
 use Rattle.grid_core.proofs.VariantSteps.{of_variant, stands_slot, flagged, dead_made}
+use Rattle.grid_core.specs.Kept.{SameFlags}
+use Rattle.grid_core.proofs.RowMoves.{on_ok, watts_left}
 use Rattle.grid_core.proofs.PowerRequests.{unpowered, level_in_rows, slot_room, set_nowhere, set_none, set_same, set_made, sides_there, sides_nowhere}
 use Rattle.grid_core.proofs.machine.Machine.set_power.Goals as goal
 
@@ -64,3 +66,19 @@ returns-clause-made c =
     (subst (λ w. IsTrue (is_narrow w)) wide c.change_of-by.ensures.narrow) (c.change_of-by.ensures.change ∙ ap (λ w. change stand w (to_z w64 (of_z w64 c.args.watts))) (to_z-of_z w64 c.watts_in-former.result former_fits) ∙ ap (change stand c.watts_in-former.result) wide) c.in_ok-made.ensures
     (c.in_ok-set_watts.ensures.ok
     ∙ ap (λ w. changed (λ x. x.slot == c.in-Some.slot) (λ rows. shifted c.change_of-by.result (with_watts rows c.in-Some-powered_at.found.0 c.in-Some-powered_at.found.1.now.node w)) c.args.self.now.slots) wide)
+
+pub returns-in-None-clause-flags : goal.returns-in-None-clause-flags
+returns-in-None-clause-flags c = on_ok c.answer.result (λ slot. refl)
+
+pub returns-then-is_none-clause-flags : goal.returns-then-is_none-clause-flags
+returns-then-is_none-clause-flags c = on_ok c.answer-then-is_none.result (λ slot. refl)
+
+pub returns-in-None-powered_at-clause-flags : goal.returns-in-None-powered_at-clause-flags
+returns-in-None-powered_at-clause-flags c = on_ok c.answer-in-None-powered_at.result (λ slot. refl)
+
+pub returns-then-former-watts-clause-flags : goal.returns-then-former-watts-clause-flags
+returns-then-former-watts-clause-flags c = on_ok c.answer-then-former-watts.result (λ slot. refl)
+
+pub returns-clause-flags : goal.returns-clause-flags
+returns-clause-flags c =
+    subst (SameFlags c.args.self.now.slots) (sym c.in_ok-set_watts.ensures.ok) (watts_left c.in-Some.slot c.in-Some-powered_at.found.0 c.in-Some-powered_at.found.1.now.node (to_z w64 (of_z w64 c.args.watts)) c.change_of-by.result c.args.self.now.slots)

@@ -9,6 +9,7 @@ use Rattle.grid_islands.specs.Islands.{level_components}
 use Rattle.grid_graph.specs.Components.{component_numbers}
 use Rattle.grid_components.specs.Ranks.{is_key}
 use Rattle.grid_islands.specs.declared.components.Numbers.{Numbers}
+use Rattle.grid_islands.specs.declared.numbering.Counts.{Counts}
 use Rattle.grid_islands.specs.Numbering.{buses_before, listed, AreNumbers, IsOwn}
 use Rattle.grid_islands.proofs.LevelComponents.{level_exists, level_inside, listed_as, numbers_long, numbers_below, firsts_counted, first_counted, numbers_joined, total, joining}
 use Rattle.grid_islands.proofs.components.Numbers.list_level.Goals as goal
@@ -17,17 +18,17 @@ pub index-requires : goal.index-requires
 index-requires c =
     let net = c.requires.own.0 in
     let opened = c.requires.own.1 in
-    omega (arith, c.requires.own.2.1.inside, ap length c.requires.own.2.0.firsts, firsts_counted net opened opened)
+    omega (arith, c.requires.own.2.1.inside, ap (λ (z : Counts). length z.firsts) c.requires.own.2.0.counts, firsts_counted net opened opened)
 
 module _ (net : Network) (opened retained : List (List Bool)) (numbers : Numbers) (level : ℕ) (leasts given sizes : List ℕ) (first : ℕ) (are : AreNumbers net opened numbers) (is : IsOwn net opened level leasts)
-    (index : first ≡ get_or numbers.firsts level first) (as_given : given ≡ numbers.components) (as_sizes : sizes ≡ numbers.sizes) where
+    (index : first ≡ get_or numbers.counts.firsts level first) (as_given : given ≡ numbers.components) (as_sizes : sizes ≡ numbers.sizes) where
   joined : given ≡ component_numbers (total net opened retained) (joining net opened retained)
   joined = as_given ∙ are.components ∙ numbers_joined net opened retained
 
   first_is : first ≡ buses_before opened (levels net) level
   first_is =
-      index ∙ get_or_any numbers.firsts level first 0 (omega (arith, is.inside, ap length are.firsts, firsts_counted net opened retained))
-      ∙ ap (λ (z : List ℕ). get_or z level 0) are.firsts ∙ first_counted net opened retained level is.inside
+      index ∙ get_or_any numbers.counts.firsts level first 0 (omega (arith, is.inside, ap (λ (z : Counts). length z.firsts) are.counts, firsts_counted net opened retained))
+      ∙ ap (λ (z : Counts). get_or z.firsts level 0) are.counts ∙ first_counted net opened retained level is.inside
 
   buses_there : first + length leasts ≤ length given
   buses_there =
