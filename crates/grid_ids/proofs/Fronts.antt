@@ -1,5 +1,5 @@
 -- Texts that are told apart by their first bytes.
-use Rattle.std.proofs.Common.{◌≡◌, ◌≢◌, refl, sym, ap, ◌∙◌, ℕ, zero, suc, ◌+◌, ◌*◌, ◌^◌, ◌<◌, List, [], ◌∷◌, get_or, drop, arith}
+use Rattle.std.proofs.Common.{◌≡◌, ◌≢◌, refl, sym, ap, ◌∙◌, ℕ, zero, suc, ◌+◌, ◌*◌, ◌^◌, ◌<◌, ◌≤◌, length, List, [], ◌∷◌, get_or, drop, arith}
 use Rattle.std.proofs.Math.Nat.{pow-suc}
 use Rattle.std.proofs.lemmas.Nat.{mul-le}
 use Rattle.std.specs.declared.cmp.Ordering.{Ordering}
@@ -67,6 +67,36 @@ told (suc n) (x ∷ xs) [] first second differ =
     let none = front_none (suc n) in sym (nat_cmp_is (front_bytes (suc n) (x ∷ xs)) (front_bytes (suc n) []) Greater (omega (arith, none, differ)))
 told (suc n) (x ∷ xs) (y ∷ ys) first second differ =
     told_heads (256 ^ n) x y (front_bytes n xs) (front_bytes n ys) (slice_cmp nat_cmp xs ys) (front_fits n xs (behind (x ∷ xs) first)) (front_fits n ys (behind (y ∷ ys) second)) differ (told n xs ys (behind (x ∷ xs) first) (behind (y ∷ ys) second))
+
+-- equal numbers have equal heads and equal rests
+same_parts : (p x y a b : ℕ) → a < p → b < p → x * p + a ≡ y * p + b → (x ≡ y) × (a ≡ b)
+same_parts p x y a b first second same = by (nat_cmp x y) refl
+  where
+    by : (r : Ordering) → r ≡ nat_cmp x y → (x ≡ y) × (a ≡ b)
+    by Less e =
+        (let less : x < y = ranked x y Less e in
+        let apart = greater p x y a b first less in
+        absurd (omega (arith, apart, same)))
+    by Greater e =
+        (let less : y < x = ranked x y Greater e in
+        let apart = greater p y x b a second less in
+        absurd (omega (arith, apart, same)))
+    by Equal e =
+        (let alike : x ≡ y = ranked x y Equal e in
+        let moved : x * p + b ≡ y * p + b = ap (λ z. z * p + b) alike in
+        (alike, omega (arith, same, moved)))
+
+-- short texts of one length with the same first bytes are equal
+pub same_texts : (n : ℕ) (xs ys : List ℕ) → AreBytes xs → AreBytes ys → length xs ≡ length ys → length xs ≤ n → front_bytes n xs ≡ front_bytes n ys → xs ≡ ys
+unfolding front_bytes
+same_texts n [] [] first second long few same = refl
+same_texts n [] (y ∷ ys) first second long few same = absurd (omega (arith, long))
+same_texts n (x ∷ xs) [] first second long few same = absurd (omega (arith, long))
+same_texts zero (x ∷ xs) (y ∷ ys) first second long few same = absurd (omega (arith, few))
+same_texts (suc n) (x ∷ xs) (y ∷ ys) first second long few same =
+    let parts = same_parts (256 ^ n) x y (front_bytes n xs) (front_bytes n ys) (front_fits n xs (behind (x ∷ xs) first)) (front_fits n ys (behind (y ∷ ys) second)) same in
+    let rest = same_texts n xs ys (behind (x ∷ xs) first) (behind (y ∷ ys) second) (omega (arith, long)) (omega (arith, few)) parts.1 in
+    ap (λ z. z ∷ xs) parts.0 ∙ ap (λ zs. y ∷ zs) rest
 
 -- one byte more
 pub front_more : (n k : ℕ) (xs : List ℕ) → front_bytes (suc n) (drop k xs) ≡ get_or xs k 0 * 256 ^ n + front_bytes n (drop (suc k) xs)
