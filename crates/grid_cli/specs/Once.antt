@@ -117,7 +117,7 @@ wanted_by (Makes text) bytes = statuses.Done
 abbrev pub wanted : Form → List ℕ → Status
 wanted form bytes = wanted_by (service form) bytes
 
--- A fault of the source or the sink may come in place of the status that is wanted, and so may want of memory.
+-- A fault of the source or the sink may come in place of the status that is wanted, and so may out of memory.
 abbrev pub IsWanted : Status → Status → Type 0
 IsWanted asked statuses.ReadFault = Unit {0}
 IsWanted asked statuses.WriteFault = asked ≡ statuses.Done

@@ -13,6 +13,7 @@ use grid_json::Job;
 use grid_report::{ReportFault, Shown, Text, write_blocks};
 use grid_source::Sink;
 use grid_structure::Seeded;
+use std::mem::forget;
 
 /// How many of each a job has.
 #[derive(Clone, Copy, Debug)]
@@ -96,6 +97,8 @@ impl JobForm for Check {
         sink: &mut K,
         _warning: &mut Text,
     ) -> Result<(), ReportFault> {
-        write_blocks(seeded.alloc, &[counts_of(&job)], sink)
+        let written = write_blocks(seeded.alloc, &[counts_of(&job)], sink);
+        forget(job);
+        written
     }
 }

@@ -37,7 +37,7 @@ pub fn grid_once<S: Source, K: Sink>(
     ensures outcome { Outcome (form_alone (map string_bytes words.now)) (S.left input.old.source)
         (S.left input.new.source) (K.written sink.old) (K.written sink.new) result }
 
-    // Where the source tells its bytes, they decide the status, but for faults and want of memory.
+    // Where the source tells its bytes, they decide the status, but for faults and running out of memory.
     ensures exact { Exact (form_alone (map string_bytes words.now))
         (S.left input.old.source) result }
 

@@ -5,6 +5,7 @@ use grid_print::print_network;
 use grid_report::{ReportFault, Text};
 use grid_source::Sink;
 use grid_structure::Seeded;
+use std::mem::forget;
 
 /// The form `print`.
 #[derive(Clone, Copy)]
@@ -30,6 +31,8 @@ impl JobForm for Print {
         _warning: &mut Text,
     ) -> Result<(), ReportFault> {
         let bytes = print_network(seeded.alloc, &job.network)?;
-        hand_over(bytes.as_slice(), sink)
+        let written = hand_over(bytes.as_slice(), sink);
+        forget(job);
+        written
     }
 }

@@ -7,6 +7,7 @@ use grid_json::Job;
 use grid_report::{ReportFault, Text};
 use grid_source::Sink;
 use grid_structure::Seeded;
+use std::mem::forget;
 
 /// The form `replay`.
 #[derive(Clone, Copy)]
@@ -34,6 +35,8 @@ impl JobForm for Replay {
         _warning: &mut Text,
     ) -> Result<(), ReportFault> {
         let outcome = run_job(seeded.alloc, job)?;
-        write_outcome(seeded.alloc, self.layout, &outcome, sink)
+        let written = write_outcome(seeded.alloc, self.layout, &outcome, sink);
+        forget(outcome);
+        written
     }
 }

@@ -1,7 +1,7 @@
 // Jobs, run in their order. Where a job gives no order, the list of its workers in turn is made, so that one loop makes
 // the steps, with a cursor into each worker's script. That an order that was read is one of its scripts is known of
 // each job, so the loop takes a worker's next command without a test. The report is written after the last step, from
-// the journal and the views: want of memory during the steps writes nothing.
+// the journal and the views: running out of memory during the steps writes nothing.
 ghost use Rattle.std.specs.Prelude.{◌≡◌, ◌++◌, ◌≤◌, ◌<◌, ◌^◌, All, length, map, IfOk, OnOk};
 ghost use Rattle.grid_json.specs.Job.{max_workers};
 ghost use Rattle.grid_report.specs.Histories as histories;
@@ -76,7 +76,8 @@ pub(crate) fn chosen_order(
     }
 }
 
-/// What came of a world's history, with these filters.
+/// What came of a world's history, with these filters. What the world holds beside its journal is left as it is to the
+/// program's end, which gives back all at once.
 pub(crate) fn outcome(
     alloc: Global,
     world: World,
@@ -90,7 +91,7 @@ pub(crate) fn outcome(
 {
     let views = variant_views(alloc, &world)?;
     Ok(Outcome {
-        journal: world.into_journal(),
+        journal: world.leave(),
         workers,
         views,
         filters,

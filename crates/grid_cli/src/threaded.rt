@@ -26,6 +26,7 @@ use grid_source::{Input, Sink, Source};
 use grid_structure::Seeded;
 use grid_workers::run_scripts;
 use std::alloc::Global;
+use std::mem::forget;
 use std::sync::Wait;
 use std::thread::Threads;
 
@@ -51,7 +52,7 @@ pub fn grid<R: Threads + Wait + Sync, S: Source, K: Sink, G: Gate>(
     ensures outcome { Outcome (form_of (map string_bytes words.now)) (S.left input.old.source)
         (S.left input.new.source) (K.written sink.old) (K.written sink.new) result }
 
-    // Where the source tells its bytes, they decide the status, but for faults and want of memory.
+    // Where the source tells its bytes, they decide the status, but for faults and running out of memory.
     ensures exact { Exact (form_of (map string_bytes words.now)) (S.left input.old.source) result }
 
     // A status that tells of the bytes tells of those that the input has.
@@ -220,7 +221,9 @@ fn write_run<R: Threads + Wait + Sync, K: Sink, G: Gate>(
     ensures stays { result ≢ Err ReportFault.Stopped → K.faults sink.new ≡ K.faults sink.old }
 {
     let outcome = run_job_on_threads(host.threads, host.seeded.alloc, job, host.gate)?;
-    write_on_threads(host.threads, host.seeded.alloc, layout, &outcome, sink)
+    let written = write_on_threads(host.threads, host.seeded.alloc, layout, &outcome, sink);
+    forget(outcome);
+    written
 }
 
 /// Serves the form `run`, as `serve` does those that have no threads.
