@@ -1,5 +1,5 @@
-//! Worked examples of what no whole job by the top call shows: commits that come between, callers, gates, and at what
-//! cost labels follow.
+//! Worked examples of what no whole job by the top call shows: commits that come between, callers, gates, listeners, and
+//! at what cost labels follow.
 #![tactic(auto)]
 
 #[cfg(test)]
@@ -14,3 +14,5 @@ mod gates;
 mod networks;
 #[cfg(test)]
 mod stale;
+#[cfg(test)]
+mod telling;
