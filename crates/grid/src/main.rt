@@ -3,7 +3,7 @@
 
 use grid_cli::grid;
 use grid_forms::Status;
-use grid_lines::{Around, Fault, ending, usage_text};
+use grid_lines::{Around, RunFault, ending, usage_text};
 use grid_manager::Idle;
 use grid_report::Text;
 use grid_source::{Input, StdSink, StdSource};
@@ -30,9 +30,9 @@ fn words_of(rt: &HostRuntime) -> Result<Vec<String>, Status> {
 }
 
 /// Tells a fault on standard error, and how the program is called where that is the fault.
-fn tell(rt: &HostRuntime, fault: &Fault) {
+fn tell(rt: &HostRuntime, fault: &RunFault) {
     let _ = eprintln!(rt; "{fault}");
-    if !matches!(fault, Fault::Usage { .. }) {
+    if !matches!(fault, RunFault::Usage { .. }) {
         return;
     }
     if let Ok(usage) = usage_text(rt.alloc()) {
@@ -96,7 +96,7 @@ fn main(rt: HostRuntime) -> ExitCode {
         Err(status) => return exit_with(&rt, None, status, &[]),
     };
     let Ok(seeded) = seeded_by(&rt) else {
-        tell(&rt, &Fault::NoRandomBytes);
+        tell(&rt, &RunFault::NoRandomBytes);
         return ExitCode::from(Status::ReadFault.number());
     };
     let mut input = Input::new(rt.alloc(), StdSource::new(rt.reader()));

@@ -9,7 +9,7 @@ use Rattle.grid_graph.specs.Components.{places}
 use Rattle.grid_graph.proofs.Reach.{In}
 use Rattle.grid_graph.proofs.Places.{AreBelow, In_places, places_In}
 use Rattle.grid_graph.specs.Graph.{Graph, joined_in, least_joined, count_joined}
-use Rattle.grid_graph.proofs.Filtered.{counts_none}
+use Rattle.grid_graph.proofs.FilteredNodes.{counts_none}
 use Rattle.grid_components.specs.Ranks.{is_key}
 use Rattle.grid_graph.proofs.Least.{least_same, joined_from_least, n_refl, n_same, In_filter}
 use Rattle.grid_graph.proofs.Least.{leads_itself}

@@ -11,7 +11,7 @@ use Rattle.grid_json.specs.declared.fault.Reason.TheVariants.{Load}
 use Rattle.grid_json.specs.Reading.{◌>>=◌, here}
 use Rattle.grid_json.specs.declared.buses.BusEnd.{BusEnd}
 use Rattle.grid_configured.specs.declared.network.ConfiguredLevel.{ConfiguredLevel}
-use Rattle.grid_configured.specs.declared.standing.Spot.{Spot}
+use Rattle.grid_configured.specs.declared.standing.EndFinding.{EndFinding}
 use Rattle.grid_configured.specs.declared.standing.Standing.{Standing}
 use Rattle.grid_configured.specs.declared.standing.Tally.{Tally}
 use Rattle.grid_configured.specs.Checks.{end_check, end_reasons, ends_in, level_edges, level_nodes, level_of, switch_total}
@@ -25,7 +25,7 @@ none_of None tally is e = refl
 none_of (Some l) None is e = absurd is
 none_of (Some l) (Some t) is e = absurd (cc)
 
-found_at : (level : Option ConfiguredLevel) (tally : Option Tally) → IsTally level tally → (bus : List ℕ) (n m switches total : ℕ) (spot : Spot) → n ≡ m → switches ≡ total → option_map (spot_of bus n switches) tally ≡ Some spot
+found_at : (level : Option ConfiguredLevel) (tally : Option Tally) → IsTally level tally → (bus : List ℕ) (n m switches total : ℕ) (spot : EndFinding) → n ≡ m → switches ≡ total → option_map (spot_of bus n switches) tally ≡ Some spot
     → (found_or level (here (Load refusals.NoLevel)) >>= λ l. end_reasons (has_id l.buses bus) (level_nodes l + m) (level_edges l + m) total) ≡ end_reasons spot.there spot.counts.nodes spot.counts.edges spot.counts.switches
 found_at None None is bus n m switches total spot ends all e = absurd (cc)
 found_at None (Some t) is bus n m switches total spot ends all e = absurd is
@@ -33,7 +33,7 @@ found_at (Some l) None is bus n m switches total spot ends all e = absurd is
 found_at (Some l) (Some t) is bus n m switches total spot ends all e =
     let same : spot_of bus n switches t ≡ spot = cc in
     let told : end_reasons (has_id l.buses bus) (level_nodes l + m) (level_edges l + m) total ≡ end_reasons (has_id t.buses bus) (t.nodes + n) (t.edges + n) switches = rw (is.0 bus, is.1, is.2, ends, all) refl in
-    told ∙ ap (λ (z : Spot). end_reasons z.there z.counts.nodes z.counts.edges z.counts.switches) same
+    told ∙ ap (λ (z : EndFinding). end_reasons z.there z.counts.nodes z.counts.edges z.counts.switches) same
 
 pub nothing_found : {X Y : Type 0} (f : X → Y) (found : Option X) → None ≡ option_map f found → found ≡ None
 nothing_found f None is = refl
@@ -44,7 +44,7 @@ module _ (ids : List (List ℕ)) (levels : List ConfiguredLevel) (ends : List Bu
   unfolding end_check
   no_level none = rw (none_of (level_of levels e.level) (tally_at standing.levels e.level) (stands.found e.level) none) refl
 
-  pub end_as : (spot : Spot) → option_map (spot_of e.bus (count_at standing.ends e.level) standing.switches) (tally_at standing.levels e.level) ≡ Some spot → end_check levels ends e ≡ end_reasons spot.there spot.counts.nodes spot.counts.edges spot.counts.switches
+  pub end_as : (spot : EndFinding) → option_map (spot_of e.bus (count_at standing.ends e.level) standing.switches) (tally_at standing.levels e.level) ≡ Some spot → end_check levels ends e ≡ end_reasons spot.there spot.counts.nodes spot.counts.edges spot.counts.switches
   unfolding end_check
   end_as spot is =
       found_at (level_of levels e.level) (tally_at standing.levels e.level) (stands.found e.level) e.bus (count_at standing.ends e.level) (ends_in e.level ends) standing.switches (switch_total levels + length ends) spot (stands.ended e.level) stands.counted is

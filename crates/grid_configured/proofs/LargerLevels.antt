@@ -11,8 +11,8 @@ use Rattle.grid_level.specs.VoltageLevel.{VoltageLevel}
 use Rattle.grid_level.specs.Passing.{switch_edge, internal_edge, edges, ends, both, with_node, rising, named, nodes, is_rising, placed_at, stands_at}
 use Rattle.grid_level.specs.LevelEdits.{max_node, max_nodes, max_edges, node_of, edge_fits, level_with_switch, with_placed, refuse_taken, terminal_fits, level_with_terminal}
 use Rattle.grid_level.proofs.Places.{rising_is_rising}
-use Rattle.grid_level.proofs.Editing.{list_all-rising, all_join}
-use Rattle.grid_level.proofs.Keeping.{length-edges}
+use Rattle.grid_level.proofs.LevelEdits.{list_all-rising, all_join}
+use Rattle.grid_level.proofs.EditUses.{length-edges}
 use Rattle.grid_placed.specs.Places.{Joint, Outlet, PlacedLevel, PlacesFit}
 use Rattle.grid_placed.specs.Translation.{joint_breaker, outlet_breaker, bus_section, outlet_placed, outlets_at, translated_level}
 use Rattle.grid_placed.proofs.Nodes.{EndsUnder, under_join, ends_under, node_numbers}

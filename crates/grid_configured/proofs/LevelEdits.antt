@@ -43,7 +43,7 @@ use Rattle.grid_configured.proofs.LevelAdditions.{alone, levels_only, switch_rig
 
 -- ---- the answers of edits
 
--- where the definition refuses nothing, a call fails by want of memory alone
+-- where the definition refuses nothing, a call fails by out of memory alone
 pub only_memory : (r : Result Network EditFault) (x : Network) (answer : Result ⊤ ApplyFault) → r ≡ Ok x → IfErr answer (IsTold r) → IfErr answer (λ fault. fault ≡ Memory)
 only_memory r x (Ok done) h told = tt
 only_memory r x (Err Memory) h told = refl

@@ -6,7 +6,7 @@ use Rattle.std.specs.Ordering.{nat_cmp}
 use Rattle.grid_ids.specs.Name.{has_id}
 use Rattle.grid_json.specs.declared.buses.BusEnd.{BusEnd}
 use Rattle.grid_configured.specs.declared.network.ConfiguredLevel.{ConfiguredLevel}
-use Rattle.grid_configured.specs.declared.standing.Spot.{Spot}
+use Rattle.grid_configured.specs.declared.standing.EndFinding.{EndFinding}
 use Rattle.grid_configured.specs.declared.standing.Standing.{Standing}
 use Rattle.grid_configured.specs.declared.standing.Tally.{Tally}
 use Rattle.grid_configured.specs.Checks.{ends_in, level_edges, level_nodes, level_of, switch_total}
@@ -35,7 +35,7 @@ IsTally (Some level) None = ⊥
 IsTally (Some level) (Some tally) = Knows tally.buses level.buses × (tally.nodes ≡ level_nodes level) × (tally.edges ≡ level_edges level)
 
 -- what an end at a bus finds of a level with so many ends, in a network with so many switches
-abbrev pub spot_of : List ℕ → ℕ → ℕ → Tally → Spot
+abbrev pub spot_of : List ℕ → ℕ → ℕ → Tally → EndFinding
 spot_of bus ends switches tally = record {
   there = has_id tally.buses bus;
   ends = ends;

@@ -19,7 +19,7 @@ use std::alloc::Global;
 /// Writes the report of what came of a job with configured buses, in pieces of `PIECE` bytes of `grid_source`, the last
 /// one shorter: the order of the steps, each worker's steps with their replies, and each live variant with the views of
 /// its levels. It stops only where the sink's count of faults rose, which is as before after every other answer; after
-/// that, or want of memory, a front of the text was written.
+/// that, or out of memory, a front of the text was written.
 pub fn write_configured<K: Sink>(
     alloc: Global,
     outcome: &ConfiguredOutcome,

@@ -40,7 +40,7 @@ pub(crate) struct Standing {
 
 /// What an end of a line finds of its level: whether its bus is there, how many ends are there, and how much stands.
 #[derive(Clone, Copy, Debug, PartialEq, Eq)]
-pub(crate) struct Spot {
+pub(crate) struct EndFinding {
     pub there: bool,
     pub ends: u32,
     pub counts: Counts,
@@ -82,10 +82,10 @@ fn put_tally(levels: &mut BTreeMap<Id, Tally>, level: &Id, tally: Tally) -> Resu
 }
 
 // What an end at a bus finds of a level with so many ends, in a network with so many switches.
-fn spot_in(tally: &Tally, bus: &Id, ends: u32, switches: usize) -> Spot
+fn spot_in(tally: &Tally, bus: &Id, ends: u32, switches: usize) -> EndFinding
     ensures { result ≡ spot_of bus.now ends switches tally.now }
 {
-    Spot {
+    EndFinding {
         there: tally.buses.has(bus),
         ends,
         counts: Counts {
@@ -98,7 +98,7 @@ fn spot_in(tally: &Tally, bus: &Id, ends: u32, switches: usize) -> Spot
 
 // The reasons against one more end.
 #[tactic(auto, unfolding(crate::specs::Checks::end_reasons))]
-fn check_spot(alloc: Global, spot: Spot) -> Result<(), ReadError>
+fn check_spot(alloc: Global, spot: EndFinding) -> Result<(), ReadError>
     ensures check { Gives result (end_reasons spot.there spot.counts.nodes spot.counts.edges
         spot.counts.switches) }
     ensures nodes { OnOk result (spot.counts.nodes < 1024) }
@@ -176,7 +176,7 @@ impl Standing {
 
     // What an end finds of its level; None exactly where no level has its id.
     #[tactic(auto, unfolding(crate::specs::Standing::tally_at))]
-    fn find(&self, end: &BusEnd) -> Option<Spot>
+    fn find(&self, end: &BusEnd) -> Option<EndFinding>
         ensures spot { result
             ≡ option_map
             (spot_of end.now.bus (count_at self.now.ends end.now.level) self.now.switches)

@@ -1,6 +1,6 @@
 // Workers on the variants of a network with configured buses. A connect or disconnect that names a configured bus is a
 // step of the node/breaker world too, where it changes nothing, so that both histories have the same steps. A view is
-// made before its step, so that want of memory changes nothing.
+// made before its step, so that running out of memory changes nothing.
 ghost use Rattle.std.specs.Prelude.{◌≡◌, ◌<◌, if◌then◌else◌, length, slice_get, Some, IsTrue, OnOk, OnErr, IfOk};
 ghost use Rattle.grid_ids.specs.Name.{has_id};
 ghost use Rattle.grid_core.specs.Fitting.{RowsFit};
@@ -212,7 +212,7 @@ impl ConfiguredWorld {
 
     /// Makes one step of a worker, whose number is below the count, and answers its reply. The request is one of the
     /// eight commands `use`, `open`, `close`, `connect`, `disconnect`, `bus_view`, `clone` and `remove`, and its ids
-    /// are plain. After want of memory the world is as before.
+    /// are plain. Where memory runs out the world is as before.
     #[tactic(auto, unfolding(crate::specs::Told::is_passed))]
     pub fn step(&mut self, worker: u32, request: &Request) -> Result<ConfiguredReply, Memory>
         requires worker { worker < self.old.workers }

@@ -8,7 +8,7 @@ use Rattle.grid_lemmas.proofs.Bools.{not_if, not_true, or_left, or_right}
 use Rattle.grid_level.specs.VoltageLevel.{VoltageLevel}
 use Rattle.grid_level.specs.Passing.{Edge, edges, ends, both, rising, named, nodes, is_connected, carries_busbar}
 use Rattle.grid_graph.proofs.Reach.{In, In_left}
-use Rattle.grid_level.proofs.Reading.{among_rising}
+use Rattle.grid_level.proofs.LevelReaders.{among_rising}
 use Rattle.grid_groups.proofs.Indices.{among_In, In_among}
 use Rattle.grid_paths.specs.Paths.{has_node, is_path, last_node, least_path, paths_from}
 use Rattle.grid_connect.specs.Plans.{all_ends, is_open, may_be_closed, is_closable, closable_paths, plan_along, connect_plan_of}

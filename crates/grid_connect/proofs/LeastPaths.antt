@@ -15,7 +15,7 @@ use Rattle.grid_paths.specs.Routes.{PathEdge, ends_of, all_ends as route_ends, i
 use Rattle.grid_paths.proofs.Least.{Member, LeastOf, least_path_least, some_none, first_edge, begins, IsEnd}
 use Rattle.grid_paths.proofs.PathTies.{same_path}
 use Rattle.grid_paths.proofs.RenamedPaths.{path_renamed, end_renamed, end_among}
-use Rattle.grid_graph.proofs.Renamed.{renamed, EndsIn}
+use Rattle.grid_graph.proofs.RenamedNodes.{renamed, EndsIn}
 use Rattle.grid_groups.specs.Labels.{index_in}
 use Rattle.grid_groups.proofs.Indices.{index_apart, In_among}
 use Rattle.grid_connect.specs.Plans.{all_ends, opened_at, is_open, closable_at, may_be_closed, is_closable, closable_paths, plan_along, connect_plan_of}

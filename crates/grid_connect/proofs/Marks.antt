@@ -8,7 +8,7 @@ use Rattle.std.proofs.lemmas.List.{get_or-map, length-map}
 use Rattle.grid_lemmas.proofs.Bools.{or_left, or_right, same_test}
 use Rattle.grid_graph.specs.Joined.{joined}
 use Rattle.grid_graph.specs.Graph.{labels_of}
-use Rattle.grid_graph.proofs.Renamed.{EndsIn}
+use Rattle.grid_graph.proofs.RenamedNodes.{EndsIn}
 use Rattle.grid_graph.proofs.Reach.{In, In_here, In_there, In_right, any_from, any_of}
 use Rattle.grid_level.specs.declared.Switch.{Switch}
 use Rattle.grid_level.specs.declared.Placed.{Placed}

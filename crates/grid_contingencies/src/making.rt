@@ -121,7 +121,7 @@ pub fn made(alloc: Global, structure: &Structure, each: &Eaches) -> Result<Conti
     Ok(list)
 }
 
-// The sum of two counts. It is want of memory, too, where it would not fit its type.
+// The sum of two counts. It is out of memory, too, where it would not fit its type.
 fn plus(count: usize, more: usize) -> Result<usize, Memory>
     ensures { IfOk result (λ sum. sum ≡ count + more) }
 {
@@ -132,7 +132,7 @@ fn plus(count: usize, more: usize) -> Result<usize, Memory>
 }
 
 /// How many contingencies `made` makes. Each kind has fewer pieces than 2^32, and there are fourteen different items at
-/// most. It is want of memory, too, where the count does not fit its type.
+/// most. It is out of memory, too, where the count does not fit its type.
 #[tactic(auto, unfolding(crate::specs::Made::made))]
 pub fn count_made(alloc: Global, structure: &Structure, each: &Eaches) -> Result<usize, Memory>
     ensures { IfOk result (λ count. count ≡ length (specs.made structure.now each.now)) }

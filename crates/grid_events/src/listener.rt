@@ -15,7 +15,7 @@ pub trait Listener: Drop {
     // The events that were heard, in order.
     ghost heard: { Self → List Event };
 
-    /// Hears one event. After want of memory it is as if it had not been told.
+    /// Hears one event. Where memory runs out it is as if it had not been told.
     fn hear(&mut self, event: &Event) -> Result<(), Memory>
         ensures ok { OnOk result (heard self.new ≡ heard self.old ++ event.now ∷ []) }
         ensures err { OnErr result (heard self.new ≡ heard self.old) };
@@ -80,7 +80,7 @@ impl<L: Listener> Subscriptions<L> {
         }
     }
 
-    /// Puts a listener last. It comes back only for want of memory.
+    /// Puts a listener last. It comes back only where memory runs out.
     pub fn subscribe(&mut self, filter: Filter, listener: L) -> Result<(), L>
         ensures ok { OnOk result (self.new
             ≡ self.old ++ record { filter = filter; listener = listener } ∷ []) }
@@ -100,8 +100,8 @@ impl<L: Listener> Subscriptions<L> {
         self.items.as_slice()
     }
 
-    /// Tells the event to every listener whose filter matches, as its last one; the others are as before. After want
-    /// of memory the matching listeners before some place have heard it, and those from that place on are as before.
+    /// Tells the event to every listener whose filter matches, as its last one; the others are as before. Where memory
+    /// runs out the matching listeners before some place have heard it, and those from that place on are as before.
     pub fn hear(&mut self, event: &Event) -> Result<(), Memory>
         ensures ok { OnOk result (hearings L.heard self.new
             ≡ map (after_event event.now) (hearings L.heard self.old)) }
@@ -117,7 +117,7 @@ impl<L: Listener> Subscriptions<L> {
         Ok(())
     }
 
-    /// Tells the events one after the other, each to every listener whose filter matches. After want of memory those
+    /// Tells the events one after the other, each to every listener whose filter matches. Where memory runs out those
     /// before some event have been told, that event stands as `hear` leaves it, and no later one has been told.
     pub fn hear_all(&mut self, events: &[Event]) -> Result<(), Memory>
         ensures ok { OnOk result (hearings L.heard self.new

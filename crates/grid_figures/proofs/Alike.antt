@@ -7,7 +7,7 @@ use Rattle.grid_graph.specs.Components.{places, component_of, component_number, 
 use Rattle.grid_graph.specs.Graph.{joined_in}
 use Rattle.grid_graph.proofs.Reach.{In, In_here, In_there}
 use Rattle.grid_graph.proofs.Places.{places_In}
-use Rattle.grid_graph.proofs.Filtered.{filters_same}
+use Rattle.grid_graph.proofs.FilteredNodes.{filters_same}
 use Rattle.grid_unions.proofs.Orders.{AreAlike, alike_joined}
 use Rattle.grid_unions.specs.declared.summed.Sums.{Sums}
 use Rattle.grid_figures.specs.Figures.{figures_by}

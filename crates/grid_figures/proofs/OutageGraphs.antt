@@ -9,7 +9,7 @@ use Rattle.std.proofs.lemmas.List.FromFn.{length-range_with_len, get_or-range_wi
 use Rattle.grid_lemmas.proofs.Lists.{map_twice}
 use Rattle.grid_graph.specs.Components.{places}
 use Rattle.grid_graph.specs.Graph.{graph, EndsBelow}
-use Rattle.grid_graph.proofs.Renamed.{renamed}
+use Rattle.grid_graph.proofs.RenamedNodes.{renamed}
 use Rattle.grid_unions.specs.Sweep as sweeps
 use Rattle.grid_unions.specs.Sweep.{is_among, pair_at, IsFitting, IsFoundOf}
 use Rattle.grid_unions.specs.declared.summed.Sums.{Sums}

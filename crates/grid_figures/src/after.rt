@@ -61,7 +61,7 @@ fn list_figures(
 /// numbered level by level. The links whose places are gone join nothing; of the others no end is in a level that it
 /// changes; and its own links join buses that are there after it.
 ///
-/// The time is that of all buses and links, once, with that of what each outage changes, times a logarithm. It is want
+/// The time is that of all buses and links, once, with that of what each outage changes, times a logarithm. It is out
 /// of memory, too, where the kept buses and those of all changed levels, with one number more, are 2^32 or more, or
 /// where a sum would not fit its type.
 pub fn figures_after_each(

@@ -18,7 +18,7 @@ pub(crate) struct Totals {
     pub generation: i128,
 }
 
-// A sum with one more. It is want of memory, too, where it would not fit its type.
+// A sum with one more. It is out of memory, too, where it would not fit its type.
 fn plus(sum: i128, more: i128) -> Result<i128, Memory>
     ensures { IfOk result (λ new. new ≡ sum +ℤ more) }
 {
@@ -28,7 +28,7 @@ fn plus(sum: i128, more: i128) -> Result<i128, Memory>
     }
 }
 
-// A sum of which one is taken away. It is want of memory, too, where it would not fit its type.
+// A sum of which one is taken away. It is out of memory, too, where it would not fit its type.
 fn minus(sum: i128, less: i128) -> Result<i128, Memory>
     ensures { IfOk result (λ new. new +ℤ less ≡ sum) }
 {

@@ -21,7 +21,7 @@ pub enum Status {
     BadJob { place: Place, reason: Reason },
     /// 7: the sink failed. A front of the output was written.
     WriteFault,
-    /// 8: memory is wanting. A front of the output was written, or nothing.
+    /// 8: out of memory. A front of the output was written, or nothing.
     NoMemory,
 }
 

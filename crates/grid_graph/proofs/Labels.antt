@@ -8,7 +8,7 @@ use Rattle.grid_graph.specs.Components.{places}
 use Rattle.grid_graph.specs.Graph.{Graph, joined_in, least_joined, labels_of}
 use Rattle.grid_graph.proofs.Places.{AreBelow, In_places}
 use Rattle.grid_graph.proofs.Least.{least_is_least, least_below, least_le, least_same, joined_from_least}
-use Rattle.grid_graph.proofs.Leading.{none_joined, least_apart_from}
+use Rattle.grid_graph.proofs.GroupLeaders.{none_joined, least_apart_from}
 use Rattle.grid_graph.proofs.Counts.{at_place, long_places}
 
 pub labels_long : (net : Graph) (labels : List ℕ) → labels ≡ labels_of net → length labels ≡ net.nodes

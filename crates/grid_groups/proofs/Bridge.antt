@@ -9,7 +9,7 @@ use Rattle.grid_graph.specs.Joined.{within, joined, is_least, least_nodes, group
 use Rattle.grid_graph.specs.Components.{places}
 use Rattle.grid_graph.specs.Graph.{EndsBelow, joined_in, least_joined, labels_of}
 use Rattle.grid_graph.proofs.Reach.{In, any_from, any_of, some_member}
-use Rattle.grid_graph.proofs.Renamed.{EndsIn, within_renamed, renamed}
+use Rattle.grid_graph.proofs.RenamedNodes.{EndsIn, within_renamed, renamed}
 use Rattle.grid_graph.proofs.Places.{AreBelow, In_places}
 use Rattle.grid_graph.proofs.Below.{pairs_below}
 use Rattle.grid_graph.proofs.Counts.{at_place, long_places}

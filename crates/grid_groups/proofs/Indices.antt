@@ -5,7 +5,7 @@ use Rattle.std.specs.List.{list_any, list_all, position_or_len}
 use Rattle.std.proofs.lemmas.Bool.{or_cases, and_parts, eqb-true, eq-eqb, ne_eqb, lt-ltb, ltb-true, false≢true}
 use Rattle.std.proofs.lemmas.List.Sums.{position_or_len_is, passes_at_first}
 use Rattle.grid_graph.proofs.Reach.{In, any_from, any_of}
-use Rattle.grid_graph.proofs.Renamed.{IsApart}
+use Rattle.grid_graph.proofs.RenamedNodes.{IsApart}
 use Rattle.grid_level.specs.Passing.{is_rising}
 use Rattle.grid_groups.specs.Labels.{index_in}
 use Rattle.grid_groups.proofs.Lists.{In_get}

@@ -5,7 +5,7 @@ use Rattle.std.specs.List.{list_any, list_all, flat_map, zip}
 use Rattle.std.proofs.lemmas.Bool.{and_parts}
 use Rattle.grid_lemmas.proofs.Bools.{and_true}
 use Rattle.grid_graph.proofs.Reach.{In}
-use Rattle.grid_graph.proofs.Renamed.{EndsIn}
+use Rattle.grid_graph.proofs.RenamedNodes.{EndsIn}
 use Rattle.grid_level.specs.declared.Switch.{Switch}
 use Rattle.grid_level.specs.declared.Internal.{Internal}
 use Rattle.grid_level.specs.VoltageLevel.{VoltageLevel}

@@ -5,7 +5,7 @@ use Rattle.std.specs.List.{list_any, zip}
 use Rattle.grid_graph.specs.Joined.{least_nodes, group_of}
 use Rattle.grid_graph.specs.Graph.{labels_of}
 use Rattle.grid_graph.proofs.Reach.{In}
-use Rattle.grid_graph.proofs.Renamed.{EndsIn}
+use Rattle.grid_graph.proofs.RenamedNodes.{EndsIn}
 use Rattle.grid_level.specs.declared.Placed.{Placed}
 use Rattle.grid_level.specs.VoltageLevel.{VoltageLevel}
 use Rattle.grid_level.specs.Passing.{Rule, bus, breaker, nodes, passing, positioned, stood}

@@ -105,7 +105,7 @@ fn put_name(out: &mut Text, name: &Id) -> Result<(), Memory>
 /// Puts a variant's name and the line of each bus of its network last, by place of level, then by least node: the bus
 /// with its connected and its synchronous component. The switches have the flags opened of these states: a row for
 /// each level, a flag for each switch; the flags retained are of no account. An HVDC line connects the two buses in
-/// which its stations stand. Where memory is wanting, no text is left. The time is that of the network's nodes,
+/// which its stations stand. Where memory runs out, no text is left. The time is that of the network's nodes,
 /// switches, branches and HVDC lines.
 pub fn put_variant(
     out: &mut Text,

@@ -293,7 +293,7 @@ fn put_totals(out: &mut Text) -> Result<(), Memory>
     out.put("}")
 }
 
-/// Puts a command last, as the object that printing writes for it in a job. Where memory is wanting, the text is empty.
+/// Puts a command last, as the object that printing writes for it in a job. Where memory runs out, the text is empty.
 pub fn put_command(out: &mut Text, request: &Request) -> Result<(), Memory>
     ensures ok { OnOk result (out.new ≡ out.old ++ compact_text (request_value request.now)) }
     ensures err { OnErr result (out.new ≡ []) }

@@ -16,12 +16,12 @@ pub trait Written {
     // The value.
     ghost written: { Self → Data };
 
-    /// Puts the text of the value last. Where memory is wanting, the text is empty.
+    /// Puts the text of the value last. Where memory runs out, the text is empty.
     fn put(&self, out: &mut Text) -> Result<(), Memory>
         ensures ok { OnOk result (out.new ≡ out.old ++ compact_text (written self.now)) }
         ensures err { OnErr result (out.new ≡ []) };
 
-    /// Puts the text of each value last, behind a comma. Where memory is wanting, the text is empty.
+    /// Puts the text of each value last, behind a comma. Where memory runs out, the text is empty.
     fn put_others(out: &mut Text, items: &[Self]) -> Result<(), Memory>
         ensures ok { OnOk result (out.new
             ≡ out.old ++ flat_map (λ x. 44 ∷ compact_text (written x)) items.now) }
@@ -40,7 +40,7 @@ pub trait WrittenIn {
     // The value in the level with an id.
     ghost written_in: { Seq ℕ → Self → Data };
 
-    /// Puts the text of the value in a level last. Where memory is wanting, the text is empty.
+    /// Puts the text of the value in a level last. Where memory runs out, the text is empty.
     fn put_in(&self, out: &mut Text, level: &Id) -> Result<(), Memory>
         ensures ok { OnOk result (out.new
             ≡ out.old ++ compact_text (written_in level.now self.now)) }
@@ -68,7 +68,7 @@ impl Written for u16 {
     }
 }
 
-/// Puts an array last. Where memory is wanting, the text is empty.
+/// Puts an array last. Where memory runs out, the text is empty.
 pub fn put_items<T: Written>(out: &mut Text, items: &[T]) -> Result<(), Memory>
     ensures ok { OnOk result (out.new ≡ out.old ++ compact_text (array_of T.written items.now)) }
     ensures err { OnErr result (out.new ≡ []) }
@@ -97,7 +97,7 @@ fn put_others_in<T: WrittenIn>(out: &mut Text, level: &Id, items: &[T]) -> Resul
     Ok(())
 }
 
-/// Puts an array of items of a level last. Where memory is wanting, the text is empty.
+/// Puts an array of items of a level last. Where memory runs out, the text is empty.
 pub fn put_items_in<T: WrittenIn>(out: &mut Text, level: &Id, items: &[T]) -> Result<(), Memory>
     ensures ok { OnOk result (out.new
         ≡ out.old ++ compact_text (array_of (T.written_in level.now) items.now)) }
@@ -114,7 +114,7 @@ pub fn put_items_in<T: WrittenIn>(out: &mut Text, level: &Id, items: &[T]) -> Re
     }
 }
 
-/// Puts a member that is an array, behind a comma. Where memory is wanting, the text is empty.
+/// Puts a member that is an array, behind a comma. Where memory runs out, the text is empty.
 #[inline(always)]
 #[tactic(auto, unfolding(crate::specs::Trees::field_text))]
 pub fn put_array<T: Written>(out: &mut Text, name: &str, items: &[T]) -> Result<(), Memory>
@@ -126,7 +126,7 @@ pub fn put_array<T: Written>(out: &mut Text, name: &str, items: &[T]) -> Result<
     put_items(out, items)
 }
 
-/// Puts a member that is an array of items of a level, behind a comma. Where memory is wanting, the text is empty.
+/// Puts a member that is an array of items of a level, behind a comma. Where memory runs out, the text is empty.
 #[inline(always)]
 #[tactic(auto, unfolding(crate::specs::Trees::field_text))]
 pub fn put_array_in<T: WrittenIn>(

@@ -102,7 +102,7 @@ fn put_order_member(out: &mut Text, journal: &[Entry]) -> Result<(), Memory>
     put_order_array(out, journal)
 }
 
-/// Puts the line of kind `order` last: the worker of each step. Where memory is wanting, the text is empty.
+/// Puts the line of kind `order` last: the worker of each step. Where memory runs out, the text is empty.
 pub fn put_order_line(out: &mut Text, journal: &[Entry]) -> Result<(), Memory>
     ensures ok { OnOk result (out.new ≡ out.old ++ line_of (order_object journal.now)) }
     ensures err { OnErr result (out.new ≡ []) }
@@ -123,7 +123,7 @@ fn put_step_line(out: &mut Text, step: &Step<'_>) -> Result<(), Memory>
     out.put("}\n")
 }
 
-/// Puts the line of kind `variant` last: the variant's name. Where memory is wanting, the text is empty.
+/// Puts the line of kind `variant` last: the variant's name. Where memory runs out, the text is empty.
 pub fn put_variant_line(out: &mut Text, name: &Id) -> Result<(), Memory>
     ensures ok { OnOk result (out.new ≡ out.old ++ line_of (variant_object name.now)) }
     ensures err { OnErr result (out.new ≡ []) }
@@ -173,7 +173,7 @@ fn counts_of(outcome: &Outcome) -> Counts
     }
 }
 
-/// Puts the line of kind `end` last. Where memory is wanting, the text is empty.
+/// Puts the line of kind `end` last. Where memory runs out, the text is empty.
 pub fn put_end_line(out: &mut Text, counts: &Counts) -> Result<(), Memory>
     ensures ok { OnOk result (out.new ≡ out.old ++ line_of (end_of counts.now)) }
     ensures err { OnErr result (out.new ≡ []) }

@@ -15,7 +15,7 @@ pub trait Lined {
     // The bytes of the lines.
     ghost lined: { Self → Seq ℕ };
 
-    /// Puts the lines of the value last. Where memory is wanting, the text is empty.
+    /// Puts the lines of the value last. Where memory runs out, the text is empty.
     fn put_lines(&self, out: &mut Text) -> Result<(), Memory>
         ensures ok { OnOk result (out.new ≡ out.old ++ lined self.now) }
         ensures err { OnErr result (out.new ≡ []) };
@@ -58,7 +58,7 @@ impl<'a, T: Lined> Blocks for Rest<'a, T> {
 
 /// Writes the lines of each block of a list, in pieces of `PIECE` bytes, the last one shorter. No more than one block's
 /// lines are held beside a piece. It stops only where the sink's count of faults rose, which is as before after every
-/// other answer; after that, or want of memory, a front of the lines was written.
+/// other answer; after that, or out of memory, a front of the lines was written.
 pub fn write_lined<T: Lined, K: Sink>(
     alloc: Global,
     blocks: &[T],

@@ -11,7 +11,7 @@ use crate::sum::put_sum;
 use grid_ids::{Id, Memory};
 use grid_report::Text;
 
-/// Puts a comma and the name of a member. Where memory is wanting, the text is empty.
+/// Puts a comma and the name of a member. Where memory runs out, the text is empty.
 #[inline(always)]
 #[tactic(auto, unfolding(crate::specs::Trees::name_text))]
 pub fn put_name(out: &mut Text, name: &str) -> Result<(), Memory>
@@ -21,7 +21,7 @@ pub fn put_name(out: &mut Text, name: &str) -> Result<(), Memory>
     put_escaped(out, ",\"", name, "\":")
 }
 
-/// Opens an object with a text. Where memory is wanting, the text is empty.
+/// Opens an object with a text. Where memory runs out, the text is empty.
 #[inline(always)]
 #[tactic(auto, unfolding(crate::specs::Trees::field_text, crate::specs::Trees::name_text))]
 pub fn open_with(out: &mut Text, name: &str, text: &str) -> Result<(), Memory>
@@ -33,7 +33,7 @@ pub fn open_with(out: &mut Text, name: &str, text: &str) -> Result<(), Memory>
     put_string(out, text)
 }
 
-/// Opens an object with an id. Where memory is wanting, the text is empty.
+/// Opens an object with an id. Where memory runs out, the text is empty.
 #[inline(always)]
 pub fn open_id(out: &mut Text, name: &str, id: &Id) -> Result<(), Memory>
     ensures ok { OnOk result (out.new ≡ out.old ++ 123 ∷ field_text false (name.now, string id.now)) }
@@ -42,7 +42,7 @@ pub fn open_id(out: &mut Text, name: &str, id: &Id) -> Result<(), Memory>
     open_with(out, name, id.text())
 }
 
-/// Puts a member that is a text, behind a comma. Where memory is wanting, the text is empty.
+/// Puts a member that is a text, behind a comma. Where memory runs out, the text is empty.
 #[inline(always)]
 #[tactic(auto, unfolding(crate::specs::Trees::field_text))]
 pub fn put_text(out: &mut Text, name: &str, text: &str) -> Result<(), Memory>
@@ -53,7 +53,7 @@ pub fn put_text(out: &mut Text, name: &str, text: &str) -> Result<(), Memory>
     put_string(out, text)
 }
 
-/// Puts a member that is an id, behind a comma. Where memory is wanting, the text is empty.
+/// Puts a member that is an id, behind a comma. Where memory runs out, the text is empty.
 #[inline(always)]
 pub fn put_id(out: &mut Text, name: &str, id: &Id) -> Result<(), Memory>
     ensures ok { OnOk result (out.new ≡ out.old ++ field_text true (name.now, string id.now)) }
@@ -62,7 +62,7 @@ pub fn put_id(out: &mut Text, name: &str, id: &Id) -> Result<(), Memory>
     put_text(out, name, id.text())
 }
 
-/// Puts a member that is a number, behind a comma. Where memory is wanting, the text is empty.
+/// Puts a member that is a number, behind a comma. Where memory runs out, the text is empty.
 #[inline(always)]
 #[tactic(auto, unfolding(crate::specs::Trees::field_text))]
 pub fn put_number(out: &mut Text, name: &str, number: u64) -> Result<(), Memory>
@@ -81,7 +81,7 @@ pub(crate) fn put_whole_number(out: &mut Text, number: &i64) -> Result<(), Memor
     out.put_whole(number)
 }
 
-/// Puts a member that is a number, which may be below 0, behind a comma. Where memory is wanting, the text is empty.
+/// Puts a member that is a number, which may be below 0, behind a comma. Where memory runs out, the text is empty.
 #[inline(always)]
 #[tactic(auto, unfolding(crate::specs::Trees::field_text))]
 pub fn put_whole(out: &mut Text, name: &str, number: &i64) -> Result<(), Memory>
@@ -92,7 +92,7 @@ pub fn put_whole(out: &mut Text, name: &str, number: &i64) -> Result<(), Memory>
     put_whole_number(out, number)
 }
 
-/// Puts a member that is a flag, behind a comma. Where memory is wanting, the text is empty.
+/// Puts a member that is a flag, behind a comma. Where memory runs out, the text is empty.
 #[inline(always)]
 #[tactic(auto, unfolding(crate::specs::Trees::field_text))]
 pub fn put_flag(out: &mut Text, name: &str, flag: bool) -> Result<(), Memory>
@@ -107,7 +107,7 @@ pub fn put_flag(out: &mut Text, name: &str, flag: bool) -> Result<(), Memory>
     }
 }
 
-/// Puts a member that is a number where it is given, behind a comma. Where memory is wanting, the text is empty.
+/// Puts a member that is a number where it is given, behind a comma. Where memory runs out, the text is empty.
 pub fn put_given(out: &mut Text, name: &str, number: &Option<i64>) -> Result<(), Memory>
     ensures ok { OnOk result (out.new ≡ out.old ++ more_text (given name.now whole number.now)) }
     ensures err { OnErr result (out.new ≡ []) }
@@ -118,7 +118,7 @@ pub fn put_given(out: &mut Text, name: &str, number: &Option<i64>) -> Result<(),
     }
 }
 
-/// Puts a member that is a sum, behind a comma. Where memory is wanting, the text is empty.
+/// Puts a member that is a sum, behind a comma. Where memory runs out, the text is empty.
 #[inline(always)]
 #[tactic(auto, unfolding(crate::specs::Trees::field_text))]
 pub fn put_sum_of(out: &mut Text, name: &str, sum: &i128) -> Result<(), Memory>

@@ -26,7 +26,7 @@ impl Written for Terminal {
     }
 }
 
-/// Puts the id of a bus last, as a text: its level's id, an underscore and its least node. Where memory is wanting, the
+/// Puts the id of a bus last, as a text: its level's id, an underscore and its least node. Where memory runs out, the
 /// text is empty.
 pub fn put_bus_id(out: &mut Text, level: &Id, least: u32) -> Result<(), Memory>
     ensures ok { OnOk result (out.new ≡ out.old ++ quoted (bus_name level.now least)) }
@@ -37,7 +37,7 @@ pub fn put_bus_id(out: &mut Text, level: &Id, least: u32) -> Result<(), Memory>
     out.put("\"")
 }
 
-/// Opens the object of a bus with its id. Where memory is wanting, the text is empty.
+/// Opens the object of a bus with its id. Where memory runs out, the text is empty.
 pub fn open_bus(out: &mut Text, level: &Id, least: u32) -> Result<(), Memory>
     ensures ok { OnOk result (out.new
         ≡ out.old ++ 123 ∷ field_text false (codes "id", string (bus_name level.now least))) }
@@ -47,7 +47,7 @@ pub fn open_bus(out: &mut Text, level: &Id, least: u32) -> Result<(), Memory>
     put_bus_id(out, level, least)
 }
 
-/// Puts a member that is the id of a bus, behind a comma. Where memory is wanting, the text is empty.
+/// Puts a member that is the id of a bus, behind a comma. Where memory runs out, the text is empty.
 #[inline(always)]
 #[tactic(auto, unfolding(crate::specs::Trees::field_text))]
 pub fn put_bus(out: &mut Text, name: &str, level: &Id, least: u32) -> Result<(), Memory>

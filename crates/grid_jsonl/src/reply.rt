@@ -23,7 +23,7 @@ use grid_level::Terminal;
 use grid_report::{Text, put_reason, refusal_number};
 use grid_structure::EditFault;
 
-/// Puts an answer last that is a word alone, as an object. Where memory is wanting, the text is empty.
+/// Puts an answer last that is a word alone, as an object. Where memory runs out, the text is empty.
 pub fn put_word(out: &mut Text, word: &str) -> Result<(), Memory>
     ensures ok { OnOk result (out.new ≡ out.old ++ compact_text (answer_of word.now [])) }
     ensures err { OnErr result (out.new ≡ []) }
@@ -199,7 +199,7 @@ fn put_why(out: &mut Text, refusal: &Refusal) -> Result<(), Memory>
     put_reason_text(out, refusal)
 }
 
-/// Puts a refusal last, as an object. Where memory is wanting, the text is empty.
+/// Puts a refusal last, as an object. Where memory runs out, the text is empty.
 pub fn put_refused(out: &mut Text, refusal: &Refusal) -> Result<(), Memory>
     ensures ok { OnOk result (out.new ≡ out.old ++ compact_text (refused_value refusal.now)) }
     ensures err { OnErr result (out.new ≡ []) }
@@ -212,7 +212,7 @@ pub fn put_refused(out: &mut Text, refusal: &Refusal) -> Result<(), Memory>
 
 // ---- replies
 
-/// Puts a reply to a request last, as an object. Where memory is wanting, the text is empty.
+/// Puts a reply to a request last, as an object. Where memory runs out, the text is empty.
 #[tactic(auto, unfolding(crate::specs::Replies::reply_value))]
 pub fn put_reply(out: &mut Text, request: &Request, reply: &Reply) -> Result<(), Memory>
     ensures ok { OnOk result (out.new

@@ -58,7 +58,7 @@ fn put_answered(out: &mut Text, request: &Request, reply: &Reply) -> Result<(), 
 }
 
 /// Puts the members of a step last that say who asked for what, without braces: its place in the order from 0, its
-/// worker, its number among its worker's steps from 1, the working variant and the command. Where memory is wanting,
+/// worker, its number among its worker's steps from 1, the working variant and the command. Where memory runs out,
 /// the text is empty.
 pub fn put_asked_step(out: &mut Text, place: u64, step: u64, entry: &Entry) -> Result<(), Memory>
     ensures ok { OnOk result (out.new
@@ -74,7 +74,7 @@ pub fn put_asked_step(out: &mut Text, place: u64, step: u64, entry: &Entry) -> R
 }
 
 /// Puts the members of a step last, without braces: its place in the order from 0, its number among its worker's steps
-/// from 1, and what came of it. Where memory is wanting, the text is empty.
+/// from 1, and what came of it. Where memory runs out, the text is empty.
 pub fn put_step(out: &mut Text, place: u64, step: u64, entry: &Entry) -> Result<(), Memory>
     ensures ok { OnOk result (out.new
         ≡ out.old ++ fields_text (step_fields (step_of place step entry.now))) }
@@ -173,7 +173,7 @@ fn put_first_refused(out: &mut Text, journal: &[Entry]) -> Result<(), Memory>
 }
 
 /// Puts the line of kind `state` of a journal last: how many commands it has, how many were refused, and the first
-/// that was. Where memory is wanting, the text is empty.
+/// that was. Where memory runs out, the text is empty.
 pub fn put_state(out: &mut Text, journal: &[Entry]) -> Result<(), Memory>
     ensures ok { OnOk result (out.new ≡ out.old ++ state_line journal.now) }
     ensures err { OnErr result (out.new ≡ []) }
@@ -218,8 +218,8 @@ fn put_counts(out: &mut Text, journal: &[Entry]) -> Result<(), Memory>
     out.put(" commands refused; the first: worker ")
 }
 
-/// Puts the line last that warns of a journal's refused commands, and nothing where none was refused. Where memory is
-/// wanting, the text is empty.
+/// Puts the line last that warns of a journal's refused commands, and nothing where none was refused. Where memory runs
+/// out, the text is empty.
 pub fn put_warning(out: &mut Text, journal: &[Entry]) -> Result<(), Memory>
     ensures ok { OnOk result (out.new ≡ out.old ++ warning_text journal.now) }
     ensures err { OnErr result (out.new ≡ []) }

@@ -76,7 +76,7 @@ fn put_escapes(out: &mut Text, text: &str) -> Result<(), Memory>
     out.put_bytes(&bytes[start..])
 }
 
-/// Puts a text as it stands between quotes, between two other texts. Where memory is wanting, the text is empty.
+/// Puts a text as it stands between quotes, between two other texts. Where memory runs out, the text is empty.
 #[inline(always)]
 pub(crate) fn put_escaped(
     out: &mut Text,
@@ -95,8 +95,8 @@ pub(crate) fn put_escaped(
     out.put(behind)
 }
 
-/// Puts a text last, between quotes; a quote, a backslash and a byte below 32 in it are escaped. Where memory is
-/// wanting, the text is empty.
+/// Puts a text last, between quotes; a quote, a backslash and a byte below 32 in it are escaped. Where memory runs
+/// out, the text is empty.
 pub fn put_string(out: &mut Text, text: &str) -> Result<(), Memory>
     ensures ok { OnOk result (out.new ≡ out.old ++ quoted text.now) }
     ensures err { OnErr result (out.new ≡ []) }

@@ -26,7 +26,7 @@ fn put_digits(out: &mut Text, sum: &i128) -> Result<(), Memory>
     out.put("\"")
 }
 
-/// Puts a sum last: a number where it has 64 bits, and elsewhere a text of its digits. Where memory is wanting, the
+/// Puts a sum last: a number where it has 64 bits, and elsewhere a text of its digits. Where memory runs out, the
 /// text is empty.
 #[tactic(auto, using(crate::proofs::Plain::sum_number, crate::proofs::Plain::sum_digits))]
 pub fn put_sum(out: &mut Text, sum: i128) -> Result<(), Memory>

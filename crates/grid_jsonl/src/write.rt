@@ -30,7 +30,7 @@ impl<'a> Blocks for Lines<'a> {
 
 /// Writes the lines of an outcome, in pieces of `PIECE` bytes, the last one shorter. Beside the outcome it holds a
 /// piece, one line, and a few numbers for each step. It stops only where the sink's count of faults rose, which is as
-/// before after every other answer; after that, or want of memory, a front of the lines was written.
+/// before after every other answer; after that, or out of memory, a front of the lines was written.
 pub fn write_lines<K: Sink>(
     alloc: Global,
     outcome: &Outcome,

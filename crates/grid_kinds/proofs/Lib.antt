@@ -1,1 +1,1 @@
-pub mod Rated
+pub mod RatedVoltages

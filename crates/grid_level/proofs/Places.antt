@@ -9,7 +9,7 @@ use Rattle.grid_lemmas.proofs.Bools.{and_swap}
 use Rattle.grid_level.specs.declared.uses.Use.{Use}
 use Rattle.grid_level.specs.Uses.{place_among, key_here, once, with_use, without_use, less_use, used_nodes, total}
 use Rattle.grid_level.specs.Passing.{with_node, rising, is_rising}
-use Rattle.grid_level.proofs.Counting.{Order, below, equal, above, order, with_use_nodes}
+use Rattle.grid_level.proofs.NodeCounts.{Order, below, equal, above, order, with_use_nodes}
 
 pub place_from_point : {X : Type 0} (key : X → ℕ) (n : ℕ) (xs : List X) (i : ℕ) → i ≤ length xs
     → AllWithin (λ y. nat_lt (key y) n ≡ true) xs 0 i → AllWithin (λ y. nat_lt (key y) n ≡ false) xs i (length xs) → place_among key n xs ≡ i

@@ -10,10 +10,10 @@ use Rattle.grid_level.specs.Uses.{place_among, key_here, with_use, tally}
 use Rattle.grid_level.specs.Passing.{nodes, with_node, is_rising, placed_at, stands_at}
 use Rattle.grid_level.specs.Kept.{IsKept}
 use Rattle.grid_level.specs.LevelEdits.{with_placed, max_node, max_nodes}
-use Rattle.grid_level.proofs.Counting.{tally_insert}
-use Rattle.grid_level.proofs.Keeping.{switch_nodes, internal_nodes}
-use Rattle.grid_level.proofs.Editing.{named_is_left}
-use Rattle.grid_level.proofs.Placing.{placed_in, placed_within}
+use Rattle.grid_level.proofs.NodeCounts.{tally_insert}
+use Rattle.grid_level.proofs.EditUses.{switch_nodes, internal_nodes}
+use Rattle.grid_level.proofs.LevelEdits.{named_is_left}
+use Rattle.grid_level.proofs.PlacedTerminals.{placed_in, placed_within}
 
 -- what the code inserts at the place is what the definition makes
 pub placed_insert : (p : Placed) (ps : List Placed) → with_placed p ps ≡ insert ps (place_among (λ (x : Placed). x.node) p.node ps) p

@@ -91,7 +91,7 @@ pub enum LevelFault {
     TooManyEdges,
     /// 24: there would be more than 1,024 different nodes.
     TooManyNodes,
-    /// Want of memory; comes only where none of the others does.
+    /// Out of memory; comes only where none of the others does.
     Memory,
 }
 
@@ -196,7 +196,7 @@ impl Level {
     }
 
     // The two nodes of a new edge.
-    #[tactic(auto, unfolding(crate::specs::LevelEdits::edge_fits, crate::specs::LevelEdits::level_fault_of), using(crate::proofs::Coding::map_ok, crate::proofs::Coding::map_err))]
+    #[tactic(auto, unfolding(crate::specs::LevelEdits::edge_fits, crate::specs::LevelEdits::level_fault_of), using(crate::proofs::CodePromises::map_ok, crate::proofs::CodePromises::map_err))]
     fn edge_fits(&self, node1: i64, node2: i64) -> Result<(u16, u16), LevelFault>
         ensures { result ≡ map_fault level_fault_of (edits.edge_fits self.now node1 node2) }
     {

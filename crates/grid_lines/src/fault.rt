@@ -16,7 +16,7 @@ use thiserror::Error;
 
 /// Why a run was not done: the line on standard error.
 #[derive(Debug, Drop, Error)]
-pub enum Fault {
+pub enum RunFault {
     /// The words are no form.
     #[error("grid: {why}; nothing was read{hint}")]
     Usage {
@@ -51,7 +51,7 @@ pub enum Fault {
     /// The sink failed.
     #[error("grid: standard output could not be written; the output is cut off")]
     WriteFault,
-    /// Memory is wanting.
+    /// Out of memory.
     #[error("grid: memory ran out; the output is cut off or missing")]
     NoMemory,
 }
@@ -158,7 +158,13 @@ fn seen_in(
 }
 
 /// What is told of a job's first fault.
-fn bad_job(alloc: Global, form: Option<Form>, place: Place, reason: Reason, input: &[u8]) -> Fault
+fn bad_job(
+    alloc: Global,
+    form: Option<Form>,
+    place: Place,
+    reason: Reason,
+    input: &[u8],
+) -> RunFault
     ensures { told_number result ≡ 6 }
 {
     let (why, owner) = match seen_in(alloc, form, &place, &reason, input) {
@@ -169,7 +175,7 @@ fn bad_job(alloc: Global, form: Option<Form>, place: Place, reason: Reason, inpu
         Some(why) => Why::Seen(why),
         None => Why::Alone(reason),
     };
-    Fault::BadJob { place, owner, why }
+    RunFault::BadJob { place, owner, why }
 }
 
 /// What is told of a status on standard error; nothing exactly where the output was written whole.
@@ -179,28 +185,28 @@ fn fault_of(
     around: Around,
     status: Status,
     input: &[u8],
-) -> Option<Fault>
+) -> Option<RunFault>
     ensures { MatchOption result (status ≡ Status.Done) (λ fault. told_number fault ≡ exit_number status) }
 {
     match status {
         Status::Done => None,
         Status::Usage => {
             let (why, hint) = wrong_words(alloc, words, around.names_file);
-            Some(Fault::Usage { why, hint })
+            Some(RunFault::Usage { why, hint })
         }
-        Status::ReadFault => Some(Fault::ReadFault {
+        Status::ReadFault => Some(RunFault::ReadFault {
             is_directory: around.reads_directory,
         }),
-        Status::TooLong => Some(Fault::TooLong),
-        Status::BadJson => Some(Fault::BadJson {
+        Status::TooLong => Some(RunFault::TooLong),
+        Status::BadJson => Some(RunFault::BadJson {
             why: not_json(alloc, input),
         }),
         Status::BadJob { place, reason } => {
             let form = read_words(words.unwrap_or(&[]));
             Some(bad_job(alloc, form, place, reason, input))
         }
-        Status::WriteFault => Some(Fault::WriteFault),
-        Status::NoMemory => Some(Fault::NoMemory),
+        Status::WriteFault => Some(RunFault::WriteFault),
+        Status::NoMemory => Some(RunFault::NoMemory),
     }
 }
 
@@ -213,7 +219,7 @@ pub fn ending(
     around: Around,
     status: Status,
     input: &[u8],
-) -> (u8, Option<Fault>)
+) -> (u8, Option<RunFault>)
     ensures number { result.0 ≡ exit_number status }
     ensures told { MatchOption result.1 (status ≡ Status.Done)
         (λ fault. told_number fault ≡ exit_number status) }

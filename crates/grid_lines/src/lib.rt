@@ -16,7 +16,7 @@ mod walk;
 mod why;
 mod wrong_words;
 
-pub use fault::{Around, Fault, ending};
+pub use fault::{Around, RunFault, ending};
 pub use not_json::NotJson;
 pub use usage::usage_text;
 pub use why::Why;

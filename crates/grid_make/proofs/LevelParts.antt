@@ -16,7 +16,7 @@ use Rattle.grid_level.specs.VoltageLevel.{VoltageLevel}
 use Rattle.grid_level.specs.Passing.{is_branch_end}
 use Rattle.grid_level.specs.LevelEdits.{level_with_terminal}
 use Rattle.grid_level.specs.Sound.{side_passes, stand_passes, level_passes}
-use Rattle.grid_level.proofs.Editing.{Passes, passes_of, all_parts}
+use Rattle.grid_level.proofs.LevelEdits.{Passes, passes_of, all_parts}
 use Rattle.grid_structure.specs.Network.{Network, Substation}
 use Rattle.grid_structure.specs.Sites.{switches, level_named, all_ids, taken}
 use Rattle.grid_structure.specs.Editing.{apply, with_single, stand_fault, max_switches}

@@ -29,7 +29,7 @@ use Rattle.grid_figures.specs.declared.outage.ChangedSums.{ChangedSums}
 use Rattle.grid_figures.specs.declared.outage.Outage.{Outage}
 use Rattle.grid_figures.proofs.Alike.{figures_alike}
 use Rattle.grid_outages.specs.declared.outage.Changed.{Changed}
-use Rattle.grid_outages.specs.declared.screening.Spot.{Spot}
+use Rattle.grid_outages.specs.declared.screening.EndBus.{EndBus}
 use Rattle.grid_outages.specs.declared.screening.Link.{Link}
 use Rattle.grid_outages.specs.declared.screening.Screening.{Screening}
 use Rattle.grid_outages.specs.Changes.{Changes, change_at, sums_in, present_sums, sums_before, place_among, place_in, number_at, link_pairs}
@@ -209,7 +209,7 @@ module _ (kept : Screening) (changes : Changes) (w : IsWhole kept) (fit : Change
       by true h = absurd (cc)
       by false h = absurd (cc)
 
-  bus_below : (spot : Spot) (a : ℕ) → IsKept sums spot → place_in (change_at changes spot.level) spot ≡ Some a → a < length (present_sums sums changes spot.level)
+  bus_below : (spot : EndBus) (a : ℕ) → IsKept sums spot → place_in (change_at changes spot.level) spot ≡ Some a → a < length (present_sums sums changes spot.level)
   unfolding present_sums
   bus_below spot a known e = by (change_at changes spot.level) refl e
     where

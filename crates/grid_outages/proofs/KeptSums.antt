@@ -22,7 +22,7 @@ use Rattle.grid_unions.specs.declared.summed.Sums.{Sums}
 use Rattle.grid_figures.specs.Outages as outages
 use Rattle.grid_figures.specs.Outages.{LinkAt, IsThere, LinksThere}
 use Rattle.grid_sums.specs.Sums.{sums_of}
-use Rattle.grid_outages.specs.declared.screening.Spot.{Spot}
+use Rattle.grid_outages.specs.declared.screening.EndBus.{EndBus}
 use Rattle.grid_outages.specs.declared.screening.Link.{Link}
 use Rattle.grid_outages.specs.Changes.{level_sums, level_places, spot_at, spot_of, link_of, link_between, links_among, branch_links, network_links, LinksFit}
 use Rattle.grid_outages.specs.Effects.{joined_of, IsBelow, IsKept, LevelsFit}
@@ -36,20 +36,20 @@ kept_long listed ls rows = length-map (enumerate_from 0 ls) (λ (at : ℕ × Vol
 
 -- ---- what holds of the ends of branches holds of those of links
 
-module _ (net : Network) (rows : List (List (Option ℕ))) (P : Spot → Type 0) (there : (end : End) (x : Spot) → spot_of net rows end ≡ Some x → P x) where
-  abbrev There : Option Spot → Type 0
-  There o = (x : Spot) → o ≡ Some x → P x
+module _ (net : Network) (rows : List (List (Option ℕ))) (P : EndBus → Type 0) (there : (end : End) (x : EndBus) → spot_of net rows end ≡ Some x → P x) where
+  abbrev There : Option EndBus → Type 0
+  There o = (x : EndBus) → o ≡ Some x → P x
 
   abbrev Both : Link → Type 0
   Both link = P link.first × P link.second
 
-  between_there : (a b : Option Spot) → There a → There b → All Both (link_between a b)
+  between_there : (a b : Option EndBus) → There a → There b → All Both (link_between a b)
   unfolding link_between
   between_there None b f g = All-nil Both
   between_there (Some x) None f g = All-nil Both
   between_there (Some x) (Some y) f g = All-cons Both (link_of x y) [] (f x refl, g y refl) (All-nil Both)
 
-  each_there : (a : Option Spot) (ends : List End) → There a → All Both (flat_map (link_between a) (map (spot_of net rows) ends))
+  each_there : (a : Option EndBus) (ends : List End) → There a → All Both (flat_map (link_between a) (map (spot_of net rows) ends))
   each_there a [] f = All-nil Both
   each_there a (end ∷ ends) f =
       All-append Both (link_between a (spot_of net rows end)) (flat_map (link_between a) (map (spot_of net rows) ends)) (between_there a (spot_of net rows end) f (there end)) (each_there a ends f)
@@ -102,7 +102,7 @@ module _ (net : Network) (listed : Listed) (opened : List (List Bool)) where
       by None = tt
   number_below ns row count (negsuc node) below = tt
 
-  spot_kept : (end : End) (x : Spot) → spot_of net rows end ≡ Some x → IsKept sums x
+  spot_kept : (end : End) (x : EndBus) → spot_of net rows end ≡ Some x → IsKept sums x
   unfolding spot_of
   spot_kept end x e = by (find_level net end.level) refl e
     where

@@ -19,7 +19,7 @@ use Rattle.grid_islands.specs.Numbering.{number_of_node, node_within}
 use Rattle.grid_states.specs.Rows.{row_at}
 use Rattle.grid_unions.specs.declared.summed.Sums.{Sums}
 use Rattle.grid_sums.specs.Sums.{buses_under, sums_of}
-use Rattle.grid_outages.specs.declared.screening.Spot.{Spot}
+use Rattle.grid_outages.specs.declared.screening.EndBus.{EndBus}
 use Rattle.grid_outages.specs.declared.screening.Link.{Link}
 use Rattle.grid_outages.specs.declared.outage.Changed.{Changed}
 
@@ -39,25 +39,25 @@ level_places ls rows = map (λ at. (node_buses_of (positioned at.1 (row_at rows 
 
 -- ---- ends of branches
 
-abbrev pub spot_at : ℕ → ℤ → Option ℕ → Spot
+abbrev pub spot_at : ℕ → ℤ → Option ℕ → EndBus
 spot_at level node bus = record { level = level; node = node; bus = bus }
 
 -- an end of a branch, where its level is there
-unfoldable pub spot_of : Network → List (List (Option ℕ)) → End → Option Spot
+unfoldable pub spot_of : Network → List (List (Option ℕ)) → End → Option EndBus
 spot_of net rows end =
     option_and_then (λ place. option_map (λ level. spot_at place end.node (number_of_node (nodes level) (slice_index_or rows place []) end.node)) (slice_get (levels net) place)) (find_level net end.level)
 
-abbrev pub link_of : Spot → Spot → Link
+abbrev pub link_of : EndBus → EndBus → Link
 link_of first second = record { first = first; second = second }
 
 -- two ends, where both are there
-unfoldable pub link_between : Option Spot → Option Spot → List Link
+unfoldable pub link_between : Option EndBus → Option EndBus → List Link
 link_between None second = []
 link_between (Some first) None = []
 link_between (Some first) (Some second) = link_of first second ∷ []
 
 -- those of each two of a list
-unfoldable pub links_among : List (Option Spot) → List Link
+unfoldable pub links_among : List (Option EndBus) → List Link
 links_among [] = []
 links_among (first ∷ rest) = flat_map (link_between first) rest ++ links_among rest
 
@@ -150,12 +150,12 @@ unfoldable pub place_among : Changed → Option ℕ → ℤ → Option ℕ
 place_among c None node = None
 place_among c (Some number) node = if is_some (placed_at c.level number) then number_of_node (nodes c.level) c.places node else None
 
-abbrev pub place_in : Option (Box Changed Global) → Spot → Option ℕ
+abbrev pub place_in : Option (Box Changed Global) → EndBus → Option ℕ
 place_in None spot = spot.bus
 place_in (Some c) spot = place_among c.value (node_within spot.node) spot.node
 
 -- the present number of the bus at an end, where the levels' first buses have these numbers
-unfoldable pub number_at : List ℕ → Changes → Spot → Option ℕ
+unfoldable pub number_at : List ℕ → Changes → EndBus → Option ℕ
 number_at firsts changes spot = option_map (λ place. slice_index firsts spot.level + place) (place_in (change_at changes spot.level) spot)
 
 unfoldable pub link_pairs : List ℕ → Changes → Link → List (ℕ × ℕ)

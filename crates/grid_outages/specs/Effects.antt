@@ -10,7 +10,7 @@ use Rattle.grid_figures.specs.declared.outage.Outage.{Outage}
 use Rattle.grid_figures.specs.Figures.{figures_by}
 use Rattle.grid_figures.specs.Outages.{LinkAt, LinksThere, sums_under, pairs_under}
 use Rattle.grid_outages.specs.declared.outage.Changed.{Changed}
-use Rattle.grid_outages.specs.declared.screening.Spot.{Spot}
+use Rattle.grid_outages.specs.declared.screening.EndBus.{EndBus}
 use Rattle.grid_outages.specs.declared.screening.Link.{Link}
 use Rattle.grid_outages.specs.declared.screening.Screening.{Screening}
 use Rattle.grid_outages.specs.Changes.{Changes, change_at, place_in, sums_before, link_pairs, LinksFit}
@@ -51,7 +51,7 @@ abbrev pub IsBelow : Option ℕ → ℕ → Type 0
 IsBelow None count = Unit {0}
 IsBelow (Some bus) count = bus < count
 
-abbrev pub IsKept : List (List Sums) → Spot → Type 0
+abbrev pub IsKept : List (List Sums) → EndBus → Type 0
 IsKept sums spot = (spot.level < length sums) × IsBelow spot.bus (length (slice_index_or sums spot.level []))
 
 -- the buses of links are kept, and the lists are those of the links

@@ -10,7 +10,7 @@ ghost use Rattle.grid_outages.specs.Effects.{joined_under, IsWhole, ChangesFit, 
 ghost use Rattle.grid_outages.specs.Parts.{changed_part, row_of, own_at, own_among};
 
 use crate::outage::{Changed, Changes};
-use crate::screening::{Link, Screening, Spot};
+use crate::screening::{EndBus, Link, Screening};
 use grid_figures::{BusAt, ChangedSums, Outage};
 use grid_ids::{Memory, Seq};
 use grid_islands::number_of_node;
@@ -87,7 +87,7 @@ fn place_among(changed: &Changed<'_>, node: i64) -> Option<u32>
 }
 
 // The place of the bus at an end of a branch, among the buses of its level.
-fn place_at(changes: &Changes<'_>, spot: &Spot) -> Option<u32>
+fn place_at(changes: &Changes<'_>, spot: &EndBus) -> Option<u32>
     ensures { result ≡ place_in (change_at changes.now spot.now.level) spot.now }
 {
     match changes.get(spot.level) {

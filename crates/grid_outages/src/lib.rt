@@ -8,4 +8,4 @@ mod table;
 
 pub use effect::outage_of;
 pub use outage::{Changed, Changes, Shown, changes_without, find_changes};
-pub use screening::{Link, Screening, Spot, make_screening};
+pub use screening::{EndBus, Link, Screening, make_screening};

@@ -14,7 +14,7 @@ use grid_ids::{Memory, Seq};
 use grid_islands::number_of_node;
 use grid_powers::Powers;
 use grid_states::States;
-use grid_structure::{Branch, End, Structure};
+use grid_structure::{Branch, BranchEnds, End, Structure};
 use grid_sums::level_buses;
 use grid_unions::Sums;
 use std::alloc::Global;
@@ -22,7 +22,7 @@ use std::alloc::Global;
 /// An end of a branch: the place of its level, its node, and the place of the bus that holds it among the level's
 /// buses.
 #[derive(Clone, Copy, Debug, PartialEq, Eq)]
-pub struct Spot {
+pub struct EndBus {
     pub level: u32,
     pub node: i64,
     pub bus: Option<u32>,
@@ -31,8 +31,8 @@ pub struct Spot {
 /// Two ends of a branch.
 #[derive(Clone, Copy, Debug, PartialEq, Eq)]
 pub struct Link {
-    pub first: Spot,
-    pub second: Spot,
+    pub first: EndBus,
+    pub second: EndBus,
 }
 
 /// What is kept of a network for every outage.
@@ -88,7 +88,7 @@ fn look_at_levels(
 
 // An end of a branch, where its level is there.
 #[tactic(auto, unfolding(crate::specs::Changes::spot_of))]
-fn spot_of(structure: &Structure, rows: &[BusPlaces], end: &End) -> Option<Spot>
+fn spot_of(structure: &Structure, rows: &[BusPlaces], end: &End) -> Option<EndBus>
     requires { length rows.now ≡ length (levels structure.now) }
     ensures { result ≡ screened.spot_of structure.now rows.now end.now }
 {
@@ -96,7 +96,7 @@ fn spot_of(structure: &Structure, rows: &[BusPlaces], end: &End) -> Option<Spot>
         Some(level) => level,
         None => return None,
     };
-    Some(Spot {
+    Some(EndBus {
         level,
         node: end.node,
         bus: number_of_node(
@@ -141,19 +141,11 @@ fn push_branch(
     ensures { OnOk result (links.new
         ≡ links.old ++ branch_links structure.now rows.now branch.now) }
 {
-    match branch {
-        Branch::Line { end1, end2 } => push_link(links, structure, rows, end1, end2)?,
-        Branch::TwoWindings { end1, end2, .. } => push_link(links, structure, rows, end1, end2)?,
-        Branch::ThreeWindings {
-            end1,
-            end2,
-            end3,
-            ..
-        } => {
-            push_link(links, structure, rows, end1, end2)?;
-            push_link(links, structure, rows, end1, end3)?;
-            push_link(links, structure, rows, end2, end3)?;
-        }
+    let BranchEnds { end1, end2, end3 } = branch.ends();
+    push_link(links, structure, rows, end1, end2)?;
+    if let Some(end3) = end3 {
+        push_link(links, structure, rows, end1, end3)?;
+        push_link(links, structure, rows, end2, end3)?;
     }
     Ok(())
 }

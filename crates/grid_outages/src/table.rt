@@ -59,7 +59,7 @@ fn narrow(count: usize) -> Result<u32, Memory>
     }
 }
 
-/// For each level the places at which one of two ends is there. It is want of memory, too, where there are 2^32 of
+/// For each level the places at which one of two ends is there. It is out of memory, too, where there are 2^32 of
 /// them.
 pub(crate) fn places_by_level(
     alloc: Global,

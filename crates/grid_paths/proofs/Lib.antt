@@ -2,7 +2,7 @@ pub mod Least
 pub mod RouteCosts
 pub mod Shortest
 pub mod Nexts
-pub mod Answered
+pub mod CallAnswers
 pub mod PathSearches
 pub mod CostWalks
 pub mod PathTies

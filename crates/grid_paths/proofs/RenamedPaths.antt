@@ -8,7 +8,7 @@ use Rattle.std.proofs.lemmas.Option.{slice_get-map}
 use Rattle.grid_lemmas.proofs.Bools.{or_left, or_right}
 use Rattle.grid_graph.specs.Joined.{within}
 use Rattle.grid_graph.proofs.Reach.{In}
-use Rattle.grid_graph.proofs.Renamed.{renamed, IsApart, EndsIn, within_renamed}
+use Rattle.grid_graph.proofs.RenamedNodes.{renamed, IsApart, EndsIn, within_renamed}
 use Rattle.grid_paths.specs.Paths.{◌>>=◌, has_node, all_differ, across, visited, differ_if_some, is_path, last_in, last_node}
 use Rattle.grid_paths.proofs.Least.{Member, begins, some_same, some_none, visited_ends, IsEnd}
 use Rattle.grid_paths.proofs.RouteCosts.{across_ends}

@@ -9,7 +9,7 @@ use Rattle.grid_lemmas.proofs.Lists.{map_twice}
 use Rattle.grid_graph.specs.Joined.{joined, is_least, least_nodes, group_of}
 use Rattle.grid_graph.specs.Components.{places}
 use Rattle.grid_graph.proofs.Places.{places_In}
-use Rattle.grid_graph.proofs.Filtered.{filters_same}
+use Rattle.grid_graph.proofs.FilteredNodes.{filters_same}
 use Rattle.grid_level.specs.declared.Switch.{Switch}
 use Rattle.grid_level.specs.declared.Placed.{Placed}
 use Rattle.grid_level.specs.declared.Terminal.{Terminal}

@@ -10,7 +10,7 @@ use Rattle.grid_graph.specs.Joined.{joined, is_least, least_nodes, group_of}
 use Rattle.grid_graph.specs.Components.{places}
 use Rattle.grid_graph.proofs.Reach.{In, joined_refl, some_member}
 use Rattle.grid_graph.proofs.Places.{places_In, range_In}
-use Rattle.grid_graph.proofs.Filtered.{filters_same}
+use Rattle.grid_graph.proofs.FilteredNodes.{filters_same}
 use Rattle.grid_level.specs.declared.Placed.{Placed}
 use Rattle.grid_level.specs.Passing.{bus, passing, is_busbar, is_branch_end}
 use Rattle.grid_groups.specs.Groups.{leaders}

@@ -13,7 +13,7 @@ use Rattle.grid_graph.proofs.Places.{In_places}
 use Rattle.grid_level.specs.declared.Switch.{Switch}
 use Rattle.grid_level.specs.declared.Placed.{Placed}
 use Rattle.grid_level.specs.Passing.{bus, switch_edge, internal_edge, edges, ends, both, with_node, rising, named, nodes, is_rising, is_busbar, passing, switch_passes, passes_closed}
-use Rattle.grid_level.proofs.Coding.{rising_self}
+use Rattle.grid_level.proofs.CodePromises.{rising_self}
 use Rattle.grid_placed.specs.Places.{Joint, Outlet, PlacedLevel, PlacesFit, closed_pairs}
 use Rattle.grid_placed.specs.Translation.{joint_breaker, outlet_breaker, bus_section, outlet_placed, outlets_at, translated_level}
 

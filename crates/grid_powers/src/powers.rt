@@ -49,7 +49,7 @@ impl Powers {
         self.values.get(id).copied()
     }
 
-    /// Gives the id these watts. After want of memory all is as before.
+    /// Gives the id these watts. Where memory runs out all is as before.
     pub fn put(&mut self, id: Id, watts: i64) -> Result<(), Memory>
         ensures ok { OnOk result (self.new
             ≡ record self.old { listed = with_value id watts self.old.listed }) }

@@ -13,7 +13,7 @@ use Rattle.grid_level.specs.declared.Placed.{Placed}
 use Rattle.grid_level.specs.VoltageLevel.{VoltageLevel}
 use Rattle.grid_level.specs.Passing.{is_branch_end}
 use Rattle.grid_level.specs.Sound.{level_passes}
-use Rattle.grid_level.proofs.Editing as on_level
+use Rattle.grid_level.proofs.LevelEdits as on_level
 use Rattle.grid_structure.specs.Network.{Network, Substation}
 use Rattle.grid_structure.specs.Sites.{levels, level_named, substation_named, all_ids, taken, branch_ends, home_of, rated}
 use Rattle.grid_structure.specs.Editing.{apply, substation_with_levels, with_levels, with_level, with_substation, with_branch, in_home, place_end, place_ends, refuse_home}

@@ -12,9 +12,9 @@ use Rattle.grid_level.specs.VoltageLevel.{VoltageLevel}
 use Rattle.grid_level.specs.Passing.{is_branch_end, is_rising, stands_at, placed_at, nodes, named, rising, with_node}
 use Rattle.grid_level.specs.LevelEdits.{level_with_terminal, terminal_fits, node_of, refuse_taken, with_placed, max_node, max_nodes}
 use Rattle.grid_level.specs.Sound.{level_passes}
-use Rattle.grid_level.proofs.Editing as on_level
-use Rattle.grid_level.proofs.Keeping.{switch_nodes, internal_nodes, placed_nodes}
-use Rattle.grid_level.proofs.Placing.{rising_placed}
+use Rattle.grid_level.proofs.LevelEdits as on_level
+use Rattle.grid_level.proofs.EditUses.{switch_nodes, internal_nodes, placed_nodes}
+use Rattle.grid_level.proofs.PlacedTerminals.{rising_placed}
 use Rattle.grid_level.proofs.Terminals.{none_above}
 use Rattle.grid_structure.specs.Soundness.{same_side, same_int}
 use Rattle.grid_structure.proofs.Sides.{Side, has, has-append, side_of, sides_at, sides_of, same_side_is, is_same_side}

@@ -16,7 +16,7 @@ use Rattle.grid_level.specs.VoltageLevel.{VoltageLevel}
 use Rattle.grid_level.specs.Passing.{is_busbar, is_branch_end}
 use Rattle.grid_level.specs.Sound.{side_passes, stand_passes, level_passes}
 use Rattle.grid_level.specs.Kept.{IsWithin}
-use Rattle.grid_level.proofs.Editing.{all_parts, all_filter, passes_of, fewer_placed_within}
+use Rattle.grid_level.proofs.LevelEdits.{all_parts, all_filter, passes_of, fewer_placed_within}
 use Rattle.grid_structure.specs.Network.{Network, Substation}
 use Rattle.grid_structure.specs.Sites.{levels, switches, all_ids}
 use Rattle.grid_structure.specs.Editing.{max_levels, max_switches}

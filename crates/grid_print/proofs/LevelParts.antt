@@ -15,7 +15,7 @@ use Rattle.grid_level.specs.VoltageLevel.{VoltageLevel}
 use Rattle.grid_level.specs.Passing.{is_branch_end}
 use Rattle.grid_level.specs.LevelEdits.{level_with_terminal}
 use Rattle.grid_level.specs.Kept.{IsWithin}
-use Rattle.grid_level.proofs.Editing.{Passes}
+use Rattle.grid_level.proofs.LevelEdits.{Passes}
 use Rattle.grid_structure.specs.Network.{Network, Substation}
 use Rattle.grid_structure.specs.Sites.{levels, switches, all_ids}
 use Rattle.grid_structure.specs.Editing.{apply, with_single, stand_fault, max_levels, max_switches}

@@ -13,9 +13,9 @@ use Rattle.grid_level.specs.Passing.{Edge, switch_edge, internal_edge, edges, en
 use Rattle.grid_level.specs.LevelEdits.{max_node, max_nodes, max_edges, node_of, edge_fits, refuse_taken, terminal_fits, with_placed, level_with_switch, level_with_internal, level_with_terminal}
 use Rattle.grid_level.specs.Sound.{ends_differ}
 use Rattle.grid_level.specs.Kept.{IsWithin}
-use Rattle.grid_level.proofs.Keeping.{switch_nodes, internal_nodes, placed_nodes, named_is, length-edges, grown_nodes}
-use Rattle.grid_level.proofs.Editing.{all_parts, with_switch, with_internal, named_switch, named_internal, named_is_left, with_switches, with_internals, switch_cut_within, cut_within, fewer_placed_within}
-use Rattle.grid_level.proofs.Placing.{rising_placed}
+use Rattle.grid_level.proofs.EditUses.{switch_nodes, internal_nodes, placed_nodes, named_is, length-edges, grown_nodes}
+use Rattle.grid_level.proofs.LevelEdits.{all_parts, with_switch, with_internal, named_switch, named_internal, named_is_left, with_switches, with_internals, switch_cut_within, cut_within, fewer_placed_within}
+use Rattle.grid_level.proofs.PlacedTerminals.{rising_placed}
 
 -- ---- an edge
 

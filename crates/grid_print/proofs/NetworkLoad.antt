@@ -9,7 +9,7 @@ use Rattle.grid_ids.specs.Name.{ids_differ}
 use Rattle.grid_level.specs.VoltageLevel.{VoltageLevel}
 use Rattle.grid_level.specs.Passing.{is_branch_end}
 use Rattle.grid_level.specs.Sound.{level_passes}
-use Rattle.grid_level.proofs.Editing as on_level
+use Rattle.grid_level.proofs.LevelEdits as on_level
 use Rattle.grid_structure.specs.Network.{Network, Substation}
 use Rattle.grid_structure.specs.Sites.{levels, branches, switches, all_ids, taken, home_of}
 use Rattle.grid_structure.specs.Editing.{apply, max_levels, max_switches}

@@ -12,7 +12,7 @@ use Rattle.grid_level.specs.declared.Placed.{Placed}
 use Rattle.grid_level.specs.VoltageLevel.{VoltageLevel}
 use Rattle.grid_level.specs.Passing.{is_branch_end}
 use Rattle.grid_level.specs.Sound.{level_passes}
-use Rattle.grid_level.proofs.Editing as on_level
+use Rattle.grid_level.proofs.LevelEdits as on_level
 use Rattle.grid_structure.specs.Network.{Network, Substation}
 use Rattle.grid_structure.specs.Sites.{levels, branches, all_ids, level_ids, branch_ids, branch_ends, home_of, rated}
 use Rattle.grid_structure.specs.Editing.{apply, with_substation, with_branch, in_home, refuse_home}

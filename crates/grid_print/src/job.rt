@@ -110,8 +110,8 @@ fn line(alloc: Global, value: &Value) -> Result<Vec<u8>, Memory>
 }
 
 /// The text of a job: one line of JSON, with no space, members by byte order of their names, and a newline. It is of
-/// the least format that has the words of the job. It is read back as the same value. Memory comes only for want of
-/// memory.
+/// the least format that has the words of the job. It is read back as the same value. Memory comes only where memory
+/// runs out.
 #[tactic(auto, unfolding(crate::specs::Job::job_text), using(crate::proofs::Wholes::job_has_no_float, crate::proofs::Wholes::job_is_shallow))]
 pub fn print_job(alloc: Global, job: &Job) -> Result<Vec<u8>, Memory>
     ensures text { IfOk result (λ bytes. bytes.items ≡ job_text job.now) }
@@ -129,7 +129,7 @@ pub fn print_job(alloc: Global, job: &Job) -> Result<Vec<u8>, Memory>
 }
 
 /// The text of a job of this network alone, with no listeners, no workers and no order. Reading it gives that job: its
-/// network is equal to this one. Memory comes only for want of memory.
+/// network is equal to this one. Memory comes only where memory runs out.
 #[tactic(auto, unfolding(crate::specs::Job::network_text), using(crate::proofs::Wholes::job_has_no_float, crate::proofs::Wholes::job_is_shallow, crate::proofs::NetworkDrafts::printed_is_back))]
 pub fn print_network(alloc: Global, network: &Structure) -> Result<Vec<u8>, Memory>
     ensures text { IfOk result (λ bytes. bytes.items ≡ network_text network.now) }

@@ -17,7 +17,7 @@ use Rattle.grid_level.specs.declared.Stand.TheVariants.{Busbar, Feeder, BranchEn
 use Rattle.grid_level.specs.VoltageLevel.{VoltageLevel}
 use Rattle.grid_level.specs.LevelEdits.{Unfit, node_range, too_many_nodes, max_node, max_nodes, node_of, edge_fits, terminal_fits, refuse_taken, with_placed, level_with_switch, level_with_internal, level_with_terminal}
 use Rattle.grid_level.specs.Passing.{nodes, placed_at, with_node}
-use Rattle.grid_level.proofs.Editing.{went, fitting}
+use Rattle.grid_level.proofs.LevelEdits.{went, fitting}
 use Rattle.grid_structure.specs.declared.NamedBranch.{NamedBranch}
 use Rattle.grid_structure.specs.declared.Branch.{Branch}
 use Rattle.grid_structure.specs.declared.Branch.TheVariants.{Line, TwoWindings, ThreeWindings}

@@ -20,7 +20,7 @@ impl Shown for Terminal {
     }
 }
 
-/// Puts the name of a bus last: its level's id, an underscore and its least node. Where memory is wanting, the text is
+/// Puts the name of a bus last: its level's id, an underscore and its least node. Where memory runs out, the text is
 /// empty.
 pub fn put_bus_name(out: &mut Text, level: &Id, least: u16) -> Result<(), Memory>
     ensures ok { OnOk result (out.new ≡ out.old ++ bus_name level.now least) }
@@ -31,7 +31,7 @@ pub fn put_bus_name(out: &mut Text, level: &Id, least: u16) -> Result<(), Memory
     out.put_unsigned(u64::from(least))
 }
 
-/// Puts each terminal behind a space, or a dash where there is none. Where memory is wanting, the text is empty.
+/// Puts each terminal behind a space, or a dash where there is none. Where memory runs out, the text is empty.
 pub fn put_terminals(out: &mut Text, terminals: &[Terminal]) -> Result<(), Memory>
     ensures ok { OnOk result (out.new ≡ out.old ++ terminals_text terminals.now) }
     ensures err { OnErr result (out.new ≡ []) }
@@ -43,7 +43,7 @@ pub fn put_terminals(out: &mut Text, terminals: &[Terminal]) -> Result<(), Memor
     }
 }
 
-/// Puts the load and the generation of a bus, in W, and ends the line. Where memory is wanting, the text is empty.
+/// Puts the load and the generation of a bus, in W, and ends the line. Where memory runs out, the text is empty.
 pub fn put_flows(out: &mut Text, load: &i128, generation: &i128) -> Result<(), Memory>
     ensures ok { OnOk result (out.new ≡ out.old ++ flows_text load.now generation.now) }
     ensures err { OnErr result (out.new ≡ []) }

@@ -90,7 +90,7 @@ fn put_clone(out: &mut Text, from: &Id, to: &Id, overwrite: bool) -> Result<(), 
     }
 }
 
-/// Puts a command by its words. Where memory is wanting, the text is empty.
+/// Puts a command by its words. Where memory runs out, the text is empty.
 #[tactic(auto, unfolding(crate::specs::Commands::command_text))]
 pub fn put_command(out: &mut Text, request: &Request) -> Result<(), Memory>
     ensures ok { OnOk result (out.new ≡ out.old ++ command_text request.now) }

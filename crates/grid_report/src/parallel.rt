@@ -82,7 +82,7 @@ fn portion_of<'a>(
 
 /// Writes the report of an outcome as `write_report` does, where several threads make its text, a portion of which is
 /// in memory at a time. No lock is taken, and the call always returns where the sink does. It stops only where the
-/// sink's count of faults rose, which is as before after every other answer; after that, or want of memory, a front of
+/// sink's count of faults rose, which is as before after every other answer; after that, or out of memory, a front of
 /// the text was written.
 pub fn write_report_on_threads<R: Threads + Sync, K: Sink>(
     rt: &R,

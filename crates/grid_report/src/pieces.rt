@@ -30,7 +30,7 @@ impl Model for Pieces {
 pub enum ReportFault {
     /// The sink failed.
     Stopped,
-    /// Memory is wanting.
+    /// Out of memory.
     Memory,
 }
 
@@ -56,7 +56,7 @@ impl Pieces {
     }
 
     /// Puts bytes behind those that wait, and hands each whole piece to the sink. None waits where the sink stopped;
-    /// after want of memory what was written and what waits is a front of what was to be.
+    /// where memory runs out what was written and what waits is a front of what was to be.
     pub fn put<K: Sink>(&mut self, sink: &mut K, bytes: &[u8]) -> Result<(), ReportFault>
         ensures ok { OnOk result (Appends (append_known (K.written sink.old) self.old)
             (append_known (K.written sink.new) self.new) bytes.now) }

@@ -94,7 +94,7 @@ fn put_workers(out: &mut Text, journal: &[Entry]) -> Result<(), Memory>
     Ok(())
 }
 
-/// Puts the line with the worker of each step, in order. Where memory is wanting, the text is empty.
+/// Puts the line with the worker of each step, in order. Where memory runs out, the text is empty.
 #[tactic(auto, unfolding(crate::specs::Outcomes::order_line))]
 pub fn put_order(out: &mut Text, journal: &[Entry]) -> Result<(), Memory>
     ensures ok { OnOk result (out.new ≡ out.old ++ order_line journal.now) }
@@ -105,7 +105,7 @@ pub fn put_order(out: &mut Text, journal: &[Entry]) -> Result<(), Memory>
     out.put("\n")
 }
 
-/// Puts the line of a worker's number. Where memory is wanting, the text is empty.
+/// Puts the line of a worker's number. Where memory runs out, the text is empty.
 #[tactic(auto, unfolding(crate::specs::Outcomes::worker_line))]
 pub fn put_worker(out: &mut Text, worker: u32) -> Result<(), Memory>
     ensures ok { OnOk result (out.new ≡ out.old ++ worker_line worker) }
@@ -131,7 +131,7 @@ fn put_step(out: &mut Text, number: u64, entry: &Entry) -> Result<(), Memory>
     put_details(out, &entry.request, &entry.reply)
 }
 
-/// Puts the line of a variant's name. Where memory is wanting, the text is empty.
+/// Puts the line of a variant's name. Where memory runs out, the text is empty.
 #[tactic(auto, unfolding(crate::specs::Outcomes::variant_line))]
 pub fn put_variant(out: &mut Text, name: &Id) -> Result<(), Memory>
     ensures ok { OnOk result (out.new ≡ out.old ++ variant_line name.now) }

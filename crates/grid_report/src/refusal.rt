@@ -130,7 +130,7 @@ fn put_fault(out: &mut Text, fault: &EditFault) -> Result<(), Memory>
     }
 }
 
-/// Puts the reason of a refusal: its words, and the values that it names. Where memory is wanting, the text is empty.
+/// Puts the reason of a refusal: its words, and the values that it names. Where memory runs out, the text is empty.
 #[tactic(auto, unfolding(crate::specs::Refusals::reason_text))]
 pub fn put_reason(out: &mut Text, refusal: &Refusal) -> Result<(), Memory>
     ensures ok { OnOk result (out.new ≡ out.old ++ reason_text refusal.now) }
@@ -152,7 +152,7 @@ pub fn put_reason(out: &mut Text, refusal: &Refusal) -> Result<(), Memory>
 
 // ---- refusals
 
-/// Puts a refusal: its number and its reason. Where memory is wanting, the text is empty.
+/// Puts a refusal: its number and its reason. Where memory runs out, the text is empty.
 #[tactic(auto, unfolding(crate::specs::Refusals::refusal_text))]
 pub fn put_refusal(out: &mut Text, refusal: &Refusal) -> Result<(), Memory>
     ensures ok { OnOk result (out.new ≡ out.old ++ refusal_text refusal.now) }

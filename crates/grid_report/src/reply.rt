@@ -90,7 +90,7 @@ fn put_totals(out: &mut Text, load: &i128, generation: &i128) -> Result<(), Memo
     out.put_signed(generation)
 }
 
-/// Puts the answer on a command's line. Where memory is wanting, the text is empty.
+/// Puts the answer on a command's line. Where memory runs out, the text is empty.
 #[tactic(auto, unfolding(crate::specs::Replies::answer_text))]
 pub fn put_answer(out: &mut Text, reply: &Reply) -> Result<(), Memory>
     ensures ok { OnOk result (out.new ≡ out.old ++ answer_text reply.now) }

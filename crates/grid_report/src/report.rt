@@ -61,7 +61,7 @@ fn put_blocks<B: Blocks + Drop, K: Sink>(
 
 /// Writes each block, in pieces of `PIECE` bytes, the last one shorter. No more than one block's text is held beside a
 /// piece. A piece that is taken in part is offered again from its rest. It stops only where the sink's count of faults
-/// rose, which is as before after every other answer; after that, or want of memory, a front of the text was written.
+/// rose, which is as before after every other answer; after that, or out of memory, a front of the text was written.
 pub fn write_text<B: Blocks + Drop, K: Sink>(
     alloc: Global,
     blocks: B,
@@ -140,7 +140,7 @@ fn put_report<K: Sink>(
 
 /// Writes the report of an outcome, in pieces of `PIECE` bytes, the last one shorter. Beside the outcome it holds a
 /// piece, one block's text and, where there are several variants, the texts of one variant's levels. It stops only
-/// where the sink's count of faults rose, which is as before after every other answer; after that, or want of memory, a
+/// where the sink's count of faults rose, which is as before after every other answer; after that, or out of memory, a
 /// front of the text was written.
 pub fn write_report<K: Sink>(
     alloc: Global,

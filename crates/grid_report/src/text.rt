@@ -8,7 +8,7 @@ use itoa::{Buffer, write_digits};
 use std::alloc::Global;
 use std::marker::Model;
 
-/// Text that grows at its end, seen as its bytes. A call that takes memory leaves no text where memory is wanting.
+/// Text that grows at its end, seen as its bytes. A call that takes memory leaves no text where memory runs out.
 #[derive(Drop)]
 pub struct Text {
     bytes: Vec<u8>,
@@ -150,7 +150,7 @@ pub trait Shown {
     // The bytes that are written.
     ghost shown: { Self → Seq ℕ };
 
-    /// Puts what is written of the value last. Where memory is wanting, no text is left.
+    /// Puts what is written of the value last. Where memory runs out, no text is left.
     fn show(&self, out: &mut Text) -> Result<(), Memory>
         ensures ok { OnOk result (out.new ≡ out.old ++ shown self.now) }
         ensures err { OnErr result (out.new ≡ []) };
@@ -188,7 +188,7 @@ impl Shown for Id {
     }
 }
 
-/// Puts each item behind a space. Where memory is wanting, the text is empty.
+/// Puts each item behind a space. Where memory runs out, the text is empty.
 pub fn put_spaced<T: Shown>(out: &mut Text, items: &[T]) -> Result<(), Memory>
     ensures ok { OnOk result (out.new ≡ out.old ++ flat_map (λ x. 32 ∷ T.shown x) items.now) }
     ensures err { OnErr result (out.new ≡ []) }
@@ -200,7 +200,7 @@ pub fn put_spaced<T: Shown>(out: &mut Text, items: &[T]) -> Result<(), Memory>
     Ok(())
 }
 
-/// Puts each number behind a separator. Where memory is wanting, the text is empty.
+/// Puts each number behind a separator. Where memory runs out, the text is empty.
 pub fn put_numbers(out: &mut Text, separator: u8, numbers: &[u16]) -> Result<(), Memory>
     ensures ok { OnOk result (out.new
         ≡ out.old ++ flat_map (λ n. separator ∷ decimal n) numbers.now) }
@@ -227,7 +227,7 @@ fn put_few(out: &mut Text, separator: u8, few: &[u16]) -> Result<(), Memory>
     out.put_bytes(&bytes[start..])
 }
 
-/// Puts words and a value behind them. Where memory is wanting, the text is empty.
+/// Puts words and a value behind them. Where memory runs out, the text is empty.
 pub fn put_named<T: Shown>(out: &mut Text, words: &str, value: &T) -> Result<(), Memory>
     ensures ok { OnOk result (out.new ≡ out.old ++ (words.now ++ T.shown value.now)) }
     ensures err { OnErr result (out.new ≡ []) }

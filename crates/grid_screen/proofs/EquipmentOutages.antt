@@ -15,7 +15,7 @@ use Rattle.grid_level.specs.VoltageLevel.{VoltageLevel}
 use Rattle.grid_level.specs.LevelEdits.{max_node}
 use Rattle.grid_level.specs.Passing.{nodes, positioned, placed_at, stands_at, is_rising, named, edges, ends, both}
 use Rattle.grid_level.specs.Sound.{level_passes}
-use Rattle.grid_level.proofs.Editing as on_level
+use Rattle.grid_level.proofs.LevelEdits as on_level
 use Rattle.grid_powers.specs.Listed.{Listed}
 use Rattle.grid_states.specs.Rows.{row_at}
 use Rattle.grid_structure.specs.declared.NamedBranch.{NamedBranch}
@@ -29,7 +29,7 @@ use Rattle.grid_islands.specs.Islands.{NetworkBus, holds, bus_at, pair_between, 
 use Rattle.grid_islands.specs.Numbering.{number_of_node, node_within}
 use Rattle.grid_islands.proofs.LevelNumbers.{level_at, level_within}
 use Rattle.grid_unions.specs.declared.summed.Sums.{Sums}
-use Rattle.grid_outages.specs.declared.screening.Spot.{Spot}
+use Rattle.grid_outages.specs.declared.screening.EndBus.{EndBus}
 use Rattle.grid_outages.specs.declared.screening.Link.{Link}
 use Rattle.grid_outages.specs.Changes.{Changes, change_at, buses_over, level_sums, level_places, sums_before, spot_at, spot_of, link_between, links_among, branch_links, network_links, level_without, branches_without, place_among, place_in, number_at, link_pairs}
 use Rattle.grid_outages.specs.Steps.{Stands}
@@ -131,8 +131,8 @@ node_small l j p h at =
 -- ---- links
 
 -- what a test of spots makes of two ends is what it makes of their link
-module _ (now : Spot → Option ℕ) where
-  abbrev pub now_of : Option Spot → Option ℕ
+module _ (now : EndBus → Option ℕ) where
+  abbrev pub now_of : Option EndBus → Option ℕ
   now_of o = option_and_then now o
 
   abbrev pub pairs_of_link : Link → List (ℕ × ℕ)
@@ -143,17 +143,17 @@ module _ (now : Spot → Option ℕ) where
   nothing_between None = refl
   nothing_between (Some x) = refl
 
-  one_link : (a b : Option Spot) → flat_map pairs_of_link (link_between a b) ≡ pair_between (now_of a) (now_of b)
+  one_link : (a b : Option EndBus) → flat_map pairs_of_link (link_between a b) ≡ pair_between (now_of a) (now_of b)
   unfolding link_between pair_between
   one_link None b = refl
   one_link (Some x) None = sym (nothing_between (now x))
   one_link (Some x) (Some y) = append-nil (pair_between (now x) (now y))
 
-  links_with : (a : Option Spot) (os : List (Option Spot)) → flat_map pairs_of_link (flat_map (link_between a) os) ≡ flat_map (pair_between (now_of a)) (map now_of os)
+  links_with : (a : Option EndBus) (os : List (Option EndBus)) → flat_map pairs_of_link (flat_map (link_between a) os) ≡ flat_map (pair_between (now_of a)) (map now_of os)
   links_with a [] = refl
   links_with a (b ∷ os) = flat_map-append pairs_of_link (link_between a b) (flat_map (link_between a) os) ∙ rw (one_link a b, links_with a os) refl
 
-  pub among_links : (os : List (Option Spot)) → flat_map pairs_of_link (links_among os) ≡ pairs_among (map now_of os)
+  pub among_links : (os : List (Option EndBus)) → flat_map pairs_of_link (links_among os) ≡ pairs_among (map now_of os)
   unfolding links_among pairs_among
   among_links [] = refl
   among_links (a ∷ os) = flat_map-append pairs_of_link (flat_map (link_between a) os) (links_among os) ∙ rw (links_with a os, among_links os) refl
@@ -210,7 +210,7 @@ module _ (net new : Network) (sound : IsSound net) (removed : List (List ℕ)) (
   abbrev pub spots : List (List (Option ℕ))
   spots = level_places (levels net) flags
 
-  abbrev now : Spot → Option ℕ
+  abbrev now : EndBus → Option ℕ
   now spot = number_at firsts changes spot
 
   found_now : (id : List ℕ) → find_level new id ≡ find_level net id
@@ -232,7 +232,7 @@ module _ (net new : Network) (sound : IsSound net) (removed : List (List ℕ)) (
 
   -- one end
   module _ (id : List ℕ) (end : End) (e : Ended net id end) where
-    abbrev spot : Spot
+    abbrev spot : EndBus
     spot = spot_at e.place end.node (number_of_node (nodes e.level) (get_or spots e.place []) end.node)
 
     spot_is : spot_of net spots end ≡ Some spot

@@ -6,15 +6,15 @@ use Rattle.std.proofs.lemmas.Bool.{eqb-true, eq-eqb}
 use Rattle.grid_graph.specs.Joined.{within, joined}
 use Rattle.grid_graph.specs.Graph.{labels_of}
 use Rattle.grid_graph.proofs.Reach.{In, some_member, within_step, within_here, within_le}
-use Rattle.grid_graph.proofs.Renamed.{EndsIn}
+use Rattle.grid_graph.proofs.RenamedNodes.{EndsIn}
 use Rattle.grid_level.specs.declared.Switch.{Switch}
 use Rattle.grid_level.specs.VoltageLevel.{VoltageLevel}
 use Rattle.grid_level.specs.Kept.{KeepsLimits, among}
 use Rattle.grid_level.specs.Passing.{switch_edge, internal_edge, ends, nodes, named, switch_ends, with_opened, positioned}
 use Rattle.grid_level.specs.Sound.{level_passes}
 use Rattle.grid_level.specs.Uses.{tally}
-use Rattle.grid_level.proofs.Editing as on_level
-use Rattle.grid_level.proofs.Reading.{keeps_limits}
+use Rattle.grid_level.proofs.LevelEdits as on_level
+use Rattle.grid_level.proofs.LevelReaders.{keeps_limits}
 use Rattle.grid_groups.specs.Labels.{graph_among, passing_where, labels_where, label_of, index_in}
 use Rattle.grid_groups.proofs.Bridge as bridge
 use Rattle.grid_groups.proofs.Indices.{among_In, In_among, index_below, at_index}

@@ -76,7 +76,7 @@ pub(crate) fn find_alike(alloc: Global, list: &[Contingency]) -> Result<Alike, M
     Ok(Alike { firsts, groups })
 }
 
-// A copy of the finding of a group. It is want of memory, too, where it has none.
+// A copy of the finding of a group. It is out of memory, too, where it has none.
 fn copy_at(found: &[Finding], group: usize) -> Result<Finding, Memory>
     ensures { IfOk result (λ finding. slice_get found.now group ≡ Some finding) }
 {
@@ -86,7 +86,7 @@ fn copy_at(found: &[Finding], group: usize) -> Result<Finding, Memory>
     }
 }
 
-/// A copy of its group's finding for each contingency. It is want of memory, too, where a group has none.
+/// A copy of its group's finding for each contingency. It is out of memory, too, where a group has none.
 pub(crate) fn spread(alloc: Global, found: &[Finding], groups: &[usize]) -> Result<Findings, Memory>
     ensures { IfOk result (λ findings. map (λ finding. Some finding) findings
         ≡ map (slice_get found.now) groups.now) }

@@ -77,7 +77,7 @@ pub(crate) fn figures_without(
     figures_after(alloc, kept, outage)
 }
 
-// A sum before less one after. It is want of memory, too, where that would not fit its type.
+// A sum before less one after. It is out of memory, too, where that would not fit its type.
 fn less(before: i128, after: i128) -> Result<i128, Memory>
     ensures { IfOk result (λ lost. lost ≡ before +ℤ neg_ℤ after) }
 {

@@ -131,7 +131,7 @@ fn put_found(out: &mut Text, telling: &Telling<'_>, finding: &Finding) -> Result
 }
 
 /// Puts the line of kind `contingency` of one at a place among all, from 0, by its name with what is found of it, as
-/// `put_finding` puts its text. After want of memory the text is empty.
+/// `put_finding` puts its text. Where memory runs out the text is empty.
 pub fn put_finding_line(
     out: &mut Text,
     telling: &Telling<'_>,

@@ -315,7 +315,7 @@ fn hit_all<'a>(
     Ok(())
 }
 
-// Goes on until no branch end that was hit waits. It is want of memory, too, where more of them came than a number can
+// Goes on until no branch end that was hit waits. It is out of memory, too, where more of them came than a number can
 // count.
 fn go_on<'a>(alloc: Global, scene: &Scene<'a>, walk: &mut Walk<'a>) -> Result<(), Memory>
     requires { IsOpen scene.now walk.old }

@@ -183,7 +183,7 @@ fn put_found(out: &mut Text, telling: &Telling<'_>, finding: &Finding) -> Result
 /// Puts the line of a contingency with what is found of it: its name, then how many buses and components there are
 /// after the outage, how many buses the main component has, and the load and the generation that it lost, in W; or the
 /// id that is unknown, or of no breaker. In the second format ids stand as texts of JSON, what became unconnected comes
-/// behind what was lost, and where there is a fault, how many breakers tripped, with their ids. After want of memory
+/// behind what was lost, and where there is a fault, how many breakers tripped, with their ids. Where memory runs out
 /// the text is empty. The line is this project's own.
 #[tactic(auto, unfolding(crate::specs::Texts::screen_line))]
 pub fn put_finding(

@@ -11,7 +11,7 @@ use Rattle.grid_lemmas.proofs.Bools.{same_test}
 use Rattle.grid_graph.specs.Joined.{neighbours, joined, least_nodes, group_of, is_least}
 use Rattle.grid_graph.proofs.Reach.{In, any_of, joined_refl, joined_trans, joined_symm}
 use Rattle.grid_graph.proofs.Least.{In_filter, filter_In}
-use Rattle.grid_graph.proofs.Leading.{leads_alone, led_by}
+use Rattle.grid_graph.proofs.GroupLeaders.{leads_alone, led_by}
 use Rattle.grid_level.specs.declared.Placed.{Placed}
 use Rattle.grid_level.specs.declared.Stand.{Stand}
 use Rattle.grid_level.specs.VoltageLevel.{VoltageLevel}

@@ -10,7 +10,7 @@ use Rattle.grid_level.specs.declared.Placed.{Placed}
 use Rattle.grid_level.specs.declared.Switch.{Switch}
 use Rattle.grid_level.specs.VoltageLevel.{VoltageLevel}
 use Rattle.grid_level.specs.Passing.{bus, switch_edge, internal_edge, edges, ends, both, named, nodes, switch_passes, passes_closed, passing, with_opened, positioned}
-use Rattle.grid_level.proofs.Reading.{among_rising}
+use Rattle.grid_level.proofs.LevelReaders.{among_rising}
 use Rattle.grid_groups.proofs.Indices.{among_In, In_among}
 use Rattle.grid_groups.proofs.PassingEdges.{nodes-positioned}
 use Rattle.grid_outages.specs.Changes.{level_without}

@@ -12,7 +12,7 @@ use Rattle.grid_ids.specs.Refusing.{refuse_if, refuse_by, found_or}
 use Rattle.grid_ids.proofs.Alike.{same_is, same_itself}
 use Rattle.grid_kinds.specs.Records.{level_fault}
 use Rattle.grid_level.specs.VoltageLevel.{VoltageLevel}
-use Rattle.grid_level.proofs.Editing.{went, not_refused}
+use Rattle.grid_level.proofs.LevelEdits.{went, not_refused}
 use Rattle.grid_structure.specs.declared.Branch.{Branch}
 use Rattle.grid_structure.specs.declared.Edit.TheVariants as edits
 use Rattle.grid_structure.specs.declared.EditFault.TheVariants as faults

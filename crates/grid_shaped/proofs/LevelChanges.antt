@@ -13,8 +13,8 @@ use Rattle.grid_level.specs.declared.Stand.{Stand}
 use Rattle.grid_level.specs.declared.Stand.TheVariants.{Busbar, Feeder, BranchEnd}
 use Rattle.grid_level.specs.VoltageLevel.{VoltageLevel}
 use Rattle.grid_level.specs.LevelEdits.{Unfit, edge_fits, level_with_switch, level_with_internal, level_with_terminal}
-use Rattle.grid_level.proofs.Editing.{went, not_refused}
-use Rattle.grid_level.proofs.Placing.{placing}
+use Rattle.grid_level.proofs.LevelEdits.{went, not_refused}
+use Rattle.grid_level.proofs.PlacedTerminals.{placing}
 use Rattle.grid_structure.specs.declared.Edit.TheVariants as edits
 use Rattle.grid_structure.specs.declared.EditFault.TheVariants as faults
 use Rattle.grid_structure.specs.declared.End.{End}

@@ -19,8 +19,8 @@ use Rattle.grid_level.specs.declared.Switch.{Switch}
 use Rattle.grid_level.specs.VoltageLevel.{VoltageLevel}
 use Rattle.grid_level.specs.LevelEdits.{Unfit, edge_fits, level_with_switch, level_with_terminal, with_placed}
 use Rattle.grid_level.specs.Passing.{is_busbar, nodes}
-use Rattle.grid_level.proofs.Editing.{fitting, went}
-use Rattle.grid_level.proofs.Placing.{placed_in, placing}
+use Rattle.grid_level.proofs.LevelEdits.{fitting, went}
+use Rattle.grid_level.proofs.PlacedTerminals.{placed_in, placing}
 use Rattle.grid_structure.specs.Network.{Network}
 use Rattle.grid_structure.specs.Sites.{level_named}
 use Rattle.grid_structure.proofs.Places.{position_found}

@@ -6,7 +6,7 @@ use Rattle.std.proofs.lemmas.List.{append-nil, length-append}
 use Rattle.std.proofs.lemmas.List.Elements.{All-append, All-nil}
 use Rattle.grid_ids.specs.Name.{same_id}
 use Rattle.grid_level.specs.Passing.{is_busbar}
-use Rattle.grid_level.proofs.Editing.{all_join, went}
+use Rattle.grid_level.proofs.LevelEdits.{all_join, went}
 use Rattle.grid_structure.specs.declared.End.{End}
 use Rattle.grid_structure.specs.Network.{Network}
 use Rattle.grid_structure.specs.Editing.{place_end, place_ends}

@@ -8,8 +8,8 @@ pub fn load_is_shaped()
     ensures { LoadIsShaped }
 {}
 
-/// A level with configured buses that loads has its bus i at node i, and as its nodes the numbers below the count of its
-/// buses and terminals. So its next node is that count.
+/// A level with configured buses that loads has its bus i at node i, and as its nodes the numbers below the count of
+/// its buses and terminals. So its next node is that count.
 pub fn buses_are_counted()
     ensures { BusesAreCounted }
 {}

@@ -1,5 +1,5 @@
--- States that are lent to be changed in place. Once such a loan ends, the place has what was left there, and after want
--- of memory all is as before.
+-- States that are lent to be changed in place. Once such a loan ends, the place has what was left there, and where memory
+-- runs out all is as before.
 use Rattle.std.specs.Prelude.{ℕ, List, slice_set, Result}
 use Rattle.std.specs.Borrow.{LendsIfOk, MutBor, Fml}
 use Rattle.grid_states.specs.Rows.{Rows}

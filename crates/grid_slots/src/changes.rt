@@ -29,7 +29,7 @@ pub(crate) enum Change {
     },
 }
 
-// Changes these states, or after want of memory nothing.
+// Changes these states, or where memory runs out nothing.
 pub(crate) fn change_in(states: &mut States, change: Change) -> Result<(), Memory>
     requires { Fits change states.old }
     ensures ok { OnOk result (states.new ≡ after change states.old) }

@@ -69,7 +69,7 @@ impl Kept {
         &self.states[self.numbers[place]]
     }
 
-    // The states of the variant at a place, to be changed for it alone. It wants memory only where another has them
+    // The states of the variant at a place, to be changed for it alone. It takes memory only where another has them
     // too.
     pub(crate) fn get_mut(&mut self, place: usize) -> Result<&mut States, Memory>
         requires { place < length self.old }
@@ -113,7 +113,7 @@ impl Kept {
         release(&mut self.numbers, &mut self.states, former);
     }
 
-    // Changes every variant, or after want of memory none.
+    // Changes every variant, or where memory runs out none.
     pub(crate) fn change_all(&mut self, change: Change) -> Result<(), Memory>
         requires { All (Fits change) self.old }
         ensures ok { OnOk result (self.new ≡ map (after change) self.old) }

@@ -5,7 +5,7 @@ use Rattle.std.proofs.lemmas.List.{length-set, length_push, get_or-set_same, get
 use Rattle.std.proofs.lemmas.Bool.{cases_eq, cases_lt}
 use Rattle.std.proofs.lemmas.Result.{on_ok_weaker}
 use Rattle.grid_states.specs.Chunked.{joined, AreChunked, IsGrown}
-use Rattle.grid_states.proofs.Joined.{joined-grown}
+use Rattle.grid_states.proofs.ChunkJoins.{joined-grown}
 
 total_grown : {X : Type 0} (chunks after : List (List X)) (count : ℕ) (x : X) → length (joined chunks) ≡ count
     → joined after ≡ joined chunks ++ x ∷ [] → length (joined after) ≡ count + 1

@@ -1,5 +1,5 @@
 -- Items that are lent to be changed in place. Once such a loan ends, the list holds at the place what was left there, and
--- after want of memory it is as before.
+-- where memory runs out it is as before.
 use Rattle.std.specs.Prelude.{ℕ, List, slice_set, Result}
 use Rattle.std.specs.Borrow.{LendsIfOk, MutBor, Fml, RattleType}
 use Rattle.grid_states.specs.contracts.chunk.Chunk as chunk

@@ -14,10 +14,10 @@ use Rattle.grid_structure.specs.declared.EditFault.{EditFault}
 use Rattle.grid_structure.specs.declared.EditFault.TheVariants as faults
 use Rattle.grid_structure.specs.declared.ApplyFault.{ApplyFault}
 use Rattle.grid_structure.specs.declared.ApplyFault.TheVariants.{Refused, Memory}
-use Rattle.grid_structure.specs.declared.structure.Entry.{Entry}
+use Rattle.grid_structure.specs.declared.structure.IdOwner.{IdOwner}
 use Rattle.grid_structure.specs.declared.structure.Head.{Head}
-use Rattle.grid_structure.specs.declared.branches.Spot.{Spot}
-use Rattle.grid_structure.specs.declared.branches.Spot.TheVariants.{Nowhere, Elsewhere, At}
+use Rattle.grid_structure.specs.declared.branches.LevelFound.{LevelFound}
+use Rattle.grid_structure.specs.declared.branches.LevelFound.TheVariants.{Nowhere, Elsewhere, At}
 use Rattle.grid_structure.specs.declared.End.{End}
 use Rattle.grid_structure.specs.declared.branches.Landing.{Landing}
 use Rattle.grid_structure.specs.declared.branches.Landings.{Landings}
@@ -84,7 +84,7 @@ entry_no_switch places l = by l.third
     by None = refl
     by (Some d) = refl
 
-module _ {id : List ℕ} {heads : List Head} {ls : List VoltageLevel} {ts lines : List NamedBranch} {count : ℕ} {look : List ℕ → Option Entry} {places : List ℕ} (kept : IsKept id heads ls ts lines count look places) where
+module _ {id : List ℕ} {heads : List Head} {ls : List VoltageLevel} {ts lines : List NamedBranch} {count : ℕ} {look : List ℕ → Option IdOwner} {places : List ℕ} (kept : IsKept id heads ls ts lines count look places) where
   abbrev net : Network
   net = network_of id heads ls ts lines
 
@@ -163,7 +163,7 @@ module _ {id : List ℕ} {heads : List Head} {ls : List VoltageLevel} {ts lines 
   own_ends e shape l after j h =
       entered heads places look (home_of shape) e shape l ls after j.are h (λ s. (kept_flat kept).terminals e s ∙ ap (terminal_at places s) (finds_nothing kept e j.free))
 
-  flat : (e : List ℕ) (shape : Branch) (l : Landings) (after : List VoltageLevel) (more : List Head) (front back : List NamedBranch) (other : List ℕ → Option Entry) → Joins e shape l → landed e (landing_list l) ls ≡ Ok after
+  flat : (e : List ℕ) (shape : Branch) (l : Landings) (after : List VoltageLevel) (more : List Head) (front back : List NamedBranch) (other : List ℕ → Option IdOwner) → Joins e shape l → landed e (landing_list l) ls ≡ Ok after
       → heads_alike more heads → ts ++ lines ≡ front ++ back → ((q : List ℕ) → other q ≡ cond (bytes_eq e q) (Some (branch_entry l)) (look q))
       → IsFlat other places more after (front ++ record { id = e; shape = shape } ∷ back)
   flat e shape l after more front back other j h alike split is =
@@ -172,7 +172,7 @@ module _ {id : List ℕ} {heads : List Head} {ls : List VoltageLevel} {ts lines 
       flat_joined look other places heads more ls after front back (record { id = e; shape = shape }) (branch_entry l) alike (finds_nothing kept e j.free) is same
       (λ q s apart. others_all e (landing_list l) ls after q s h apart) (own_ends e shape l after j h) (entry_no_substation l) (entry_no_level places l) (entry_no_switch places l) f
 
-  pub line_kept : (e : List ℕ) (shape : Branch) (l : Landings) (after : List VoltageLevel) (last : ℕ) (other : List ℕ → Option Entry) → Joins e shape l → IsHome net (home_of shape) None → landed e (landing_list l) ls ≡ Ok after → last ≡ length lines
+  pub line_kept : (e : List ℕ) (shape : Branch) (l : Landings) (after : List VoltageLevel) (last : ℕ) (other : List ℕ → Option IdOwner) → Joins e shape l → IsHome net (home_of shape) None → landed e (landing_list l) ls ≡ Ok after → last ≡ length lines
       → length ts + length lines + 1 < 2 ^ 32 → ((q : List ℕ) → other q ≡ cond (bytes_eq e q) (Some (branch_entry l)) (look q))
       → IsKept id heads after ts (insert lines last (record { id = e; shape = shape })) count other places
   line_kept e shape l after last other j none h at room is =
@@ -195,7 +195,7 @@ module _ {id : List ℕ} {heads : List Head} {ls : List VoltageLevel} {ts lines 
         indexed = from_flat id heads after ts all few kept.transformer_count other places table;
       }
 
-  pub transformer_kept : (e : List ℕ) (shape : Branch) (l : Landings) (after : List VoltageLevel) (k : ℕ) (head : Head) (other : List ℕ → Option Entry) → Joins e shape l → IsHome net (home_of shape) (Some k) → slice_get heads k ≡ Some head
+  pub transformer_kept : (e : List ℕ) (shape : Branch) (l : Landings) (after : List VoltageLevel) (k : ℕ) (head : Head) (other : List ℕ → Option IdOwner) → Joins e shape l → IsHome net (home_of shape) (Some k) → slice_get heads k ≡ Some head
       → landed e (landing_list l) ls ≡ Ok after → length ts + length lines + 1 < 2 ^ 32 → ((q : List ℕ) → other q ≡ cond (bytes_eq e q) (Some (branch_entry l)) (look q))
       → IsKept id (slice_set heads k (wound head)) after (insert ts (transformer_total (take (k + 1) heads)) (record { id = e; shape = shape })) lines count other places
   transformer_kept e shape l after k head other j home got h room is =
@@ -246,7 +246,7 @@ module _ {id : List ℕ} {heads : List Head} {ls : List VoltageLevel} {ts lines 
       over (p ∷ ps) zero h l = omega (arith, ltb-true p (length ls) (and_parts (nat_lt p (length ls)) (list_all (λ place. nat_lt place (length ls)) ps) h).0, kept.level_count)
       over (p ∷ ps) (suc k) h l = over ps k (and_parts (nat_lt p (length ls)) (list_all (λ place. nat_lt place (length ls)) ps) h).1 (omega arith)
 
-  spot_inside : (home : Option (List ℕ)) (q : List ℕ) (spot : Spot) → IsSpot heads places home (look q) spot → IsInside (length ls) spot
+  spot_inside : (home : Option (List ℕ)) (q : List ℕ) (spot : LevelFound) → IsSpot heads places home (look q) spot → IsInside (length ls) spot
   spot_inside home q Nowhere h = tt
   spot_inside home q Elsewhere h = tt
   spot_inside home q (At keyed) (found, key, home_is) = (position_found (λ (l : VoltageLevel). same_id q l.id) ls keyed.place (finds q ∙ found)).0

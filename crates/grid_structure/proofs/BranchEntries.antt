@@ -12,10 +12,10 @@ use Rattle.grid_structure.specs.declared.NamedBranch.{NamedBranch}
 use Rattle.grid_structure.specs.declared.Branch.{Branch}
 use Rattle.grid_structure.specs.declared.Branch.TheVariants.{Line, TwoWindings, ThreeWindings}
 use Rattle.grid_structure.specs.declared.End.{End}
-use Rattle.grid_structure.specs.declared.structure.Entry.{Entry}
+use Rattle.grid_structure.specs.declared.structure.IdOwner.{IdOwner}
 use Rattle.grid_structure.specs.declared.structure.Head.{Head}
-use Rattle.grid_structure.specs.declared.branches.Spot.{Spot}
-use Rattle.grid_structure.specs.declared.branches.Spot.TheVariants.{Nowhere, Elsewhere, At}
+use Rattle.grid_structure.specs.declared.branches.LevelFound.{LevelFound}
+use Rattle.grid_structure.specs.declared.branches.LevelFound.TheVariants.{Nowhere, Elsewhere, At}
 use Rattle.grid_structure.specs.declared.branches.Landing.{Landing}
 use Rattle.grid_structure.specs.declared.branches.Landings.{Landings}
 use Rattle.grid_structure.specs.Sites.{branch_ends}
@@ -27,7 +27,7 @@ use Rattle.grid_structure.proofs.Singles.{eq_swap}
 use Rattle.grid_structure.proofs.LevelInsertions.{position_heads, heads_alike}
 use Rattle.grid_structure.proofs.EndLandings.{Lands, lands, SameButEnds, same_length, same_position, same_switches, same_singles, end_step}
 use Rattle.grid_structure.proofs.Undone.{Both, both}
-use Rattle.grid_level.proofs.Editing as on_level
+use Rattle.grid_level.proofs.LevelEdits as on_level
 use Rattle.std.proofs.lemmas.Option.{slice_get_within}
 
 -- ---- the branch in the list of branches
@@ -74,7 +74,7 @@ record Keyed_end (heads : List Head) (places : List ℕ) (e : List ℕ) (l : Lan
   pub w : Lands e l.spot l.side ls after
   pub key : slice_get places (key_of l.spot) ≡ Some w.keyed.place
 
-spot_key : (heads : List Head) (places : List ℕ) (home : Option (List ℕ)) (entry : Option Entry) (spot : Spot) (side : ℕ) (e : List ℕ) (ls after : List VoltageLevel) (w : Lands e spot side ls after) → IsSpot heads places home entry spot
+spot_key : (heads : List Head) (places : List ℕ) (home : Option (List ℕ)) (entry : Option IdOwner) (spot : LevelFound) (side : ℕ) (e : List ℕ) (ls after : List VoltageLevel) (w : Lands e spot side ls after) → IsSpot heads places home entry spot
     → slice_get places (key_of spot) ≡ Some w.keyed.place
 spot_key heads places home entry Nowhere side e ls after w h = let none = w.spot_is in cc none
 spot_key heads places home entry Elsewhere side e ls after w h = let none = w.spot_is in cc none
@@ -82,7 +82,7 @@ spot_key heads places home entry (At keyed) side e ls after w (found, key, insid
     let same : keyed ≡ w.keyed = (let s = w.spot_is in cc s) in
     key ∙ ap (λ z. Some z.place) same
 
-keyed_end : (heads : List Head) (places : List ℕ) (look : List ℕ → Option Entry) (home : Option (List ℕ)) (side : ℕ) (end : End) (l : Landing) (e : List ℕ) (ls after : List VoltageLevel) → IsLanding heads places look home side end l
+keyed_end : (heads : List Head) (places : List ℕ) (look : List ℕ → Option IdOwner) (home : Option (List ℕ)) (side : ℕ) (end : End) (l : Landing) (e : List ℕ) (ls after : List VoltageLevel) → IsLanding heads places look home side end l
     → landed_at e l.spot l.node l.side ls ≡ Ok after → Keyed_end heads places e l ls after
 keyed_end heads places look home side end l e ls after is h =
     let w = lands e l.spot l.node l.side ls after h in
@@ -106,7 +106,7 @@ three_sides s a b d = by (s == 1) (s == 2) (s == 3) refl refl refl
     by false false false q r p = rw (q, r, p, eq_swap s 1 false q, eq_swap s 2 false r, eq_swap s 3 false p) refl
 
 -- what the entry of the branch must tell
-pub record Entered (places : List ℕ) (e : List ℕ) (entry : Entry) (count : ℕ) (after : List VoltageLevel) : Type 0 where
+pub record Entered (places : List ℕ) (e : List ℕ) (entry : IdOwner) (count : ℕ) (after : List VoltageLevel) : Type 0 where
   pub terminals : (s : ℕ) → position (has_terminal e s) after ≡ terminal_at places s (Some entry)
   pub sides : sides_at (Some entry) ≡ Some count
   pub within : is_within (length places) (Some entry) ≡ true
@@ -117,7 +117,7 @@ record Pair (places : List ℕ) (e : List ℕ) (a b : Landing) (after : List Vol
   pub below1 : key_of a.spot < length places
   pub below2 : key_of b.spot < length places
 
-module _ (heads : List Head) (places : List ℕ) (look : List ℕ → Option Entry) (home : Option (List ℕ)) (e : List ℕ) where
+module _ (heads : List Head) (places : List ℕ) (look : List ℕ → Option IdOwner) (home : Option (List ℕ)) (e : List ℕ) where
   pair : (end1 end2 : End) (a b : Landing) (ls after : List VoltageLevel) → IsLanding heads places look home 1 end1 a → IsLanding heads places look home 2 end2 b → Both e a b ls after
       → ((s : ℕ) → position (has_terminal e s) ls ≡ None) → Pair places e a b after
   pair end1 end2 a b ls after is1 is2 k none =
@@ -182,7 +182,7 @@ module _ (heads : List Head) (places : List ℕ) (look : List ℕ → Option Ent
 
 -- ---- the table
 
-pub flat_joined : (look other : List ℕ → Option Entry) (places : List ℕ) (heads more : List Head) (ls after : List VoltageLevel) (front back : List NamedBranch) (b : NamedBranch) (entry : Entry)
+pub flat_joined : (look other : List ℕ → Option IdOwner) (places : List ℕ) (heads more : List Head) (ls after : List VoltageLevel) (front back : List NamedBranch) (b : NamedBranch) (entry : IdOwner)
     → heads_alike more heads → look b.id ≡ None → ((q : List ℕ) → other q ≡ cond (bytes_eq b.id q) (Some entry) (look q)) → SameButEnds after ls
     → ((q : List ℕ) (s : ℕ) → same_id b.id q ≡ false → position (has_terminal q s) after ≡ position (has_terminal q s) ls) → Entered places b.id entry (length (branch_ends b.shape)) after
     → substation_at (Some entry) ≡ None → level_at places (Some entry) ≡ None → switch_at places (Some entry) ≡ None

@@ -9,7 +9,7 @@ use Rattle.grid_structure.specs.declared.EditFault.{EditFault}
 use Rattle.grid_structure.specs.declared.EditFault.TheVariants.{IdTaken}
 use Rattle.grid_structure.specs.declared.ApplyFault.TheVariants.{Refused}
 use Rattle.grid_structure.specs.declared.structure.Head.{Head}
-use Rattle.grid_structure.specs.declared.structure.Entry.{Entry}
+use Rattle.grid_structure.specs.declared.structure.IdOwner.{IdOwner}
 use Rattle.grid_structure.specs.Network.{Network, Substation}
 use Rattle.grid_structure.specs.Sites.{levels, level_ids, switch_ids, equipment_ids, all_ids, taken, find_level}
 use Rattle.grid_structure.specs.Indexed.{level_at}
@@ -35,25 +35,25 @@ level_sure net q k differ named = place_sure (λ (l : VoltageLevel). l.id) q (le
 
 -- ---- what the flat list of levels keeps: their ids differ, and the table finds each
 
-pub kept_differ : {id : List ℕ} {heads : List Head} {ls : List VoltageLevel} {ts lines : List NamedBranch} {count : ℕ} {look : List ℕ → Option Entry} {places : List ℕ}
+pub kept_differ : {id : List ℕ} {heads : List Head} {ls : List VoltageLevel} {ts lines : List NamedBranch} {count : ℕ} {look : List ℕ → Option IdOwner} {places : List ℕ}
     → IsKept id heads ls ts lines count look places → ids_differ (map (λ (l : VoltageLevel). l.id) ls) ≡ true
 unfolding level_ids
 kept_differ {id} {heads} {ls} {ts} {lines} k =
     let net = network_of id heads ls ts lines in
     rw (kept_levels k) at (times-differ (level_ids net) (λ q. level_once net q k.sound.ids))
 
-pub kept_found : {id : List ℕ} {heads : List Head} {ls : List VoltageLevel} {ts lines : List NamedBranch} {count : ℕ} {look : List ℕ → Option Entry} {places : List ℕ}
+pub kept_found : {id : List ℕ} {heads : List Head} {ls : List VoltageLevel} {ts lines : List NamedBranch} {count : ℕ} {look : List ℕ → Option IdOwner} {places : List ℕ}
     → IsKept id heads ls ts lines count look places → (q : List ℕ) → position (λ (l : VoltageLevel). same_id q l.id) ls ≡ level_at places (look q)
 unfolding find_level
 kept_found k q = rw (kept_levels k) at (k.indexed.levels_found q)
 
 -- ---- which ids are taken, and what is told first
 
-pub kept_taken : {id : List ℕ} {heads : List Head} {ls : List VoltageLevel} {ts lines : List NamedBranch} {count : ℕ} {look : List ℕ → Option Entry} {places : List ℕ}
+pub kept_taken : {id : List ℕ} {heads : List Head} {ls : List VoltageLevel} {ts lines : List NamedBranch} {count : ℕ} {look : List ℕ → Option IdOwner} {places : List ℕ}
     → IsKept id heads ls ts lines count look places → (q : List ℕ) → is_some (look q) ≡ true → taken (network_of id heads ls ts lines) q ≡ true
 kept_taken {look = look} {places} k q some = taken_by look places _ q k.indexed ∙ some
 
-pub kept_free : {id : List ℕ} {heads : List Head} {ls : List VoltageLevel} {ts lines : List NamedBranch} {count : ℕ} {look : List ℕ → Option Entry} {places : List ℕ}
+pub kept_free : {id : List ℕ} {heads : List Head} {ls : List VoltageLevel} {ts lines : List NamedBranch} {count : ℕ} {look : List ℕ → Option IdOwner} {places : List ℕ}
     → IsKept id heads ls ts lines count look places → (q : List ℕ) → look q ≡ None → taken (network_of id heads ls ts lines) q ≡ false
 kept_free {look = look} {places} k q none = taken_by look places _ q k.indexed ∙ ap is_some none
 

@@ -12,12 +12,12 @@ use Rattle.grid_level.specs.declared.Stand.TheVariants.{BranchEnd}
 use Rattle.grid_level.specs.VoltageLevel.{VoltageLevel}
 use Rattle.grid_level.specs.Passing.{is_branch_end, placed_at}
 use Rattle.grid_level.specs.LevelEdits.{level_with_terminal, with_placed}
-use Rattle.grid_level.proofs.Editing as on_level
-use Rattle.grid_level.proofs.Placing.{placing, placed_in}
+use Rattle.grid_level.proofs.LevelEdits as on_level
+use Rattle.grid_level.proofs.PlacedTerminals.{placing, placed_in}
 use Rattle.grid_structure.specs.declared.EditFault.TheVariants as faults
 use Rattle.grid_structure.specs.declared.finding.Keyed.{Keyed}
-use Rattle.grid_structure.specs.declared.branches.Spot.{Spot}
-use Rattle.grid_structure.specs.declared.branches.Spot.TheVariants.{Nowhere, Elsewhere, At}
+use Rattle.grid_structure.specs.declared.branches.LevelFound.{LevelFound}
+use Rattle.grid_structure.specs.declared.branches.LevelFound.TheVariants.{Nowhere, Elsewhere, At}
 use Rattle.grid_structure.specs.declared.branches.Landing.{Landing}
 use Rattle.grid_structure.specs.Editing.{edit_fault}
 use Rattle.grid_structure.specs.Indexed.{has_switch, has_terminal}
@@ -31,7 +31,7 @@ use Rattle.grid_structure.proofs.Singles.{placed_others, has_placed}
 use Rattle.std.proofs.lemmas.Option.{slice_get_within}
 
 -- an end that was placed
-pub record Lands (id : List ℕ) (spot : Spot) (side : ℕ) (ls after : List VoltageLevel) : Type 0 where
+pub record Lands (id : List ℕ) (spot : LevelFound) (side : ℕ) (ls after : List VoltageLevel) : Type 0 where
   pub keyed : Keyed
   pub spot_is : spot ≡ At keyed
   pub old : VoltageLevel
@@ -42,7 +42,7 @@ pub record Lands (id : List ℕ) (spot : Spot) (side : ℕ) (ls after : List Vol
   pub free : placed_at old item.node ≡ None
   pub is : slice_set ls keyed.place (placed_in old item) ≡ after
 
-pub lands : (id : List ℕ) (spot : Spot) (node : ℤ) (side : ℕ) (ls after : List VoltageLevel) → landed_at id spot node side ls ≡ Ok after → Lands id spot side ls after
+pub lands : (id : List ℕ) (spot : LevelFound) (node : ℤ) (side : ℕ) (ls after : List VoltageLevel) → landed_at id spot node side ls ≡ Ok after → Lands id spot side ls after
 unfolding landed_at
 lands id Nowhere node side ls after h = cc
 lands id Elsewhere node side ls after h = cc
@@ -88,7 +88,7 @@ singles_left p (x ∷ xs) h = by (nat_lt x.node p.node) (not (is_branch_end x.st
     by true false e again = rw e again
     by false d e again = rw h refl
 
-pub same_step : (id : List ℕ) (spot : Spot) (side : ℕ) (ls after : List VoltageLevel) → Lands id spot side ls after → SameButEnds after ls
+pub same_step : (id : List ℕ) (spot : LevelFound) (side : ℕ) (ls after : List VoltageLevel) → Lands id spot side ls after → SameButEnds after ls
 same_step id spot side ls after w =
     let new = placed_in w.old w.item in
     let k = w.keyed.place in
@@ -139,7 +139,7 @@ same_total a b s = total_by a ∙ ap count_all s.switches ∙ sym (total_by b)
 
 -- ---- where the ends are found
 
-pub others_step : (id : List ℕ) (spot : Spot) (side : ℕ) (ls after : List VoltageLevel) (q : List ℕ) (s : ℕ) → Lands id spot side ls after → same_id id q ≡ false → position (has_terminal q s) after ≡ position (has_terminal q s) ls
+pub others_step : (id : List ℕ) (spot : LevelFound) (side : ℕ) (ls after : List VoltageLevel) (q : List ℕ) (s : ℕ) → Lands id spot side ls after → same_id id q ≡ false → position (has_terminal q s) after ≡ position (has_terminal q s) ls
 others_step id spot side ls after q s w h =
     let apart : same_id w.item.terminal.equipment q ≡ false = ap (λ (t : Terminal). same_id t.equipment q) w.terminal ∙ h in
     ap (position (has_terminal q s)) (sym w.is) ∙ position_set_same (has_terminal q s) ls w.keyed.place w.old (placed_in w.old w.item) w.at ((placed_others w.old w.item).terminals q s apart)
@@ -151,7 +151,7 @@ others_all id (l ∷ landings) ls after q s h apart =
     let w = on_level.went (landed_at id l.spot l.node l.side ls) _ after h in
     others_all id landings w.value after q s w.next apart ∙ others_step id l.spot l.side ls w.value q s (lands id l.spot l.node l.side ls w.value w.is) apart
 
-pub end_step : (id : List ℕ) (spot : Spot) (side : ℕ) (ls after : List VoltageLevel) (s : ℕ) (o : Option ℕ) (w : Lands id spot side ls after) → position (has_terminal id s) ls ≡ o → ((side == s) ≡ true → o ≡ None)
+pub end_step : (id : List ℕ) (spot : LevelFound) (side : ℕ) (ls after : List VoltageLevel) (s : ℕ) (o : Option ℕ) (w : Lands id spot side ls after) → position (has_terminal id s) ls ≡ o → ((side == s) ≡ true → o ≡ None)
     → position (has_terminal id s) after ≡ cond (side == s) (Some w.keyed.place) o
 end_step id spot side ls after s o w was none =
     let new = placed_in w.old w.item in

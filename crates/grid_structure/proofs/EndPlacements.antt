@@ -10,14 +10,14 @@ use Rattle.grid_level.specs.declared.Terminal.{Terminal}
 use Rattle.grid_level.specs.declared.Stand.TheVariants.{BranchEnd}
 use Rattle.grid_level.specs.VoltageLevel.{VoltageLevel}
 use Rattle.grid_level.specs.LevelEdits.{Unfit, level_with_terminal}
-use Rattle.grid_level.proofs.Placing.{placing}
+use Rattle.grid_level.proofs.PlacedTerminals.{placing}
 use Rattle.grid_structure.specs.declared.NamedBranch.{NamedBranch}
 use Rattle.grid_structure.specs.declared.End.{End}
 use Rattle.grid_structure.specs.declared.EditFault.{EditFault}
 use Rattle.grid_structure.specs.declared.structure.Head.{Head}
-use Rattle.grid_structure.specs.declared.structure.Entry.{Entry}
-use Rattle.grid_structure.specs.declared.branches.Spot.{Spot}
-use Rattle.grid_structure.specs.declared.branches.Spot.TheVariants.{Nowhere, Elsewhere, At}
+use Rattle.grid_structure.specs.declared.structure.IdOwner.{IdOwner}
+use Rattle.grid_structure.specs.declared.branches.LevelFound.{LevelFound}
+use Rattle.grid_structure.specs.declared.branches.LevelFound.TheVariants.{Nowhere, Elsewhere, At}
 use Rattle.grid_structure.specs.declared.branches.Landing.{Landing}
 use Rattle.grid_kinds.specs.declared.CheckFault.{CheckFault}
 use Rattle.grid_kinds.specs.Records.{rated_fault}
@@ -83,7 +83,7 @@ module _ (id : List ℕ) (heads : List Head) (ts lines : List NamedBranch) where
   unfolding find_level
   found_in ls level k few h = ap (position (λ (l : VoltageLevel). same_id level l.id)) (levels-network_of id heads ls ts lines few) ∙ h
 
-  place_by : (home : Option (List ℕ)) (e : List ℕ) (side : ℕ) (end : End) (start ls : List VoltageLevel) (ends : List Side) (look : List ℕ → Option Entry) (places : List ℕ) (spot : Spot) → Stage start ls ends
+  place_by : (home : Option (List ℕ)) (e : List ℕ) (side : ℕ) (end : End) (start ls : List VoltageLevel) (ends : List Side) (look : List ℕ → Option IdOwner) (places : List ℕ) (spot : LevelFound) → Stage start ls ends
       → ((q : List ℕ) → position (λ (l : VoltageLevel). same_id q l.id) start ≡ level_at places (look q)) → IsSpot heads places home (look end.level) spot
       → place_end home e side end (over ls) ≡ lift over (landed_at e spot end.node side ls)
   unfolding place_end landed_at level_named
@@ -119,7 +119,7 @@ module _ (id : List ℕ) (heads : List Head) (ts lines : List NamedBranch) where
           let at_place : find_level (over ls) new.id ≡ Some keyed.place = rw name (found_in ls end.level keyed.place g.few place) in
           ap (λ (z : Network). Ok z) (flat_put id heads ls ts lines new keyed.place g.few g.midway.base.ids at_place)
 
-  pub lifted : (home : Option (List ℕ)) (e : List ℕ) (look : List ℕ → Option Entry) (places : List ℕ) (start : List VoltageLevel) (those : List End) (landings : List Landing) (side : ℕ) (ls : List VoltageLevel) (ends : List Side)
+  pub lifted : (home : Option (List ℕ)) (e : List ℕ) (look : List ℕ → Option IdOwner) (places : List ℕ) (start : List VoltageLevel) (those : List End) (landings : List Landing) (side : ℕ) (ls : List VoltageLevel) (ends : List Side)
       → Stage start ls ends → ((q : List ℕ) → position (λ (l : VoltageLevel). same_id q l.id) start ≡ level_at places (look q)) → AreLandings heads places look home side those landings
       → place_ends home e side those (over ls) ≡ lift over (landed e landings ls)
   unfolding place_ends landed

@@ -4,11 +4,11 @@ use Rattle.std.specs.Str.{bytes_eq}
 use Rattle.std.specs.HashMap.{HashMap, UpdatesBy}
 use Rattle.std.specs.Prelude.{is_some}
 use Rattle.std.proofs.lemmas.Bool.{false≢true}
-use Rattle.grid_structure.specs.declared.structure.Entry.{Entry}
+use Rattle.grid_structure.specs.declared.structure.IdOwner.{IdOwner}
 use Rattle.grid_structure.specs.Table.{entry_at, slot_at}
 use Rattle.std.proofs.lemmas.Slice.Eq.{bytes_eq-Decides}
 
-pub changed : {S : Type 0} (id : List ℕ) (m n : HashMap (List ℕ) Entry S) (w : Option Entry) → UpdatesBy bytes_eq (bytes_eq id) m n w → (q : List ℕ) → slot_at n q ≡ cond (bytes_eq id q) w (slot_at m q)
+pub changed : {S : Type 0} (id : List ℕ) (m n : HashMap (List ℕ) IdOwner S) (w : Option IdOwner) → UpdatesBy bytes_eq (bytes_eq id) m n w → (q : List ℕ) → slot_at n q ≡ cond (bytes_eq id q) w (slot_at m q)
 unfolding slot_at entry_at
 changed id m n w u q = u.0 q
 

@@ -16,8 +16,8 @@ use Rattle.grid_structure.specs.declared.Branch.{Branch}
 use Rattle.grid_structure.specs.declared.Branch.TheVariants.{Line, TwoWindings, ThreeWindings}
 use Rattle.grid_structure.specs.declared.Edit.TheVariants.{RemoveEquipment}
 use Rattle.grid_structure.specs.declared.EditFault.TheVariants as faults
-use Rattle.grid_structure.specs.declared.structure.Entry.{Entry}
-use Rattle.grid_structure.specs.declared.structure.Entry.TheVariants as entries
+use Rattle.grid_structure.specs.declared.structure.IdOwner.{IdOwner}
+use Rattle.grid_structure.specs.declared.structure.IdOwner.TheVariants as entries
 use Rattle.grid_structure.specs.declared.structure.Head.{Head}
 use Rattle.grid_structure.specs.Network.{Network, Substation}
 use Rattle.grid_structure.specs.Sites.{levels, switches, equipment_ids, branch_ends}
@@ -60,7 +60,7 @@ total_alike e (l ∷ ls) = ap (λ n. length l.switches + n) (total_alike e ls)
 
 -- ---- what the table finds then
 
-pub flat_less : (look other : List ℕ → Option Entry) (places : List ℕ) (heads less : List Head) (ls : List VoltageLevel) (bs : List NamedBranch) (e : List ℕ) (n : ℕ) → map (λ (h : Head). h.id) less ≡ map (λ (h : Head). h.id) heads
+pub flat_less : (look other : List ℕ → Option IdOwner) (places : List ℕ) (heads less : List Head) (ls : List VoltageLevel) (bs : List NamedBranch) (e : List ℕ) (n : ℕ) → map (λ (h : Head). h.id) less ≡ map (λ (h : Head). h.id) heads
     → sides_at (look e) ≡ Some n → ((q : List ℕ) → other q ≡ cond (bytes_eq e q) None (look q)) → IsFlat look places heads ls bs
     → IsFlat other places less (map (level_without_equipment e) ls) (without_branch e bs)
 unfolding level_without_equipment has_switch
@@ -87,7 +87,7 @@ flat_less look other places heads less ls bs e n alike some is f =
       below = ap (λ m. list_all (λ (place : ℕ). nat_lt place m) places) (length_map (λ (l : VoltageLevel). level_without_equipment e l) ls) ∙ f.below;
     }
   where
-    no_substation : (o : Option Entry) → sides_at o ≡ Some n → substation_at o ≡ None
+    no_substation : (o : Option IdOwner) → sides_at o ≡ Some n → substation_at o ≡ None
     no_substation None h = refl
     no_substation (Some (entries.Substation place)) h = cc
     no_substation (Some (entries.Level key)) h = refl
@@ -96,7 +96,7 @@ flat_less look other places heads less ls bs e n alike some is f =
     no_substation (Some (entries.TwoEnded key1 key2)) h = refl
     no_substation (Some (entries.ThreeEnded key1 key2 key3)) h = refl
 
-    no_level : (o : Option Entry) → sides_at o ≡ Some n → level_at places o ≡ None
+    no_level : (o : Option IdOwner) → sides_at o ≡ Some n → level_at places o ≡ None
     no_level None h = refl
     no_level (Some (entries.Substation place)) h = refl
     no_level (Some (entries.Level key)) h = cc
@@ -105,7 +105,7 @@ flat_less look other places heads less ls bs e n alike some is f =
     no_level (Some (entries.TwoEnded key1 key2)) h = refl
     no_level (Some (entries.ThreeEnded key1 key2 key3)) h = refl
 
-    no_switch : (o : Option Entry) → sides_at o ≡ Some n → switch_at places o ≡ None
+    no_switch : (o : Option IdOwner) → sides_at o ≡ Some n → switch_at places o ≡ None
     no_switch None h = refl
     no_switch (Some (entries.Substation place)) h = refl
     no_switch (Some (entries.Level key)) h = refl
@@ -137,7 +137,7 @@ some_local e (l ∷ ls) h = elim (or_cases (has_single e l) (list_any (has_singl
   | inr a ↦ omega (arith, some_local e ls a)
 ]
 
-module _ {id : List ℕ} {heads : List Head} {ls : List VoltageLevel} {ts lines : List NamedBranch} {count : ℕ} {look : List ℕ → Option Entry} {places : List ℕ} (kept : IsKept id heads ls ts lines count look places) where
+module _ {id : List ℕ} {heads : List Head} {ls : List VoltageLevel} {ts lines : List NamedBranch} {count : ℕ} {look : List ℕ → Option IdOwner} {places : List ℕ} (kept : IsKept id heads ls ts lines count look places) where
   abbrev net : Network
   net = network_of id heads ls ts lines
 
@@ -229,7 +229,7 @@ module _ {id : List ℕ} {heads : List Head} {ls : List VoltageLevel} {ts lines 
       let subs = ap (map (substation_without e)) (cut_map (level_without_equipment e) heads ls ts) ∙ sym (d.substations (map (level_without_equipment e) ls)) in
       rw there (ap (λ (z : List Substation). Ok (record net { substations = z; lines = without_branch e lines })) subs)
 
-  pub equipment_kept : (e : List ℕ) (n : ℕ) (less : List Head) (rest : List NamedBranch) (other : List ℕ → Option Entry) → sides_at (look e) ≡ Some n → IsDropped e heads less ts rest
+  pub equipment_kept : (e : List ℕ) (n : ℕ) (less : List Head) (rest : List NamedBranch) (other : List ℕ → Option IdOwner) → sides_at (look e) ≡ Some n → IsDropped e heads less ts rest
       → ((q : List ℕ) → other q ≡ cond (bytes_eq e q) None (look q)) → IsKept id less (map (level_without_equipment e) ls) rest (without_branch e lines) count other places
   unfolding without_branch
   equipment_kept e n less rest other some d is =
@@ -274,7 +274,7 @@ module _ {id : List ℕ} {heads : List Head} {ls : List VoltageLevel} {ts lines 
       let d = single_dropped e (some ∙ ap (λ z. Some z) one) in
       equipment_done e n heads ts some d.0 ∙ ap (λ (z : List NamedBranch). Ok (network_of id heads (map (level_without_equipment e) ls) ts z)) (sym d.1)
 
-  pub single_kept : (e : List ℕ) (n : ℕ) (other : List ℕ → Option Entry) → sides_at (look e) ≡ Some n → n ≡ 1 → ((q : List ℕ) → other q ≡ cond (bytes_eq e q) None (look q))
+  pub single_kept : (e : List ℕ) (n : ℕ) (other : List ℕ → Option IdOwner) → sides_at (look e) ≡ Some n → n ≡ 1 → ((q : List ℕ) → other q ≡ cond (bytes_eq e q) None (look q))
       → IsKept id heads (map (level_without_equipment e) ls) ts lines count other places
   single_kept e n other some one is =
       let d = single_dropped e (some ∙ ap (λ z. Some z) one) in

@@ -6,7 +6,7 @@ use Rattle.std.proofs.lemmas.List.{length-append, length-take-le}
 use Rattle.grid_level.specs.VoltageLevel.{VoltageLevel}
 use Rattle.grid_structure.specs.declared.NamedBranch.{NamedBranch}
 use Rattle.grid_structure.specs.declared.structure.Head.{Head}
-use Rattle.grid_structure.specs.declared.structure.Entry.{Entry}
+use Rattle.grid_structure.specs.declared.structure.IdOwner.{IdOwner}
 use Rattle.grid_structure.specs.Kept.{IsKept}
 use Rattle.grid_structure.specs.Network.{Substation}
 use Rattle.grid_structure.specs.Sites.{levels, branches, find_level, all_ids, new_level_place}
@@ -123,10 +123,10 @@ no_place_in_cut id heads ls ts lines sub none = rw none refl
 
 -- ---- the lists of a structure
 
-pub kept_levels : {id : List ℕ} {heads : List Head} {ls : List VoltageLevel} {ts lines : List NamedBranch} {count : ℕ} {look : List ℕ → Option Entry} {places : List ℕ}
+pub kept_levels : {id : List ℕ} {heads : List Head} {ls : List VoltageLevel} {ts lines : List NamedBranch} {count : ℕ} {look : List ℕ → Option IdOwner} {places : List ℕ}
     → IsKept id heads ls ts lines count look places → levels (network_of id heads ls ts lines) ≡ ls
 kept_levels {id} {heads} {ls} {ts} {lines} k = levels-network_of id heads ls ts lines k.level_count
 
-pub kept_branches : {id : List ℕ} {heads : List Head} {ls : List VoltageLevel} {ts lines : List NamedBranch} {count : ℕ} {look : List ℕ → Option Entry} {places : List ℕ}
+pub kept_branches : {id : List ℕ} {heads : List Head} {ls : List VoltageLevel} {ts lines : List NamedBranch} {count : ℕ} {look : List ℕ → Option IdOwner} {places : List ℕ}
     → IsKept id heads ls ts lines count look places → branches (network_of id heads ls ts lines) ≡ ts ++ lines
 kept_branches {id} {heads} {ls} {ts} {lines} k = branches-network_of id heads ls ts lines k.transformer_count

@@ -10,7 +10,7 @@ use Rattle.grid_level.specs.VoltageLevel.{VoltageLevel}
 use Rattle.grid_level.specs.declared.LevelFault.{LevelFault}
 use Rattle.grid_level.specs.LevelEdits.{Unfit, refusal_of, level_fault_of, node_range, node_taken, same_node, no_edge, too_many_nodes, too_many_edges}
 use Rattle.grid_structure.specs.declared.NamedBranch.{NamedBranch}
-use Rattle.grid_structure.specs.declared.structure.Entry.{Entry}
+use Rattle.grid_structure.specs.declared.structure.IdOwner.{IdOwner}
 use Rattle.grid_structure.specs.declared.structure.Head.{Head}
 use Rattle.grid_structure.specs.declared.EditFault.{EditFault}
 use Rattle.grid_structure.specs.Network.{Network}
@@ -49,7 +49,7 @@ pub record Level_at (net : Network) (level : List ℕ) (old : VoltageLevel) : Ty
   pub named : level_named net level ≡ Some old
   pub id_is : old.id ≡ level
 
-module _ {id : List ℕ} {heads : List Head} {ls : List VoltageLevel} {ts lines : List NamedBranch} {count : ℕ} {look : List ℕ → Option Entry} {places : List ℕ} (kept : IsKept id heads ls ts lines count look places) where
+module _ {id : List ℕ} {heads : List Head} {ls : List VoltageLevel} {ts lines : List NamedBranch} {count : ℕ} {look : List ℕ → Option IdOwner} {places : List ℕ} (kept : IsKept id heads ls ts lines count look places) where
   abbrev net : Network
   net = network_of id heads ls ts lines
 
@@ -100,7 +100,7 @@ module _ {id : List ℕ} {heads : List Head} {ls : List VoltageLevel} {ts lines 
       flat_put id heads ls ts lines new k kept.level_count (differ-times (all_ids net) kept.sound.ids) (rw (same, there.id_is) found)
 
   -- the structure with the level changed, its counts and its table given
-  pub level_kept : (k : ℕ) (old new : VoltageLevel) (more : ℕ) (other : List ℕ → Option Entry) → slice_get ls k ≡ Some old → IsSound (network_of id heads (slice_set ls k new) ts lines)
+  pub level_kept : (k : ℕ) (old new : VoltageLevel) (more : ℕ) (other : List ℕ → Option IdOwner) → slice_get ls k ≡ Some old → IsSound (network_of id heads (slice_set ls k new) ts lines)
       → more + length old.switches ≡ count + length new.switches → IsFlat other places heads (slice_set ls k new) (ts ++ lines) → IsKept id heads (slice_set ls k new) ts lines more other places
   level_kept k old new more other at sound sum flat =
       let count_is : length (slice_set ls k new) ≡ length ls = length-slice_set ls k new in

@@ -10,8 +10,8 @@ use Rattle.grid_ids.specs.Name.{same_id, has_id}
 use Rattle.grid_ids.proofs.Alike.{same_swap}
 use Rattle.grid_level.specs.VoltageLevel.{VoltageLevel}
 use Rattle.grid_structure.specs.declared.NamedBranch.{NamedBranch}
-use Rattle.grid_structure.specs.declared.structure.Entry.{Entry}
-use Rattle.grid_structure.specs.declared.structure.Entry.TheVariants as entries
+use Rattle.grid_structure.specs.declared.structure.IdOwner.{IdOwner}
+use Rattle.grid_structure.specs.declared.structure.IdOwner.TheVariants as entries
 use Rattle.grid_structure.specs.declared.structure.Head.{Head}
 use Rattle.grid_structure.specs.Network.{Substation}
 use Rattle.grid_structure.specs.Sites.{branch_ends}
@@ -127,7 +127,7 @@ below_with at n places l h = over places h
         step true less = lt-ltb p (n + 1) (omega arith)
         step false less = lt-ltb (p + 1) (n + 1) (omega arith)
 
-level_moved : (at : ℕ) (places : List ℕ) (o : Option Entry) → is_within (length places) o ≡ true → level_at (places_with at places) o ≡ option_map (moved at) (level_at places o)
+level_moved : (at : ℕ) (places : List ℕ) (o : Option IdOwner) → is_within (length places) o ≡ true → level_at (places_with at places) o ≡ option_map (moved at) (level_at places o)
 level_moved at places None h = refl
 level_moved at places (Some (entries.Substation place)) h = refl
 level_moved at places (Some (entries.Level key)) h = got_moved at places (at ∷ []) key (ltb-true key (length places) h)
@@ -136,7 +136,7 @@ level_moved at places (Some (entries.Single key)) h = refl
 level_moved at places (Some (entries.TwoEnded key1 key2)) h = refl
 level_moved at places (Some (entries.ThreeEnded key1 key2 key3)) h = refl
 
-switch_moved : (at : ℕ) (places : List ℕ) (o : Option Entry) → is_within (length places) o ≡ true → switch_at (places_with at places) o ≡ option_map (moved at) (switch_at places o)
+switch_moved : (at : ℕ) (places : List ℕ) (o : Option IdOwner) → is_within (length places) o ≡ true → switch_at (places_with at places) o ≡ option_map (moved at) (switch_at places o)
 switch_moved at places None h = refl
 switch_moved at places (Some (entries.Substation place)) h = refl
 switch_moved at places (Some (entries.Level key)) h = refl
@@ -149,7 +149,7 @@ chosen : (f : ℕ → ℕ) (t : Bool) (a b : Option ℕ) → option_map f (cond 
 chosen f true a b = refl
 chosen f false a b = refl
 
-terminal_moved : (at : ℕ) (places : List ℕ) (side : ℕ) (o : Option Entry) → is_within (length places) o ≡ true → terminal_at (places_with at places) side o ≡ option_map (moved at) (terminal_at places side o)
+terminal_moved : (at : ℕ) (places : List ℕ) (side : ℕ) (o : Option IdOwner) → is_within (length places) o ≡ true → terminal_at (places_with at places) side o ≡ option_map (moved at) (terminal_at places side o)
 terminal_moved at places side None h = refl
 terminal_moved at places side (Some (entries.Substation place)) h = refl
 terminal_moved at places side (Some (entries.Level key)) h = refl
@@ -176,7 +176,7 @@ terminal_moved at places side (Some (entries.ThreeEnded key1 key2 key3)) h =
       got_moved at places (at ∷ []) key3 (ltb-true key3 (length places) more.1),
     ) refl
 
-within_more : (n : ℕ) (o : Option Entry) → is_within n o ≡ true → is_within (n + 1) o ≡ true
+within_more : (n : ℕ) (o : Option IdOwner) → is_within n o ≡ true → is_within (n + 1) o ≡ true
 within_more n None h = refl
 within_more n (Some (entries.Substation place)) h = refl
 within_more n (Some (entries.Level key)) h = let l : key < n = ltb-true key n h in lt-ltb key (n + 1) (omega arith)
@@ -204,7 +204,7 @@ pub position_heads : (q : List ℕ) (heads : List Head) → position (λ (h : He
 position_heads q [] = refl
 position_heads q (h ∷ heads) = position-cons (λ (h : Head). same_id q h.id) h heads ∙ (rw (position_heads q heads) (sym (position-cons (same_id q) h.id (map (λ (h : Head). h.id) heads))))
 
-pub flat_inserted : (look other : List ℕ → Option Entry) (places : List ℕ) (heads more : List Head) (ls : List VoltageLevel) (bs : List NamedBranch) (at : ℕ) (e : List ℕ) (nominal_v : ℤ) (low_v high_v : Option ℤ)
+pub flat_inserted : (look other : List ℕ → Option IdOwner) (places : List ℕ) (heads more : List Head) (ls : List VoltageLevel) (bs : List NamedBranch) (at : ℕ) (e : List ℕ) (nominal_v : ℤ) (low_v high_v : Option ℤ)
     → heads_alike more heads → at ≤ length ls → look e ≡ None → ((q : List ℕ) → other q ≡ cond (bytes_eq e q) (Some (entries.Level (length places))) (look q))
     → IsFlat look places heads ls bs → IsFlat other (places_with at places) more (insert ls at (bare_level e nominal_v low_v high_v)) bs
 unfolding has_switch has_id has_terminal has_single

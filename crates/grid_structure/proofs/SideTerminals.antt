@@ -13,7 +13,7 @@ use Rattle.grid_level.specs.declared.Stand.TheVariants.{Busbar, Feeder, BranchEn
 use Rattle.grid_level.specs.VoltageLevel.{VoltageLevel}
 use Rattle.grid_level.specs.Passing.{is_branch_end}
 use Rattle.grid_level.specs.Sound.{level_passes, stand_passes, side_passes}
-use Rattle.grid_level.proofs.Editing as on_level
+use Rattle.grid_level.proofs.LevelEdits as on_level
 use Rattle.grid_structure.specs.declared.NamedBranch.{NamedBranch}
 use Rattle.grid_structure.specs.declared.End.{End}
 use Rattle.grid_structure.specs.Network.{Network}

@@ -14,7 +14,7 @@ use Rattle.grid_level.specs.declared.Placed.{Placed}
 use Rattle.grid_level.specs.VoltageLevel.{VoltageLevel}
 use Rattle.grid_level.specs.Passing.{is_branch_end, ends}
 use Rattle.grid_level.specs.Sound.{level_passes, stand_passes, side_passes}
-use Rattle.grid_level.proofs.Editing as on_level
+use Rattle.grid_level.proofs.LevelEdits as on_level
 use Rattle.grid_structure.specs.Network.{Network, Substation}
 use Rattle.grid_structure.specs.Sites.{levels, branches, switches, level_named, substation_named, level_ids, branch_ids, all_ids, taken, branch_ends, home_of, rated}
 use Rattle.grid_structure.specs.Editing.{apply, with_substation, with_level, with_levels, with_branch, in_home, place_end, place_ends, refuse_home, edit_fault}
@@ -30,7 +30,7 @@ use Rattle.grid_structure.proofs.Frames.{Base, is_same, local, locals, locals-ap
 use Rattle.grid_structure.proofs.Sides.{Side, has, has-append, among_has, among_more, has_among, each_itself, placed_itself, sides_in, more_sides, is_same_side}
 use Rattle.grid_structure.proofs.OneLevel.{base_of, sound_of, found, none_refused, fits, old_passes, singles_placed, sides_placed_at, names_of}
 use Rattle.grid_structure.proofs.Substations.{within_of, found_has, names, changed, changed_at, alone, sub_ids_once, levels_in, transformers_in, levels_at, transformers_at, names_at, at_sub, sub_passes, all_implied}
-use Rattle.grid_level.proofs.Placing as placing
+use Rattle.grid_level.proofs.PlacedTerminals as placing
 use Rattle.grid_level.specs.declared.Stand.TheVariants.{BranchEnd}
 use Rattle.grid_level.specs.LevelEdits.{level_with_terminal, with_placed, node_of, node_range}
 use Rattle.grid_structure.specs.declared.Branch.TheVariants.{Line, TwoWindings, ThreeWindings}

@@ -14,7 +14,7 @@ use Rattle.grid_level.specs.VoltageLevel.{VoltageLevel}
 use Rattle.grid_level.specs.Passing.{is_branch_end}
 use Rattle.grid_level.specs.LevelEdits.{level_without_equipment}
 use Rattle.grid_level.specs.Sound.{level_passes}
-use Rattle.grid_level.proofs.Editing as on_level
+use Rattle.grid_level.proofs.LevelEdits as on_level
 use Rattle.grid_structure.specs.Network.{Network, Substation}
 use Rattle.grid_structure.specs.Sites.{levels, branches, switches, level_ids, switch_ids, branch_ids, equipment_ids, branch_ends, home_of}
 use Rattle.grid_structure.specs.Editing.{apply, with_levels, level_without_switch, substation_without, without_branch}

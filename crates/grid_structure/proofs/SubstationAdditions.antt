@@ -9,8 +9,8 @@ use Rattle.grid_ids.specs.Name.{same_id}
 use Rattle.grid_ids.proofs.Alike.{same_swap}
 use Rattle.grid_level.specs.VoltageLevel.{VoltageLevel}
 use Rattle.grid_structure.specs.declared.NamedBranch.{NamedBranch}
-use Rattle.grid_structure.specs.declared.structure.Entry.{Entry}
-use Rattle.grid_structure.specs.declared.structure.Entry.TheVariants as entries
+use Rattle.grid_structure.specs.declared.structure.IdOwner.{IdOwner}
+use Rattle.grid_structure.specs.declared.structure.IdOwner.TheVariants as entries
 use Rattle.grid_structure.specs.declared.structure.Head.{Head}
 use Rattle.grid_structure.specs.declared.Edit.TheVariants.{AddSubstation}
 use Rattle.grid_structure.specs.declared.EditFault.TheVariants as faults
@@ -62,7 +62,7 @@ unfolding transformer_total
 many_push e [] = omega arith
 many_push e (h ∷ heads) = omega (arith, many_push e heads)
 
-module _ {id : List ℕ} {heads : List Head} {ls : List VoltageLevel} {ts lines : List NamedBranch} {count : ℕ} {look : List ℕ → Option Entry} {places : List ℕ} (kept : IsKept id heads ls ts lines count look places) where
+module _ {id : List ℕ} {heads : List Head} {ls : List VoltageLevel} {ts lines : List NamedBranch} {count : ℕ} {look : List ℕ → Option IdOwner} {places : List ℕ} (kept : IsKept id heads ls ts lines count look places) where
   abbrev net : Network
   net = network_of id heads ls ts lines
 
@@ -74,7 +74,7 @@ module _ {id : List ℕ} {heads : List Head} {ls : List VoltageLevel} {ts lines 
   unfolding apply
   head_taken e h = rw h refl
 
-  head_flat : (e : List ℕ) (place : ℕ) (other : List ℕ → Option Entry) → look e ≡ None → place ≡ length heads → ((q : List ℕ) → other q ≡ cond (bytes_eq e q) (Some (entries.Substation place)) (look q))
+  head_flat : (e : List ℕ) (place : ℕ) (other : List ℕ → Option IdOwner) → look e ≡ None → place ≡ length heads → ((q : List ℕ) → other q ≡ cond (bytes_eq e q) (Some (entries.Substation place)) (look q))
       → IsFlat other places (heads ++ bare e ∷ []) ls (ts ++ lines)
   head_flat e place other none at is =
       let f = kept_flat kept in
@@ -92,7 +92,7 @@ module _ {id : List ℕ} {heads : List Head} {ls : List VoltageLevel} {ts lines 
         below = f.below;
       }
 
-  pub head_kept : (e : List ℕ) (place : ℕ) (other : List ℕ → Option Entry) → taken net e ≡ false → place ≡ length heads → place + 1 < 2 ^ 32
+  pub head_kept : (e : List ℕ) (place : ℕ) (other : List ℕ → Option IdOwner) → taken net e ≡ false → place ≡ length heads → place + 1 < 2 ^ 32
       → ((q : List ℕ) → other q ≡ cond (bytes_eq e q) (Some (entries.Substation place)) (look q)) → IsKept id (heads ++ bare e ∷ []) ls ts lines count other places
   head_kept e place other free at few is =
       let many : length ls ≡ level_total (heads ++ bare e ∷ []) = kept.level_count ∙ sym (total_push e heads) in

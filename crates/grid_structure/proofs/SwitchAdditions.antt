@@ -14,10 +14,10 @@ use Rattle.grid_level.specs.declared.LevelFault.{LevelFault}
 use Rattle.grid_level.specs.declared.Switch.{Switch}
 use Rattle.grid_level.specs.VoltageLevel.{VoltageLevel}
 use Rattle.grid_level.specs.LevelEdits.{edge_fits, level_with_switch, refusal_of}
-use Rattle.grid_level.proofs.Editing as on_level
+use Rattle.grid_level.proofs.LevelEdits as on_level
 use Rattle.grid_structure.specs.declared.NamedBranch.{NamedBranch}
-use Rattle.grid_structure.specs.declared.structure.Entry.{Entry}
-use Rattle.grid_structure.specs.declared.structure.Entry.TheVariants as entries
+use Rattle.grid_structure.specs.declared.structure.IdOwner.{IdOwner}
+use Rattle.grid_structure.specs.declared.structure.IdOwner.TheVariants as entries
 use Rattle.grid_structure.specs.declared.structure.Head.{Head}
 use Rattle.grid_structure.specs.declared.Edit.TheVariants.{AddSwitch}
 use Rattle.grid_structure.specs.declared.EditFault.TheVariants as faults
@@ -36,7 +36,7 @@ use Rattle.grid_structure.proofs.Flat.{sides_set, Turns, Others, flat_turned, ha
 use Rattle.grid_structure.proofs.LevelChanges.{some_level, level_there, level_nowhere, level_put, level_kept, kept_flat, told_refusal}
 use Rattle.std.proofs.lemmas.Option.{slice_get_within}
 
-pub none_of : (o : Option Entry) → is_some o ≡ false → o ≡ None
+pub none_of : (o : Option IdOwner) → is_some o ≡ false → o ≡ None
 none_of (Some e) h = absurd (true≢false h)
 none_of None h = refl
 
@@ -70,7 +70,7 @@ switch_made old new e kind node1 node2 opened retained fictitious h =
     let same : gains old s ≡ new = cc (w.next) in
     record { item = s; item_id = refl; is = same; same_id = sym (ap (λ (z : VoltageLevel). z.id) same) }
 
-module _ {id : List ℕ} {heads : List Head} {ls : List VoltageLevel} {ts lines : List NamedBranch} {count : ℕ} {look : List ℕ → Option Entry} {places : List ℕ} (kept : IsKept id heads ls ts lines count look places) where
+module _ {id : List ℕ} {heads : List Head} {ls : List VoltageLevel} {ts lines : List NamedBranch} {count : ℕ} {look : List ℕ → Option IdOwner} {places : List ℕ} (kept : IsKept id heads ls ts lines count look places) where
   abbrev net : Network
   net = network_of id heads ls ts lines
 
@@ -78,7 +78,7 @@ module _ {id : List ℕ} {heads : List Head} {ls : List VoltageLevel} {ts lines 
   pub finds_nothing : (e : List ℕ) → taken net e ≡ false → look e ≡ None
   finds_nothing e free = none_of (look e) (sym (taken_by look places net e kept.indexed) ∙ free)
 
-  pub kept_alike : (other : List ℕ → Option Entry) → ((q : List ℕ) → other q ≡ look q) → IsKept id heads ls ts lines count other places
+  pub kept_alike : (other : List ℕ → Option IdOwner) → ((q : List ℕ) → other q ≡ look q) → IsKept id heads ls ts lines count other places
   kept_alike other same = record {
     sound = kept.sound;
     level_count = kept.level_count;
@@ -113,7 +113,7 @@ module _ {id : List ℕ} {heads : List Head} {ls : List VoltageLevel} {ts lines 
         entry_within = lt-ltb key (length places) (slice_get_within places key k keyed);
       }
 
-  pub switch_kept : (s : Switch) (k key : ℕ) (old : VoltageLevel) (other : List ℕ → Option Entry) → look s.id ≡ None → slice_get ls k ≡ Some old → slice_get places key ≡ Some k
+  pub switch_kept : (s : Switch) (k key : ℕ) (old : VoltageLevel) (other : List ℕ → Option IdOwner) → look s.id ≡ None → slice_get ls k ≡ Some old → slice_get places key ≡ Some k
       → ((q : List ℕ) → other q ≡ cond (bytes_eq s.id q) (Some (entries.Switch key)) (look q)) → IsSound (network_of id heads (slice_set ls k (gains old s)) ts lines)
       → IsKept id heads (slice_set ls k (gains old s)) ts lines (count + 1) other places
   switch_kept s k key old other none at keyed is sound =
@@ -159,7 +159,7 @@ module _ {id : List ℕ} {heads : List Head} {ls : List VoltageLevel} {ts lines 
       let old = some_level kept level k found in
       rw (free, old.1, le-leb max_switches (length (switches net)) many) refl
 
-  pub switch_added : (e level : List ℕ) (k key : ℕ) (old new : VoltageLevel) (kind : SwitchKind) (node1 node2 : ℤ) (opened retained fictitious : Bool) (other : List ℕ → Option Entry) → Asked e level k old
+  pub switch_added : (e level : List ℕ) (k key : ℕ) (old new : VoltageLevel) (kind : SwitchKind) (node1 node2 : ℤ) (opened retained fictitious : Bool) (other : List ℕ → Option IdOwner) → Asked e level k old
       → length (switches net) < max_switches → slice_get places key ≡ Some k → level_with_switch old e kind node1 node2 opened retained fictitious ≡ Ok new
       → ((q : List ℕ) → other q ≡ cond (bytes_eq e q) (Some (entries.Switch key)) (look q)) → IsKept id heads (slice_set ls k new) ts lines (count + 1) other places
   switch_added e level k key old new kind node1 node2 opened retained fictitious other a few keyed h is =

@@ -12,8 +12,8 @@ use Rattle.grid_ids.proofs.Alike.{same_is, same_swap}
 use Rattle.grid_level.specs.declared.Switch.{Switch}
 use Rattle.grid_level.specs.VoltageLevel.{VoltageLevel}
 use Rattle.grid_structure.specs.declared.NamedBranch.{NamedBranch}
-use Rattle.grid_structure.specs.declared.structure.Entry.{Entry}
-use Rattle.grid_structure.specs.declared.structure.Entry.TheVariants as entries
+use Rattle.grid_structure.specs.declared.structure.IdOwner.{IdOwner}
+use Rattle.grid_structure.specs.declared.structure.IdOwner.TheVariants as entries
 use Rattle.grid_structure.specs.declared.structure.Head.{Head}
 use Rattle.grid_structure.specs.declared.Edit.TheVariants.{RemoveSwitch}
 use Rattle.grid_structure.specs.declared.EditFault.TheVariants as faults
@@ -123,7 +123,7 @@ others_left e old j same = record {
         by false g again = ap (λ z. same_id q s.id || z) again
 
 -- only a switch's entry tells of a switch
-switch_entry : (places : List ℕ) (o : Option Entry) (k : ℕ) → switch_at places o ≡ Some k → (key : ℕ) × (o ≡ Some (entries.Switch key))
+switch_entry : (places : List ℕ) (o : Option IdOwner) (k : ℕ) → switch_at places o ≡ Some k → (key : ℕ) × (o ≡ Some (entries.Switch key))
 switch_entry places None k h = cc
 switch_entry places (Some (entries.Substation place)) k h = cc
 switch_entry places (Some (entries.Level key)) k h = cc
@@ -141,7 +141,7 @@ pub from_nowhere : (o : Option (ℕ × ℕ)) → None ≡ option_map switch_spot
 from_nowhere (Some pair) e = cc
 from_nowhere None e = refl
 
-module _ {id : List ℕ} {heads : List Head} {ls : List VoltageLevel} {ts lines : List NamedBranch} {count : ℕ} {look : List ℕ → Option Entry} {places : List ℕ} (kept : IsKept id heads ls ts lines count look places) where
+module _ {id : List ℕ} {heads : List Head} {ls : List VoltageLevel} {ts lines : List NamedBranch} {count : ℕ} {look : List ℕ → Option IdOwner} {places : List ℕ} (kept : IsKept id heads ls ts lines count look places) where
   abbrev net : Network
   net = network_of id heads ls ts lines
 
@@ -257,7 +257,7 @@ module _ {id : List ℕ} {heads : List Head} {ls : List VoltageLevel} {ts lines 
   pub switches_differ : (k : ℕ) (l : VoltageLevel) → slice_get ls k ≡ Some l → ids_differ (switch_ids_of l) ≡ true
   switches_differ k l at = times-differ (switch_ids_of l) (λ q. one_here q ls k l at (one_local q))
 
-  pub lose_kept : (e : List ℕ) (k j : ℕ) (old : VoltageLevel) (other : List ℕ → Option Entry) → Spot e k j old → ((q : List ℕ) → other q ≡ cond (bytes_eq e q) None (look q))
+  pub lose_kept : (e : List ℕ) (k j : ℕ) (old : VoltageLevel) (other : List ℕ → Option IdOwner) → Spot e k j old → ((q : List ℕ) → other q ≡ cond (bytes_eq e q) None (look q))
       → IsKept id heads (slice_set ls k (loses old j)) ts lines (count - 1) other places
   lose_kept e k j old other s is =
       let out = cut_out e old.switches j (one_here e ls k old s.at (one_local e)) s.place in

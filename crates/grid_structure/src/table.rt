@@ -8,7 +8,7 @@ ghost use Rattle.std.proofs.Common.{rules};
 ghost use Rattle.grid_structure.specs.Table.{entry_at, slot_at};
 
 use crate::records::{Clue, Slot};
-use crate::structure::Entry;
+use crate::structure::IdOwner;
 use grid_ids::{Duplicate, Id, Memory};
 use indexmap::IndexMap;
 use indexmap::map::Entry as Place;
@@ -26,7 +26,7 @@ pub struct Seeded {
 /// What has an id, with a clue of where to look for it first.
 #[derive(Clone, Copy, Debug)]
 pub struct Found {
-    pub entry: Option<Entry>,
+    pub entry: Option<IdOwner>,
     pub clue: Clue,
 }
 
@@ -38,9 +38,9 @@ pub struct Table {
 
 impl Model for Table {
     ghost use Rattle.std.specs.Prelude.{List, ℕ};
-    ghost use Rattle.grid_structure.specs.declared.structure.Entry.{Entry};
+    ghost use Rattle.grid_structure.specs.declared.structure.IdOwner.{IdOwner};
 
-    ghost Value = { List (List ℕ × Entry) };
+    ghost Value = { List (List ℕ × IdOwner) };
 
     ghost view = { λ table. table.slots.entries };
 }
@@ -50,7 +50,7 @@ impl Model for Table {
 fn claim_slot(
     slots: &mut IndexMap<Id, Slot, RandomState>,
     id: &Id,
-    entry: Entry,
+    entry: IdOwner,
     clue: Clue,
 ) -> Result<bool, Memory>
     ensures free { IfOk result (λ free. IsTrue free → slot_at slots.old id.now ≡ None) }
@@ -106,7 +106,7 @@ impl Table {
     }
 
     /// What has the id.
-    pub(crate) fn entry(&self, id: &Id) -> Option<Entry>
+    pub(crate) fn entry(&self, id: &Id) -> Option<IdOwner>
         ensures { result ≡ entry_at self.now id.now }
     {
         self.find(id).entry
@@ -114,7 +114,7 @@ impl Table {
 
     /// Puts an entry where none is, and tells whether it did: one search finds both.
     #[tactic(auto, unfolding(crate::specs::Table::slot_at))]
-    pub(crate) fn claim(&mut self, id: &Id, entry: Entry, clue: Clue) -> Result<bool, Memory>
+    pub(crate) fn claim(&mut self, id: &Id, entry: IdOwner, clue: Clue) -> Result<bool, Memory>
         ensures free { IfOk result (λ free. IsTrue free → entry_at self.old id.now ≡ None) }
         ensures put { IfOk result (λ free. IsTrue free → (q : List ℕ) → entry_at self.new q
             ≡ (if bytes_eq id.now q then Some entry else entry_at self.old q)) }
@@ -130,7 +130,7 @@ impl Table {
     }
 
     /// Puts an entry where none is known to be.
-    pub(crate) fn put(&mut self, id: &Id, entry: Entry, clue: Clue) -> Result<(), Memory>
+    pub(crate) fn put(&mut self, id: &Id, entry: IdOwner, clue: Clue) -> Result<(), Memory>
         requires { entry_at self.old id.now ≡ None }
         ensures put { OnOk result ((q : List ℕ) → entry_at self.new q
             ≡ (if bytes_eq id.now q then Some entry else entry_at self.old q)) }

@@ -12,7 +12,7 @@ use Rattle.grid_graph.specs.Joined.{is_least, least_nodes, group_of}
 use Rattle.grid_graph.specs.Graph.{labels_of}
 use Rattle.grid_graph.proofs.Reach.{In, any_of}
 use Rattle.grid_graph.proofs.Least.{filter_In}
-use Rattle.grid_graph.proofs.Renamed.{EndsIn}
+use Rattle.grid_graph.proofs.RenamedNodes.{EndsIn}
 use Rattle.grid_level.specs.VoltageLevel.{VoltageLevel}
 use Rattle.grid_level.specs.Passing.{nodes, bus, passing, positioned, is_rising}
 use Rattle.grid_level.specs.Kept.{KeepsLimits}

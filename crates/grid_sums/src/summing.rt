@@ -25,7 +25,7 @@ pub struct LevelBuses {
     pub sums: Seq<Sums>,
 }
 
-// A sum with some watts more. It is want of memory, too, where it would not fit its type.
+// A sum with some watts more. It is out of memory, too, where it would not fit its type.
 fn add(sum: i128, watts: i64) -> Result<i128, Memory>
     ensures { IfOk result (λ new. new ≡ sum +ℤ watts) }
 {

@@ -9,7 +9,7 @@ use Rattle.grid_graph.specs.Components.{places, component_number, component_numb
 use Rattle.grid_graph.specs.Graph.{Graph, joined_in, least_joined, count_joined}
 use Rattle.grid_graph.proofs.Places.{AreBelow, places_In}
 use Rattle.grid_graph.proofs.Counts.{at_place, long_places}
-use Rattle.grid_graph.proofs.Filtered.{counts_none}
+use Rattle.grid_graph.proofs.FilteredNodes.{counts_none}
 use Rattle.grid_graph.proofs.Least.{least_below, least_same, joined_from_least, leads_itself}
 use Rattle.grid_components.specs.Ranks.{is_key, is_above, rank_in}
 use Rattle.grid_components.proofs.ComponentRanks.{rank_is}

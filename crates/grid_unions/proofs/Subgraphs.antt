@@ -19,9 +19,9 @@ use Rattle.grid_graph.proofs.Reach.{In, In_here, In_there, In_parts, across_from
 use Rattle.grid_graph.proofs.Places.{AreBelow, In_places, places_In, range_In, j_along}
 use Rattle.grid_graph.proofs.Below.{pairs_below}
 use Rattle.grid_graph.proofs.Counts.{by_places}
-use Rattle.grid_graph.proofs.Filtered.{filters_none, filters_same}
+use Rattle.grid_graph.proofs.FilteredNodes.{filters_none, filters_same}
 use Rattle.grid_graph.proofs.Least.{n_refl, n_symm, least_below, least_le}
-use Rattle.grid_graph.proofs.Renamed.{renamed, IsApart, EndsIn, within_renamed}
+use Rattle.grid_graph.proofs.RenamedNodes.{renamed, IsApart, EndsIn, within_renamed}
 use Rattle.grid_components.proofs.Sizes.{counts_map, joined_some}
 use Rattle.grid_components.proofs.Tallies.{Parts, counts_part, counts_same, In_at}
 use Rattle.grid_unions.specs.Ranks.{Ranks, IsGreatest}

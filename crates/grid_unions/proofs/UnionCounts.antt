@@ -14,7 +14,7 @@ use Rattle.grid_graph.specs.Graph.{Graph, graph, EndsBelow, joined_in, least_joi
 use Rattle.grid_graph.proofs.Reach.{In_left, In_right, In_parts, across_from, across_first, across_second}
 use Rattle.grid_graph.proofs.Places.{AreBelow, places_In, range_In}
 use Rattle.grid_graph.proofs.Below.{pairs_below}
-use Rattle.grid_graph.proofs.Filtered.{counts_none}
+use Rattle.grid_graph.proofs.FilteredNodes.{counts_none}
 use Rattle.grid_lemmas.proofs.Counts.{count_cons}
 use Rattle.grid_graph.proofs.Labels.{least_true, least_false}
 use Rattle.grid_graph.proofs.Least.{least_below, least_same, joined_from_least, leads_itself}

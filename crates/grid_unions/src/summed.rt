@@ -50,7 +50,7 @@ impl Model for Summed {
         AreSummed s.unions.nodes s.unions.pairs (sums_before s.sums older) older s.sums };
 }
 
-// The sums of both. It is want of memory, too, where a sum would not fit its type.
+// The sums of both. It is out of memory, too, where a sum would not fit its type.
 fn add_sums(first: Sums, second: Sums) -> Result<Sums, Memory>
     ensures load { IfOk result (λ both. both.load ≡ first.load +ℤ second.load) }
     ensures generation { IfOk result (λ both. both.generation
@@ -94,7 +94,7 @@ impl Summed {
         })
     }
 
-    /// Joins two numbers. Where memory is wanting, or a sum would not fit its type, all is as before.
+    /// Joins two numbers. Where memory runs out, or a sum would not fit its type, all is as before.
     pub fn join(&mut self, a: u32, b: u32) -> Result<(), Memory>
         requires a { a < self.old.net.nodes }
         requires b { b < self.old.net.nodes }

@@ -164,7 +164,7 @@ impl Board {
 /// its own ones, over as many numbers as there are weights.
 ///
 /// A common pair that is gone in no change is joined once. Beside that as many pairs are joined and taken back as are
-/// gone in the changes, times the logarithm of the number of changes, and each change's own pairs once. It is want of
+/// gone in the changes, times the logarithm of the number of changes, and each change's own pairs once. It is out of
 /// memory, too, where a sum would not fit its type, or where the places of the common pairs would not.
 pub fn sweep(
     alloc: Global,

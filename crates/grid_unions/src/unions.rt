@@ -52,7 +52,7 @@ impl Unions {
         })
     }
 
-    /// Joins two numbers. Where memory is wanting, all is as before.
+    /// Joins two numbers. Where memory runs out, all is as before.
     pub fn join(&mut self, a: u32, b: u32) -> Result<(), Memory>
         requires a { a < self.old.nodes }
         requires b { b < self.old.nodes }

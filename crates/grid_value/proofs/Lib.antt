@@ -1,6 +1,6 @@
 pub mod Digits
 pub mod Leaves
 pub mod Turns
-pub mod Growing
-pub mod Spelled
+pub mod MemberLists
+pub mod NodeSpellings
 pub mod Texts

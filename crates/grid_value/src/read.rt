@@ -25,7 +25,7 @@ const USUAL_NODES: usize = 16;
 pub enum ByteFault {
     /// `serde_json` has no reading of the bytes.
     NotJson,
-    /// Memory is wanting.
+    /// Out of memory.
     Memory,
 }
 

@@ -10,7 +10,7 @@ use Rattle.grid_ids.proofs.Alike.{same_is, same_swap}
 use Rattle.grid_level.specs.declared.Placed.{Placed}
 use Rattle.grid_level.specs.VoltageLevel.{VoltageLevel}
 use Rattle.grid_level.specs.LevelEdits.{level_without_equipment}
-use Rattle.grid_level.proofs.Editing as on_level
+use Rattle.grid_level.proofs.LevelEdits as on_level
 use Rattle.grid_structure.specs.Network.{Network, Substation}
 use Rattle.grid_structure.specs.Sites.{levels, equipment_ids}
 use Rattle.grid_structure.specs.Editing.{apply, with_levels, substation_without}

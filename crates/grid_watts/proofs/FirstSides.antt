@@ -12,7 +12,7 @@ use Rattle.grid_level.specs.declared.Stand.TheVariants.{Busbar, Feeder, BranchEn
 use Rattle.grid_level.specs.VoltageLevel.{VoltageLevel}
 use Rattle.grid_level.specs.Passing.{is_branch_end, is_rising, stands_at, placed_at}
 use Rattle.grid_level.specs.Sound.{side_passes, stand_passes, level_passes}
-use Rattle.grid_level.proofs.Editing as on_level
+use Rattle.grid_level.proofs.LevelEdits as on_level
 use Rattle.grid_structure.specs.Network.{Network}
 use Rattle.grid_structure.specs.declared.Site.{Site}
 use Rattle.grid_structure.specs.Sites.{levels, branches, site, first_found, terminal_spot}

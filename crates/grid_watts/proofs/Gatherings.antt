@@ -10,7 +10,7 @@ use Rattle.grid_ids.proofs.Alike.{same_is}
 use Rattle.grid_level.specs.declared.Placed.{Placed}
 use Rattle.grid_level.specs.VoltageLevel.{VoltageLevel}
 use Rattle.grid_level.specs.Passing.{is_rising, placed_at, stands_at}
-use Rattle.grid_level.proofs.Editing as on_level
+use Rattle.grid_level.proofs.LevelEdits as on_level
 use Rattle.grid_structure.specs.Soundness.{IsSound}
 use Rattle.grid_states.specs.Rows.{pairs_at}
 use Rattle.grid_structure.specs.Network.{Network}

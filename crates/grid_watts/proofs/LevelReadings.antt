@@ -15,8 +15,8 @@ use Rattle.grid_level.specs.declared.Stand.{Stand}
 use Rattle.grid_level.specs.declared.Stand.TheVariants.{Busbar, Feeder, BranchEnd}
 use Rattle.grid_level.specs.VoltageLevel.{VoltageLevel}
 use Rattle.grid_level.specs.LevelEdits.{level_with_terminal, level_with_switch, level_with_internal, level_without_internal, level_without_equipment, edge_fits, without_first, joins, no_edge, with_placed}
-use Rattle.grid_level.proofs.Placing as placing
-use Rattle.grid_level.proofs.Editing as on_level
+use Rattle.grid_level.proofs.PlacedTerminals as placing
+use Rattle.grid_level.proofs.LevelEdits as on_level
 use Rattle.grid_structure.specs.Network.{Network, Substation}
 use Rattle.grid_structure.specs.Sites.{levels, switches, level_named, find_level, all_ids, taken, switch_ids, equipment_ids, branch_ends, home_of}
 use Rattle.grid_structure.specs.Editing.{apply, edit_fault, with_level, with_levels, with_substation, level_without_switch, max_switches, place_end, place_ends, in_home, refuse_home, with_branch}

@@ -9,7 +9,7 @@ use Rattle.grid_ids.proofs.Alike.{same_itself}
 use Rattle.grid_level.specs.declared.Placed.{Placed}
 use Rattle.grid_level.specs.VoltageLevel.{VoltageLevel}
 use Rattle.grid_level.specs.Passing.{is_branch_end, is_rising, stands_at}
-use Rattle.grid_level.proofs.Editing as on_level
+use Rattle.grid_level.proofs.LevelEdits as on_level
 use Rattle.grid_structure.specs.Network.{Network}
 use Rattle.grid_structure.specs.Sites.{levels, site}
 use Rattle.grid_structure.specs.Soundness.{IsSound}

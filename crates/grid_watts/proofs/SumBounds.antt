@@ -10,7 +10,7 @@ use Rattle.grid_level.specs.declared.Stand.{Stand}
 use Rattle.grid_level.specs.VoltageLevel.{VoltageLevel}
 use Rattle.grid_level.specs.Passing.{is_rising, named, edges, ends, both}
 use Rattle.grid_level.specs.Sound.{level_passes}
-use Rattle.grid_level.proofs.Editing as on_level
+use Rattle.grid_level.proofs.LevelEdits as on_level
 use Rattle.grid_structure.specs.Network.{Network}
 use Rattle.grid_structure.specs.Sites.{levels}
 use Rattle.grid_structure.specs.Soundness.{IsSound}

@@ -6,7 +6,7 @@ use Rattle.std.proofs.lemmas.Grind.{flat_map-append}
 use Rattle.grid_level.specs.declared.Placed.{Placed}
 use Rattle.grid_level.specs.VoltageLevel.{VoltageLevel}
 use Rattle.grid_level.specs.LevelEdits.{with_placed}
-use Rattle.grid_level.proofs.Placing as placing
+use Rattle.grid_level.proofs.PlacedTerminals as placing
 use Rattle.grid_structure.specs.Network.{Network}
 use Rattle.grid_structure.specs.Sites.{levels, level_named, all_ids}
 use Rattle.grid_structure.specs.Editing.{with_level}

@@ -70,7 +70,7 @@ pub fn lose(powers: &mut Powers, id: &Id, found: Option<&Placed>)
     powers.forget(id);
 }
 
-/// Gives a load, a generator or a battery of this id these watts, in W. After want of memory all is as before.
+/// Gives a load, a generator or a battery of this id these watts, in W. Where memory runs out all is as before.
 #[tactic(auto, unfolding(crate::specs::Moves::set_to, crate::specs::Shares::set_part))]
 pub fn set(powers: &mut Powers, id: Id, placed: &Placed, watts: i64) -> Result<(), Memory>
     requires { HasRoom powers.old }

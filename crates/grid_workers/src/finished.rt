@@ -13,7 +13,7 @@ use std::marker::Brand;
 use std::sync::Wait;
 use std::thread::Threads;
 
-/// What a run leaves: the board, and whether some worker has commands of its script left, for want of memory.
+/// What a run leaves: the board, and whether some worker has commands of its script left, where memory runs out.
 #[derive(Drop)]
 pub struct Finished {
     pub board: Board,

@@ -1,5 +1,5 @@
 use Rattle.grid_graph.proofs.Reach.{joined_refl, joined_symm, joined_trans}
-use Rattle.grid_graph.proofs.Leading.{among_holds}
+use Rattle.grid_graph.proofs.GroupLeaders.{among_holds}
 use Rattle.grid_graph.proofs.joined_is_equivalence.Goals as goal
 
 pub returns : goal.returns

@@ -1,4 +1,4 @@
-use Rattle.grid_graph.proofs.Leading.{among_holds, first_least, led_by, leads_alone}
+use Rattle.grid_graph.proofs.GroupLeaders.{among_holds, first_least, led_by, leads_alone}
 use Rattle.grid_graph.proofs.least_nodes_lead_groups.Goals as goal
 
 pub returns : goal.returns

@@ -1,5 +1,5 @@
 use Rattle.grid_graph.proofs.Reach.{within_le, within_saturates}
-use Rattle.grid_graph.proofs.Leading.{among_holds}
+use Rattle.grid_graph.proofs.GroupLeaders.{among_holds}
 use Rattle.grid_graph.proofs.more_steps_reach_no_less.Goals as goal
 
 pub returns : goal.returns

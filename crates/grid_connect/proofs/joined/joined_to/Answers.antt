@@ -2,7 +2,7 @@ use Rattle.std.proofs.Common.{◌≡◌, ap, ◌∙◌, length}
 use Rattle.std.specs.Prelude.{map, eqb}
 use Rattle.grid_level.specs.Passing.{nodes}
 use Rattle.grid_groups.specs.Labels.{label_of, labels_where}
-use Rattle.grid_paths.proofs.Answered.{IfOk_then}
+use Rattle.grid_paths.proofs.CallAnswers.{IfOk_then}
 use Rattle.grid_connect.specs.Indexed.{marks_where}
 use Rattle.grid_connect.proofs.Marks.{labels_full, marks_long}
 use Rattle.grid_connect.proofs.joined.joined_to.Goals as goal

@@ -1,6 +1,6 @@
 use Rattle.std.proofs.Common.{◌≡◌, rules, arith}
 use Rattle.std.specs.Prelude.{Ok}
-use Rattle.grid_level.proofs.Coding.{few_uses, edges_bound, undone, switch_refused, switch_memory, switch_done, switch_kept}
+use Rattle.grid_level.proofs.CodePromises.{few_uses, edges_bound, undone, switch_refused, switch_memory, switch_done, switch_kept}
 use Rattle.grid_level.specs.LevelEdits.{edge_fits, level_fault_of}
 use Rattle.grid_ids.specs.Refusing.{map_fault}
 use Rattle.grid_level.proofs.Level.add_switch.Goals as goal

@@ -2,8 +2,8 @@ use Rattle.std.proofs.Common.{◌≡◌, ◌∙◌, ap, length, arith}
 use Rattle.std.proofs.lemmas.List.{length-map}
 use Rattle.grid_level.specs.Passing.{edges, switch_ends}
 use Rattle.grid_level.specs.Kept.{lists_of}
-use Rattle.grid_level.proofs.Keeping.{length-edges}
-use Rattle.grid_level.proofs.Reading.{first_ends, internal_ends}
+use Rattle.grid_level.proofs.EditUses.{length-edges}
+use Rattle.grid_level.proofs.LevelReaders.{first_ends, internal_ends}
 use Rattle.grid_level.proofs.Level.edge_ends.Goals as goal
 
 pub returns-then-place-len : goal.returns-then-place-len

@@ -1,6 +1,6 @@
 use Rattle.std.proofs.Common.{arith}
 use Rattle.std.proofs.lemmas.Bool.{leb-true, le-leb}
-use Rattle.grid_level.proofs.Coding.{nodes_counted, room_is}
+use Rattle.grid_level.proofs.CodePromises.{nodes_counted, room_is}
 use Rattle.grid_level.proofs.Level.has_room.Goals as goal
 
 pub overflow_cast-result : goal.overflow_cast-result

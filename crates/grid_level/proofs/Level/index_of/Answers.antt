@@ -1,6 +1,6 @@
 use Rattle.std.proofs.Common.{ap, ◌∙◌, arith}
 use Rattle.std.specs.Prelude.{position, ◌==◌}
-use Rattle.grid_level.proofs.Coding.{used_is, nodes_counted}
+use Rattle.grid_level.proofs.CodePromises.{used_is, nodes_counted}
 use Rattle.grid_level.proofs.Level.index_of.Goals as goal
 
 pub overflow_cast-result : goal.overflow_cast-result

@@ -1,4 +1,4 @@
-use Rattle.grid_level.proofs.Reading.{keeps_limits}
+use Rattle.grid_level.proofs.LevelReaders.{keeps_limits}
 use Rattle.grid_level.proofs.Level.keeps.Goals as goal
 
 pub returns : goal.returns

@@ -2,10 +2,10 @@ use Rattle.std.proofs.Common.{◌≡◌, rules, arith, ◌∙◌}
 use Rattle.std.specs.Prelude.{Ok}
 use Rattle.grid_level.specs.LevelEdits.{terminal_fits, refusal_of}
 use Rattle.grid_level.specs.Uses.{place_among}
-use Rattle.grid_level.proofs.Counting.{without-with}
+use Rattle.grid_level.proofs.NodeCounts.{without-with}
 use Rattle.grid_level.proofs.Places.{place-le}
-use Rattle.grid_level.proofs.Coding.{few_uses}
-use Rattle.grid_level.proofs.Taking.{terminal_refused, terminal_done, terminal_kept}
+use Rattle.grid_level.proofs.CodePromises.{few_uses}
+use Rattle.grid_level.proofs.TakenTerminals.{terminal_refused, terminal_done, terminal_kept}
 use Rattle.grid_level.proofs.Level.place_terminal.Goals as goal
 
 pub returns-in-Err-clause-refused : goal.returns-in-Err-clause-refused

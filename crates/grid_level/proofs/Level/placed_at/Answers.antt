@@ -2,7 +2,7 @@ use Rattle.std.proofs.Common.{◌≡◌, sym, true, false, rules}
 use Rattle.grid_level.specs.Uses.{place_among, key_here}
 use Rattle.grid_level.specs.Passing.{placed_at}
 use Rattle.grid_level.proofs.Terminals.{free_here}
-use Rattle.grid_level.proofs.Taking.{found_at}
+use Rattle.grid_level.proofs.TakenTerminals.{found_at}
 use Rattle.grid_level.proofs.Level.placed_at.Goals as goal
 
 pub returns-then-not-stands_at : goal.returns-then-not-stands_at

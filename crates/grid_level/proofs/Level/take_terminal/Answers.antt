@@ -3,7 +3,7 @@ use Rattle.std.specs.Prelude.{remove}
 use Rattle.grid_level.specs.LevelEdits.{level_without_terminal}
 use Rattle.grid_level.specs.Uses.{place_among}
 use Rattle.grid_level.specs.Passing.{placed_at}
-use Rattle.grid_level.proofs.Taking.{taken_there, found_at, kept_taken}
+use Rattle.grid_level.proofs.TakenTerminals.{taken_there, found_at, kept_taken}
 use Rattle.grid_level.proofs.Level.take_terminal.Goals as goal
 
 pub remove-placed-requires : goal.remove-placed-requires

@@ -5,7 +5,7 @@ use Rattle.grid_level.specs.LevelEdits.{level_fault_of, node_of, max_nodes}
 use Rattle.grid_level.specs.Uses.{place_among, key_here}
 use Rattle.grid_level.specs.Passing.{placed_at, nodes, with_node}
 use Rattle.grid_level.proofs.Terminals.{free_here}
-use Rattle.grid_level.proofs.Taking.{found_at, node_refused, taken_refused, many_refused, fits_done}
+use Rattle.grid_level.proofs.TakenTerminals.{found_at, node_refused, taken_refused, many_refused, fits_done}
 use Rattle.grid_level.proofs.Level.terminal_fits.Goals as goal
 
 pub returns-in-Err-clause-refused : goal.returns-in-Err-clause-refused

@@ -1,5 +1,5 @@
 use Rattle.std.proofs.Common.{◌∙◌}
-use Rattle.grid_paths.proofs.Answered.{OnOk_then}
+use Rattle.grid_paths.proofs.CallAnswers.{OnOk_then}
 use Rattle.grid_paths.proofs.PathSearches.{begin_goal, begin_other}
 use Rattle.grid_paths.proofs.Search.begin.Goals as goal
 

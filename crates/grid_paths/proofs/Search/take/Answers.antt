@@ -1,6 +1,6 @@
 use Rattle.std.proofs.Common.{arith, sym, ◌∙◌}
 use Rattle.grid_paths.specs.Search.{step_weight}
-use Rattle.grid_paths.proofs.Answered.{OnOk_then}
+use Rattle.grid_paths.proofs.CallAnswers.{OnOk_then}
 use Rattle.grid_paths.proofs.Nexts.{step_positive}
 use Rattle.grid_paths.proofs.PathSearches.{takes_none, takes_lowered}
 use Rattle.grid_paths.proofs.Search.take.Goals as goal

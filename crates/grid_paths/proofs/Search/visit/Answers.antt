@@ -1,4 +1,4 @@
-use Rattle.grid_paths.proofs.Answered.{OnOk_then}
+use Rattle.grid_paths.proofs.CallAnswers.{OnOk_then}
 use Rattle.grid_paths.proofs.PathSearches.{visits_edges, found_here}
 use Rattle.std.proofs.Common.{◌∙◌}
 use Rattle.grid_paths.proofs.Search.visit.Goals as goal

@@ -1,6 +1,6 @@
 use Rattle.std.proofs.Common.{arith}
 use Rattle.grid_states.specs.Rows.{shifted}
-use Rattle.grid_slots.proofs.Losing.{one_more}
+use Rattle.grid_slots.proofs.VariantSums.{one_more}
 use Rattle.grid_slots.proofs.changes.shift_each.Goals as goal
 
 pub loop-place-preserved : goal.loop-place-preserved

@@ -1,6 +1,6 @@
 use Rattle.std.proofs.Common.{◌≡◌}
 use Rattle.grid_states.specs.Rows.{shifted}
-use Rattle.grid_slots.proofs.Losing.{first}
+use Rattle.grid_slots.proofs.VariantSums.{first}
 use Rattle.grid_slots.proofs.changes.shift_each.Given as goal
 
 abbrev pub invariant-loop-place : goal.invariant-loop-place

@@ -1,7 +1,7 @@
 use Rattle.std.proofs.Common.{◌≡◌, sym, ap, ◌∙◌, subst, refl, rules, arith, length, set, ◌++◌, ◌∷◌, []}
 use Rattle.std.specs.Prelude.{IsTrue}
 use Rattle.grid_slots.specs.Kept.{IsOwn, IsShared}
-use Rattle.grid_slots.proofs.Keeping.{copy_is, own_copy}
+use Rattle.grid_slots.proofs.SharedRows.{copy_is, own_copy}
 use Rattle.grid_slots.proofs.kept.own_states.Goals as goal
 
 pub returns-clause-ok : goal.returns-clause-ok

@@ -2,7 +2,7 @@ use Rattle.std.proofs.Common.{◌≡◌, sym, ap, ◌∙◌, subst, length, arit
 use Rattle.std.specs.Prelude.{◌==◌}
 use Rattle.std.specs.List.{list_any}
 use Rattle.grid_slots.specs.Kept.{kept_rows, AreKept}
-use Rattle.grid_slots.proofs.Keeping.{released_rows, released, still_kept}
+use Rattle.grid_slots.proofs.SharedRows.{released_rows, released, still_kept}
 use Rattle.grid_slots.proofs.kept.release.Goals as goal
 
 pub returns-then-contains-clause-kept : goal.returns-then-contains-clause-kept

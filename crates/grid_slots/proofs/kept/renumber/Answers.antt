@@ -1,5 +1,5 @@
 use Rattle.std.proofs.Common.{◌<◌, length, ap, ◌∙◌, arith, ℕ, Vec, Global}
-use Rattle.grid_slots.proofs.Keeping.{renumbered, left_number}
+use Rattle.grid_slots.proofs.SharedRows.{renumbered, left_number}
 use Rattle.grid_slots.proofs.kept.renumber.Goals.{then-index-from, else-index-from}
 use Rattle.grid_slots.proofs.kept.renumber.Goals as goal
 

@@ -1,6 +1,6 @@
 use Rattle.std.proofs.Common.{◌≡◌}
 use Rattle.std.specs.Prelude.{◌==◌, if◌then◌else◌}
-use Rattle.grid_slots.proofs.Losing.{first}
+use Rattle.grid_slots.proofs.VariantSums.{first}
 use Rattle.grid_slots.proofs.kept.renumber.Given as goal
 
 abbrev pub invariant-loop-place : goal.invariant-loop-place

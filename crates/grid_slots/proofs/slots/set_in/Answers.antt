@@ -1,6 +1,6 @@
 use Rattle.std.proofs.Common.{sym, subst, ap, ◌∙◌}
 use Rattle.grid_states.specs.Rows.{HasRoom, shifted}
-use Rattle.grid_slots.proofs.Losing.{room_with}
+use Rattle.grid_slots.proofs.VariantSums.{room_with}
 use Rattle.grid_slots.proofs.slots.set_in.Goals as goal
 
 pub shift-requires-clause-room : goal.shift-requires-clause-room

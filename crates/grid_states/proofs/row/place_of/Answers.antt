@@ -3,7 +3,7 @@ use Rattle.std.specs.Prelude.{nat_lt}
 use Rattle.std.proofs.lemmas.List.Sorted.{IsPartitionPoint-from_clause, IsPartitionedBy-ltb}
 use Rattle.grid_level.proofs.Places.{place_from_point, rising_ascends}
 use Rattle.grid_states.specs.declared.row.NodeWatts.{NodeWatts}
-use Rattle.grid_states.proofs.Pairing.{node}
+use Rattle.grid_states.proofs.WattPairs.{node}
 use Rattle.grid_states.proofs.row.place_of.Goals as goal
 
 pub returns-clause-value : goal.returns-clause-value

@@ -1,7 +1,7 @@
 use Rattle.std.proofs.Common.{sym}
 use Rattle.std.proofs.lemmas.Bool.{ltb-true, ltb-false}
 use Rattle.grid_level.proofs.Places.{key_here_get, key_here_past}
-use Rattle.grid_states.proofs.Pairing.{node}
+use Rattle.grid_states.proofs.WattPairs.{node}
 use Rattle.grid_states.proofs.row.stands_at.Goals as goal
 
 pub returns-in-Some-clause-value : goal.returns-in-Some-clause-value

@@ -1,12 +1,12 @@
 use Rattle.std.proofs.Common.{◌≡◌, sym, ◌∙◌, ap, Option, Some, None, cond, ℕ, List, rules}
 use Rattle.std.specs.Str.{bytes_eq}
 use Rattle.std.specs.HashMap.{HashMap, get}
-use Rattle.grid_structure.specs.declared.structure.Entry.{Entry}
+use Rattle.grid_structure.specs.declared.structure.IdOwner.{IdOwner}
 use Rattle.grid_structure.specs.Table.{entry_at, slot_at}
 use Rattle.grid_structure.proofs.Entries.{changed, undone, kept_there}
 use Rattle.grid_structure.proofs.table.claim_slot.Goals as goal
 
-slot_got : {S : Type 0} (slots : HashMap (List ℕ) Entry S) (id : List ℕ) (found : Option Entry) → get bytes_eq slots id ≡ found → slot_at slots id ≡ found
+slot_got : {S : Type 0} (slots : HashMap (List ℕ) IdOwner S) (id : List ℕ) (found : Option IdOwner) → get bytes_eq slots id ≡ found → slot_at slots id ≡ found
 unfolding slot_at entry_at
 slot_got slots id found e = e
 

@@ -8,8 +8,8 @@ use Rattle.serde_json.specs.Data.{array, object, item, no_members}
 use Rattle.serde_json.specs.Read.{of_json, of_items, converted}
 use Rattle.grid_value.specs.View.{data_of, listed_of, put_each}
 use Rattle.grid_value.specs.declared.node.Node.TheVariants as nodes
-use Rattle.grid_value.proofs.Growing.{unchanged, one_more, put_last, grown_leaf, patched, counted, map_ok}
-use Rattle.grid_value.proofs.Spelled.{one_more_item, all_items, one_more_member}
+use Rattle.grid_value.proofs.MemberLists.{unchanged, one_more, put_last, grown_leaf, patched, counted, map_ok}
+use Rattle.grid_value.proofs.NodeSpellings.{one_more_item, all_items, one_more_member}
 use Rattle.grid_value.proofs.Turns.{after, opens_array, opens_object, array_too_deep, object_too_deep, item_turn, item_refused, items_done, member_turn, member_refused, name_refused, members_done}
 use Rattle.grid_value.proofs.read.+read.Goals as goal
 

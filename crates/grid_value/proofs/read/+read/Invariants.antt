@@ -4,7 +4,7 @@ use Rattle.serde_json.specs.Data.{Items, no_members}
 use Rattle.serde_json.specs.Read.{of_items, of_members, converted}
 use Rattle.grid_value.specs.declared.node.Node.{Node}
 use Rattle.grid_value.specs.View.{put_each, listed_of}
-use Rattle.grid_value.proofs.Spelled.{SpellsItems}
+use Rattle.grid_value.proofs.NodeSpellings.{SpellsItems}
 use Rattle.grid_value.proofs.read.+read.Given as goal
 
 abbrev pub decreases-read : goal.decreases-read

@@ -1,6 +1,6 @@
 use Rattle.std.proofs.Common.{◌≡◌, true, false, rules}
 use Rattle.grid_level.specs.Uses.{place_among, key_here, used_nodes}
-use Rattle.grid_level.proofs.Reading.{position_here, position_free}
+use Rattle.grid_level.proofs.LevelReaders.{position_here, position_free}
 use Rattle.grid_level.proofs.uses.Uses.find.Goals as goal
 
 pub returns-then-stands_at-clause-value : goal.returns-then-stands_at-clause-value

@@ -1,7 +1,7 @@
 use Rattle.std.proofs.Common.{◌≡◌, ℕ, List, [], ◌∷◌, ◌++◌, sym, append_assoc}
 use Rattle.std.specs.List.Sorted.{IsPermutation}
 use Rattle.std.proofs.lemmas.List.Sorted.{IsPermutation-sym, IsPermutation-to_front, IsPermutation-middle}
-use Rattle.grid_paths.proofs.Answered.{OnOk_then}
+use Rattle.grid_paths.proofs.CallAnswers.{OnOk_then}
 use Rattle.grid_paths.proofs.front.Front.put.Goals as goal
 
 put_last : (all xs ys zs : List (ℕ × ℕ)) (x : ℕ × ℕ) → xs ++ ys ≡ all → zs ≡ ys ++ x ∷ [] → IsPermutation (x ∷ all) (xs ++ zs)

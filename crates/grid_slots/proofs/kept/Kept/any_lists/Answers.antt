@@ -3,7 +3,7 @@ use Rattle.std.specs.Prelude.{All, is_some}
 use Rattle.grid_states.specs.Pairs.{value_at}
 use Rattle.grid_states.specs.Rows.{Rows, pairs_at}
 use Rattle.grid_slots.specs.Kept.{any_rows_list}
-use Rattle.grid_slots.proofs.Keeping.{all_states, any_same}
+use Rattle.grid_slots.proofs.SharedRows.{all_states, any_same}
 use Rattle.grid_slots.proofs.kept.Kept.any_lists.Goals as goal
 
 pub any_listing-requires : goal.any_listing-requires

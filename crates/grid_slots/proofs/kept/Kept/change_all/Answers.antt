@@ -1,8 +1,8 @@
 use Rattle.std.proofs.Common.{◌≡◌, ap, ◌∙◌, length, arith, set}
 use Rattle.grid_slots.specs.Changes.{after, Fits}
 use Rattle.grid_slots.specs.Kept.{kept_rows}
-use Rattle.grid_slots.proofs.Keeping.{all_states, rows_changed, only_states, alone_changed}
-use Rattle.grid_slots.proofs.Placed.{on_ok}
+use Rattle.grid_slots.proofs.SharedRows.{all_states, rows_changed, only_states, alone_changed}
+use Rattle.grid_slots.proofs.TableEdits.{on_ok}
 use Rattle.grid_slots.proofs.kept.Kept.change_all.Goals as goal
 
 pub change_in-requires : goal.change_in-requires

@@ -1,5 +1,5 @@
 use Rattle.std.proofs.Common.{arith}
-use Rattle.grid_slots.proofs.Keeping.{self_long, below_count, states_are}
+use Rattle.grid_slots.proofs.SharedRows.{self_long, below_count, states_are}
 use Rattle.grid_slots.proofs.kept.Kept.get.Goals as goal
 
 pub index-requires : goal.index-requires

@@ -1,7 +1,7 @@
 use Rattle.std.proofs.Common.{◌<◌, ap, ◌∙◌, arith, length, set}
 use Rattle.grid_states.proofs.Lent.{same_loans}
 use Rattle.grid_slots.specs.Kept.{rows_in_place}
-use Rattle.grid_slots.proofs.Keeping.{rows_long, own_below, own_set, own_at}
+use Rattle.grid_slots.proofs.SharedRows.{rows_long, own_below, own_set, own_at}
 use Rattle.grid_slots.proofs.kept.Kept.get_mut.Goals as goal
 
 pub own_states-requires-clause-place : goal.own_states-requires-clause-place

@@ -1,7 +1,7 @@
 use Rattle.std.proofs.Common.{◌≤◌, sym, ap, ◌∙◌, subst, length, arith}
 use Rattle.std.specs.Prelude.{insert}
 use Rattle.grid_slots.specs.Kept.{rows_in_place, kept_rows, AreKept}
-use Rattle.grid_slots.proofs.Keeping.{self_long, below_count, rows_are, inserted_kept, rows_inserted}
+use Rattle.grid_slots.proofs.SharedRows.{self_long, below_count, rows_are, inserted_kept, rows_inserted}
 use Rattle.grid_slots.proofs.kept.Kept.insert_as.Goals as goal
 
 pub index-number-requires : goal.index-number-requires

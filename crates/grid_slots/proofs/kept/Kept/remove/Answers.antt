@@ -2,7 +2,7 @@ use Rattle.std.proofs.Common.{◌<◌, sym, ap, ◌∙◌, subst, length, arith}
 use Rattle.std.specs.Prelude.{remove}
 use Rattle.std.proofs.lemmas.Grind.{get_or_default_zero}
 use Rattle.grid_slots.specs.Kept.{kept_rows, AreKeptBut}
-use Rattle.grid_slots.proofs.Keeping.{self_long, below_count, removed_kept, rows_removed}
+use Rattle.grid_slots.proofs.SharedRows.{self_long, below_count, removed_kept, rows_removed}
 use Rattle.grid_slots.proofs.kept.Kept.remove.Goals as goal
 
 pub remove-former-requires : goal.remove-former-requires

@@ -1,7 +1,7 @@
 use Rattle.std.proofs.Common.{◌<◌, sym, ap, ◌∙◌, length, arith, set}
 use Rattle.grid_slots.specs.Kept.{rows_in_place}
 use Rattle.std.proofs.lemmas.Grind.{get_or_default_zero}
-use Rattle.grid_slots.proofs.Keeping.{self_long, below_count, rows_are, put_kept, rows_put}
+use Rattle.grid_slots.proofs.SharedRows.{self_long, below_count, rows_are, put_kept, rows_put}
 use Rattle.grid_slots.proofs.kept.Kept.set_as.Goals as goal
 
 pub index-former-requires : goal.index-former-requires

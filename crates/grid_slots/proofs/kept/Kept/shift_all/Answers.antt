@@ -1,7 +1,7 @@
 use Rattle.std.proofs.Common.{ap, ◌∙◌}
 use Rattle.grid_states.specs.Rows.{shifted, HasRoom}
 use Rattle.grid_slots.specs.Kept.{kept_rows}
-use Rattle.grid_slots.proofs.Keeping.{all_states, rows_changed}
+use Rattle.grid_slots.proofs.SharedRows.{all_states, rows_changed}
 use Rattle.grid_slots.proofs.kept.Kept.shift_all.Goals as goal
 
 pub shift_each-requires-clause-room : goal.shift_each-requires-clause-room

@@ -1,4 +1,4 @@
-use Rattle.grid_slots.proofs.Keeping.{first_rows}
+use Rattle.grid_slots.proofs.SharedRows.{first_rows}
 use Rattle.grid_slots.proofs.kept.Kept.start.Goals as goal
 
 pub returns : goal.returns

@@ -3,7 +3,7 @@ use Rattle.std.proofs.lemmas.List.{length-map}
 use Rattle.grid_ids.specs.Clones.{items_clone_equals}
 use Rattle.grid_states.specs.Rows.{Rows, with_empty}
 use Rattle.grid_slots.specs.Kept.{kept_rows, AreKept}
-use Rattle.grid_slots.proofs.Keeping.{all_states, rows_changed}
+use Rattle.grid_slots.proofs.SharedRows.{all_states, rows_changed}
 use Rattle.grid_slots.proofs.kept.Kept.wider.Goals as goal
 
 pub wider_states-requires : goal.wider_states-requires

@@ -1,5 +1,5 @@
 use Rattle.std.proofs.Common.{lit<}
-use Rattle.grid_states.proofs.Placed.{place_in, item_at}
+use Rattle.grid_states.proofs.ChunkPlaces.{place_in, item_at}
 use Rattle.grid_states.proofs.chunks.Chunks.get.Goals as goal
 
 pub returns : goal.returns

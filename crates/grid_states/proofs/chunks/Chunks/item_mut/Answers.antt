@@ -1,7 +1,7 @@
 use Rattle.std.proofs.Common.{lit<, ◌≡◌, ap, ◌∙◌, get_or, set, ◌/◌, ◌%◌}
 use Rattle.std.proofs.lemmas.Result.{IfOk-weaker}
 use Rattle.grid_states.specs.Chunked.{joined}
-use Rattle.grid_states.proofs.Placed.{place_in, item_at, item_set, chunk_kept, set_kept, left_kept}
+use Rattle.grid_states.proofs.ChunkPlaces.{place_in, item_at, item_set, chunk_kept, set_kept, left_kept}
 use Rattle.grid_states.proofs.Lent.{same_functions}
 use Rattle.grid_states.proofs.chunks.Chunks.item_mut.Goals as goal
 

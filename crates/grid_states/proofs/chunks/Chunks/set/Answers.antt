@@ -1,5 +1,5 @@
 use Rattle.std.proofs.Common.{lit<}
-use Rattle.grid_states.proofs.Placed.{place_in, kept, set_if_ok}
+use Rattle.grid_states.proofs.ChunkPlaces.{place_in, kept, set_if_ok}
 use Rattle.grid_states.proofs.chunks.Chunks.set.Goals as goal
 
 pub invariant_of-self : goal.invariant_of-self

@@ -1,6 +1,6 @@
 use Rattle.std.proofs.Common.{◌≡◌, sym, ◌∙◌, true, false, rules}
 use Rattle.grid_level.specs.Uses.{place_among, key_here}
-use Rattle.grid_states.proofs.Pairing.{node, removed_there, none_removed, rising-without_pair}
+use Rattle.grid_states.proofs.WattPairs.{node, removed_there, none_removed, rising-without_pair}
 use Rattle.grid_states.proofs.row.WattsRow.forget.Goals as goal
 
 pub invariant_of-self : goal.invariant_of-self

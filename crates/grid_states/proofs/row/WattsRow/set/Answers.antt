@@ -4,7 +4,7 @@ use Rattle.std.proofs.lemmas.Int.{to_z-of_z}
 use mir.Syntax.{w64}
 use mir.Val.{SFits}
 use Rattle.grid_states.specs.Pairs.{pair, with_pair}
-use Rattle.grid_states.proofs.Pairing.{set_there, put_there, rising-with_pair}
+use Rattle.grid_states.proofs.WattPairs.{set_there, put_there, rising-with_pair}
 use Rattle.grid_states.proofs.row.WattsRow.set.Goals as goal
 
 pub invariant_of-self : goal.invariant_of-self

@@ -3,7 +3,7 @@ use Rattle.std.proofs.lemmas.Int.{to_z-of_z}
 use mir.Syntax.{w64}
 use mir.Val.{SFits}
 use Rattle.grid_level.specs.Uses.{place_among, key_here}
-use Rattle.grid_states.proofs.Pairing.{node, found_value, no_value}
+use Rattle.grid_states.proofs.WattPairs.{node, found_value, no_value}
 use Rattle.grid_states.proofs.row.WattsRow.value.Goals as goal
 
 pub returns-then-stands_at : goal.returns-then-stands_at

@@ -1,4 +1,4 @@
-use Rattle.grid_states.proofs.Ordered.{none_ordered, none_seen}
+use Rattle.grid_states.proofs.PageOrder.{none_ordered, none_seen}
 use Rattle.grid_states.proofs.states.States.empty.Goals as goal
 
 pub invariant_of-result : goal.invariant_of-result

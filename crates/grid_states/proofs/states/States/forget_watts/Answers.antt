@@ -1,5 +1,5 @@
 use Rattle.std.proofs.Common.{◌≡◌, sym, ◌∙◌, None, rules}
-use Rattle.grid_states.proofs.Ordered.{forget_if_ok, left_if_err, unlisted_kept}
+use Rattle.grid_states.proofs.PageOrder.{forget_if_ok, left_if_err, unlisted_kept}
 use Rattle.grid_states.proofs.states.States.forget_watts.Goals as goal
 
 pub returns-clause-ok : goal.returns-clause-ok

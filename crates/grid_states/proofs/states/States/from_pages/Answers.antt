@@ -1,5 +1,5 @@
 use Rattle.grid_states.specs.Rows.{rows_in}
-use Rattle.grid_states.proofs.Ordered.{rows_more}
+use Rattle.grid_states.proofs.PageOrder.{rows_more}
 use Rattle.grid_states.proofs.states.States.from_pages.Goals as goal
 
 pub loop-page-init : goal.loop-page-init

@@ -1,4 +1,4 @@
-use Rattle.grid_states.proofs.Ordered.{gain_if_ok, left_if_err}
+use Rattle.grid_states.proofs.PageOrder.{gain_if_ok, left_if_err}
 use Rattle.grid_states.proofs.states.States.gain.Goals as goal
 
 pub returns-clause-ok : goal.returns-clause-ok

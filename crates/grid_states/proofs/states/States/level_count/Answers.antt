@@ -1,5 +1,5 @@
 use Rattle.std.proofs.Common.{◌∙◌}
-use Rattle.grid_states.proofs.Ordered.{levels_are, levels_are_retained, levels_are_watts}
+use Rattle.grid_states.proofs.PageOrder.{levels_are, levels_are_retained, levels_are_watts}
 use Rattle.grid_states.proofs.states.States.level_count.Goals as goal
 
 pub returns-clause-opened : goal.returns-clause-opened

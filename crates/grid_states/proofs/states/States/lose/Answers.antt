@@ -1,5 +1,5 @@
 use Rattle.std.proofs.Common.{arith, ap, length}
-use Rattle.grid_states.proofs.Ordered.{lose_if_ok, left_if_err}
+use Rattle.grid_states.proofs.PageOrder.{lose_if_ok, left_if_err}
 use Rattle.grid_states.proofs.states.States.lose.Goals as goal
 
 pub remove-requires-clause-opened : goal.remove-requires-clause-opened

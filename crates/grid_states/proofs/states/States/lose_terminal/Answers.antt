@@ -6,7 +6,7 @@ use mir.Val.{SFits}
 use Rattle.grid_states.specs.Pairs.{value_at}
 use Rattle.grid_states.specs.Rows.{HasRoom, pairs_at, shifted, without_terminal}
 use Rattle.grid_states.specs.Sums.{taken}
-use Rattle.grid_states.proofs.Ordered.{room_kept}
+use Rattle.grid_states.proofs.PageOrder.{room_kept}
 use Rattle.grid_states.proofs.states.States.lose_terminal.Goals as goal
 
 pub shift-requires-clause-room : goal.shift-requires-clause-room

@@ -1,5 +1,5 @@
 use Rattle.std.proofs.Common.{arith}
-use Rattle.grid_states.proofs.Ordered.{levels_are, key_in, within, page_is}
+use Rattle.grid_states.proofs.PageOrder.{levels_are, key_in, within, page_is}
 use Rattle.grid_states.proofs.states.States.page.Goals as goal
 
 pub key-requires : goal.key-requires

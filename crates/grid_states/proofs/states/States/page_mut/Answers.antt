@@ -2,7 +2,7 @@ use Rattle.std.proofs.Common.{arith, set}
 use Rattle.std.proofs.lemmas.Result.{IfOk-weaker}
 use Rattle.grid_states.specs.Rows.{with_page}
 use Rattle.grid_states.specs.Order.{rows_of}
-use Rattle.grid_states.proofs.Ordered.{levels_are, key_in, within, page_is, page_set, order_set}
+use Rattle.grid_states.proofs.PageOrder.{levels_are, key_in, within, page_is, page_set, order_set}
 use Rattle.grid_states.proofs.Lent.{same_functions}
 use Rattle.grid_states.proofs.states.States.page_mut.Goals as goal
 

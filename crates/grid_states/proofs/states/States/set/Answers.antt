@@ -1,5 +1,5 @@
 use Rattle.std.proofs.Common.{arith, ap, length}
-use Rattle.grid_states.proofs.Ordered.{set_if_ok, left_if_err}
+use Rattle.grid_states.proofs.PageOrder.{set_if_ok, left_if_err}
 use Rattle.grid_states.proofs.states.States.set.Goals as goal
 
 pub set-requires : goal.set-requires

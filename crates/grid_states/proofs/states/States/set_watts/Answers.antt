@@ -4,7 +4,7 @@ use Rattle.std.proofs.lemmas.Int.{to_z-of_z}
 use mir.Syntax.{w64}
 use mir.Val.{SFits}
 use Rattle.grid_states.specs.Pairs.{with_pair}
-use Rattle.grid_states.proofs.Ordered.{watts_if_ok, left_if_err}
+use Rattle.grid_states.proofs.PageOrder.{watts_if_ok, left_if_err}
 use Rattle.grid_states.proofs.states.States.set_watts.Goals as goal
 
 pub returns-clause-ok : goal.returns-clause-ok

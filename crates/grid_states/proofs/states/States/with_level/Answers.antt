@@ -5,7 +5,7 @@ use mir.Val.{SFits}
 use Rattle.std.specs.Prelude.{insert}
 use Rattle.grid_states.specs.Rows.{Rows, with_page_at}
 use Rattle.grid_states.specs.Order.{IsOrder, rows_of}
-use Rattle.grid_states.proofs.Ordered.{levels_are, order_more, page_more}
+use Rattle.grid_states.proofs.PageOrder.{levels_are, order_more, page_more}
 use Rattle.grid_states.proofs.states.States.with_level.Goals as goal
 
 pub insert-requires : goal.insert-requires

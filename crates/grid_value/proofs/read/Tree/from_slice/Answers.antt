@@ -6,7 +6,7 @@ use Rattle.json.specs.Lex.{tokens}
 use Rattle.json.specs.Json.{value}
 use Rattle.json.specs.Reads.{token_of}
 use Rattle.grid_value.specs.View.{data_at}
-use Rattle.grid_value.proofs.Growing.{grown_alone}
+use Rattle.grid_value.proofs.MemberLists.{grown_alone}
 use Rattle.grid_value.proofs.Texts.{reading_some, reading_none}
 use Rattle.grid_value.proofs.Turns.{whole, whole_some, whole_longer, whole_none}
 use Rattle.grid_value.proofs.read.Tree.from_slice.Goals as goal

@@ -1,4 +1,4 @@
-use Rattle.grid_value.proofs.Spelled.{items_end, items_next}
+use Rattle.grid_value.proofs.NodeSpellings.{items_end, items_next}
 use Rattle.grid_value.proofs.value.Items.next.Goals as goal
 
 pub returns-in-None : goal.returns-in-None

@@ -2,7 +2,7 @@ use Rattle.std.proofs.Common.{◌≡◌, true, false, Some, refl, sym, ap, ◌�
 use Rattle.serde_json.specs.Data.{no_members}
 use Rattle.serde_json.specs.Find.{get_member}
 use Rattle.grid_value.specs.View.{listed, members_view, put_each, data_at}
-use Rattle.grid_value.proofs.Growing.{put_last, found_at}
+use Rattle.grid_value.proofs.MemberLists.{put_last, found_at}
 use Rattle.grid_value.proofs.value.Members.last_of.Goals as goal
 
 pub loop-known-init : goal.loop-known-init

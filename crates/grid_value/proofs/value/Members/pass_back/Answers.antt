@@ -2,7 +2,7 @@ use Rattle.std.proofs.Common.{◌≡◌, ℕ, ◌+◌, ◌-◌, min, List, [], �
 use Rattle.std.proofs.lemmas.List.{take-append-drop, length-drop, length-take}
 use Rattle.grid_value.specs.declared.node.Node.{Node}
 use Rattle.grid_value.specs.View.{listed_of, before, name_of, data_at}
-use Rattle.grid_value.proofs.Spelled.{listed_end, listed_cut}
+use Rattle.grid_value.proofs.NodeSpellings.{listed_end, listed_cut}
 use Rattle.grid_value.proofs.value.Members.pass_back.Goals as goal
 
 nothing : {A : Type 0} (xs : List A) → length xs ≡ 0 → xs ≡ []
