@@ -79,13 +79,13 @@ view_as level other opened watts e same look =
 
 -- ---- what is shown
 
-shown_none : (c : Content) (new : Option Shown) → new ≡ None → IsShownOf c new
+pub shown_none : (c : Content) (new : Option Shown) → new ≡ None → IsShownOf c new
 shown_none c new e = let P : Option Shown → Type 0 = λ z. IsShownOf c z in subst P (sym e) tt
 
 moved : (level other : VoltageLevel) (opened retained : List Bool) (shown : Option Shown) → length opened ≡ length level.switches → SameEnds level other → LookSame level other
     → IsShownOf (content level opened retained) shown → IsShownOf (content other opened retained) shown
 moved level other opened retained None e same look is = tt
-moved level other opened retained (Some s) e same look is = is ∙ view_as level other opened s.powers e same look
+moved level other opened retained (Some s) e same look is = record { long = is.long ∙ ap length look.same_placed; made = is.made ∙ view_as level other opened s.powers e same look }
 
 -- where it stays only where both levels look the same, it is the other level's too
 pub shown_as : (level other : VoltageLevel) (opened retained : List Bool) (old new : Option Shown) (stays : Bool) → length opened ≡ length level.switches → SameEnds level other → (IsTrue stays → LookSame level other)
@@ -97,9 +97,9 @@ shown_as level other opened retained old new false e same look h is = shown_none
 
 -- a view of a level that is kept is that of what is kept for its id
 pub view_in : (kept : Store) (level : VoltageLevel) (opened retained : List Bool) (id : List ℕ) (powers watts : List ℤ) (view made : BusView) → id ≡ level.id → powers ≡ watts → view ≡ made
-    → kept_for kept level.id ≡ Some (content level opened retained) → made ≡ bus_view_of (positioned level opened) watts → IsViewIn kept id powers view
-view_in kept level opened retained id powers watts view made e f same is h c there =
+    → length watts ≡ length level.placed → kept_for kept level.id ≡ Some (content level opened retained) → made ≡ bus_view_of (positioned level opened) watts → IsViewIn kept id powers view
+view_in kept level opened retained id powers watts view made e f same long is h c there =
     let both : Some (content level opened retained) ≡ Some c = sym is ∙ ap (kept_for kept) (sym e) ∙ there in
     let one : content level opened retained ≡ c = cc in
     let P : Content → Type 0 = λ z. IsViewOf z powers view in
-    subst P one (same ∙ h ∙ ap (bus_view_of (positioned level opened)) (sym f))
+    subst P one (record { long = ap length f ∙ long; made = same ∙ h ∙ ap (bus_view_of (positioned level opened)) (sym f) })

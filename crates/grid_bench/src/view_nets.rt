@@ -1,5 +1,5 @@
 // A level's nets under the rules of both views.
-ghost use Rattle.std.specs.Prelude.{◌≡◌, ◌≤◌, ◌+◌, ◌*◌, IfOk, OnOk, OnErr, length, slice_get, Some, unwrap_or};
+ghost use Rattle.std.specs.Prelude.{◌≡◌, ◌≤◌, ◌+◌, ◌*◌, IfOk, OnOk, OnErr, IsTrue, length, slice_get, Some, unwrap_or};
 ghost use Rattle.grid_graph.specs.Graph.{labels_of};
 ghost use Rattle.grid_level.specs.Passing.{nodes};
 ghost use Rattle.grid_queue.specs.Net.{with_passing, passing_graph};
@@ -150,9 +150,9 @@ impl ViewNets {
         }
     }
 
-    /// Lets the edge at a place, between two nodes, pass or not in each net. It visits, and writes to, at most the
-    /// nodes that are joined to one of them before or after. Where memory runs out the nets are as they were, and
-    /// nothing was visited or written.
+    /// Lets the edge at a place, between two nodes, pass or not in each net, and tells whether all labels of the bus
+    /// view are known to stay. It visits, and writes to, at most the nodes that are joined to one of them before or
+    /// after. Where memory runs out the nets are as they were, and nothing was visited or written.
     pub(crate) fn set<L: Ledger, W: Ledger>(
         &mut self,
         edge: u32,
@@ -160,12 +160,14 @@ impl ViewNets {
         bus: bool,
         breaker: bool,
         counts: &mut Counts<L, W>,
-    ) -> Result<(), Memory>
+    ) -> Result<bool, Memory>
         requires bus { IsEdgeOf self.old.bus edge ends.0 ends.1 }
         requires breaker { IsEdgeOf self.old.breaker edge ends.0 ends.1 }
         ensures nets { OnOk result (self.new
             ≡ net_pair (with_passing self.old.bus edge bus) (with_passing self.old.breaker edge
             breaker)) }
+        ensures stay { IfOk result (λ stay. IsTrue stay → labels_of (passing_graph self.new.bus)
+            ≡ labels_of (passing_graph self.old.bus)) }
         ensures same { OnErr result (self.new ≡ self.old) }
         ensures free { OnErr result (counts.new ≡ counts.old) }
         ensures visits { counts.new.visits
@@ -185,7 +187,6 @@ impl ViewNets {
             flags,
             counts,
         )?;
-        self.bus.set(edge, ends, bus, counts);
-        Ok(())
+        Ok(self.bus.set(edge, ends, bus, counts))
     }
 }
