@@ -1,3 +1,5 @@
 pub mod ComponentRanks
+pub mod OrderRanks
 pub mod Sizes
 pub mod Tallies
+pub mod LabelSizes

@@ -1,5 +1,5 @@
 -- The buses of a level with their components, from the numbers of all buses.
-use Rattle.std.proofs.Common.{◌≡◌, refl, sym, ap, ◌∙◌, ℕ, zero, suc, ◌+◌, ◌<◌, ◌≤◌, Bool, List, [], ◌∷◌, length, get_or, take, arith, Option, Some}
+use Rattle.std.proofs.Common.{◌≡◌, refl, sym, ap, ◌∙◌, subst, ℕ, zero, suc, ◌+◌, ◌<◌, ◌≤◌, Bool, List, [], ◌∷◌, length, get_or, take, arith, Option, Some}
 use Rattle.std.proofs.lemmas.List.{length-map}
 use Rattle.std.specs.Prelude.{map, flat_map, slice_get, count_by}
 use Rattle.std.specs.List.{enumerate_from, sum_by}
@@ -26,7 +26,7 @@ use Rattle.grid_islands.specs.Numbering.{node_numbers, numbered, numbered_pairs,
 use Rattle.grid_islands.proofs.Blocks.{kept}
 use Rattle.grid_islands.proofs.LevelNumbers.{before_more}
 use Rattle.grid_islands.proofs.BusPlaces.{buses_as, counted_as, all, all_rows, all_long, pairs_as, pairs_below}
-use Rattle.grid_islands.proofs.ComponentSizes.{number_below, size_as}
+use Rattle.grid_islands.proofs.ComponentSizes.{size_as}
 
 -- no less in a longer front
 sum_by-fronts : {X : Type 0} (f : X → ℕ) (xs : List X) (i j : ℕ) → i ≤ j → sum_by f (take i xs) ≤ sum_by f (take j xs)
@@ -86,16 +86,12 @@ module _ (net : Network) (opened retained : List (List Bool)) where
   unfolding component_numbers
   number_at numbers v e lt = at_place total (component_number total joining) numbers v e lt
 
-  pub numbers_below : (numbers : List ℕ) → numbers ≡ component_numbers total joining → (v : ℕ) → v < length numbers → get_or numbers v 0 < length numbers
-  numbers_below numbers e v lt =
-      let less : v < total = omega (arith, lt, numbers_long numbers e) in
-      omega (arith, number_at numbers v e less, numbers_long numbers e, number_below (graph total joining) (fit_below total joining (pairs_below net opened retained)) v less)
-
-  size_at : (numbers sizes : List ℕ) (v : ℕ) → numbers ≡ component_numbers total joining → ((s : ℕ) → s < length numbers → get_or sizes s 0 ≡ count_by (is_key s) numbers)
+  size_at : (numbers sizes : List ℕ) (v : ℕ) → numbers ≡ component_numbers total joining → ((v : ℕ) → v < length numbers → get_or sizes (get_or numbers v 0) 0 ≡ count_by (is_key (get_or numbers v 0)) numbers)
       → v < total → get_or sizes (component_number total joining v) 0 ≡ length (component_of total joining v)
   size_at numbers sizes v e each lt =
       let fit = fit_below total joining (pairs_below net opened retained) in
-      each (component_number total joining v) (omega (arith, number_below (graph total joining) fit v lt, numbers_long numbers e))
+      let P : ℕ → Type 0 = λ z. get_or sizes z 0 ≡ count_by (is_key z) numbers in
+      subst P (number_at numbers v e lt) (each v (omega (arith, lt, numbers_long numbers e)))
       ∙ ap (count_by (is_key (component_number total joining v))) e ∙ size_as (graph total joining) fit v lt
 
   -- what the calls before give
@@ -165,7 +161,7 @@ module _ (net : Network) (opened retained : List (List Bool)) where
       let within = sum_by-fronts (bus_count opened) (enumerate_from 0 (levels net)) (k + 1) (length (levels net)) (omega (arith, slice_get_within (levels net) k level at)) in
       omega (arith, more, whole, within)
 
-  pub listed_as : (numbers sizes : List ℕ) (k : ℕ) (level : VoltageLevel) → numbers ≡ component_numbers total joining → ((s : ℕ) → s < length numbers → get_or sizes s 0 ≡ count_by (is_key s) numbers)
+  pub listed_as : (numbers sizes : List ℕ) (k : ℕ) (level : VoltageLevel) → numbers ≡ component_numbers total joining → ((v : ℕ) → v < length numbers → get_or sizes (get_or numbers v 0) 0 ≡ count_by (is_key (get_or numbers v 0)) numbers)
       → slice_get (levels net) k ≡ Some level → map (listed numbers sizes) (enumerate_from (buses_before opened (levels net) k) (bus_leasts (standing opened (k, level)))) ≡ level_components net opened retained k
   unfolding level_components network_buses buses_at buses_before standing bus_of
   listed_as numbers sizes k level e each at =

@@ -1,12 +1,12 @@
 -- Where the ends of branches stand, and the pairs of buses that follow.
-use Rattle.std.specs.Prelude.{ℕ, ℤ, pos, negsuc, ◌+◌, ◌<◌, ◌^◌, ◌==◌, ◌||◌, ◌≡◌, ◌≢◌, Bool, false, Option, Some, None, List, [], ◌∷◌, map, position, slice_get, option_and_then}
+use Rattle.std.specs.Prelude.{ℕ, ℤ, pos, negsuc, ◌+◌, ◌<◌, ◌^◌, ◌==◌, ◌||◌, ◌≡◌, ◌≢◌, Bool, false, Option, Some, None, List, [], ◌∷◌, ◌++◌, map, position, slice_get, option_and_then}
 use Rattle.std.specs.Option.{option_map}
+use Rattle.grid_graph.specs.Graph.{Graph, graph}
 use Rattle.grid_level.specs.Passing.{nodes}
 use Rattle.grid_structure.specs.declared.Branch.{Branch}
-use Rattle.grid_structure.specs.declared.Branch.TheVariants.{Line, TwoWindings, ThreeWindings}
 use Rattle.grid_structure.specs.declared.End.{End}
 use Rattle.grid_structure.specs.Network.{Network}
-use Rattle.grid_structure.specs.Sites.{levels, branches, find_level}
+use Rattle.grid_structure.specs.Sites.{levels, branches, branch_ends, find_level}
 use Rattle.grid_islands.specs.declared.kept.KeptLevel.{KeptLevel}
 use Rattle.grid_islands.specs.declared.spots.Spot.{Spot}
 use Rattle.grid_islands.specs.declared.spots.BranchSpots.{BranchSpots}
@@ -30,10 +30,12 @@ spot_of_end net end = option_and_then (λ place. option_and_then (λ level. opti
 abbrev pub spots_at : Option Spot → Option Spot → Option Spot → BranchSpots
 spots_at first second third = record { first = first; second = second; third = third }
 
+-- that of the branch's end at a place among its ends, where there is one
+abbrev pub spot_at_side : Network → Branch → ℕ → Option Spot
+spot_at_side net branch side = option_and_then (spot_of_end net) (slice_get (branch_ends branch) side)
+
 unfoldable pub spots_of_branch : Network → Branch → BranchSpots
-spots_of_branch net (Line end1 end2) = spots_at (spot_of_end net end1) (spot_of_end net end2) None
-spots_of_branch net (TwoWindings substation end1 end2 rated_u1 rated_u2) = spots_at (spot_of_end net end1) (spot_of_end net end2) None
-spots_of_branch net (ThreeWindings substation end1 end2 end3 rated_u1 rated_u2 rated_u3) = spots_at (spot_of_end net end1) (spot_of_end net end2) (spot_of_end net end3)
+spots_of_branch net branch = spots_at (spot_at_side net branch 0) (spot_at_side net branch 1) (spot_at_side net branch 2)
 
 -- those of all branches
 unfoldable pub network_spots : Network → List BranchSpots
@@ -56,6 +58,10 @@ buses_of_spots firsts kept branch = record {
 
 unfoldable pub pairs_of_buses : BranchBuses → List (ℕ × ℕ)
 pairs_of_buses branch = pairs_among (branch.first ∷ branch.second ∷ branch.third ∷ [])
+
+-- a graph with these pairs more
+abbrev pub with_pairs : Graph → List (ℕ × ℕ) → Graph
+with_pairs net pairs = graph net.nodes (net.pairs ++ pairs)
 
 -- ---- what stands in a level
 

@@ -6,10 +6,11 @@ ghost use Rattle.grid_islands.specs.Numbering.{IsCounted, IsOwn, AreNumbers};
 ghost use Rattle.grid_islands.specs.Spots.{pairs_of_buses};
 
 use crate::BusComponents;
+use crate::joins::join_ends;
 use crate::numbering::Counts;
-use crate::sizes::{component_sizes, list_components};
-use crate::spots::{Ends, end_pairs};
-use grid_components::{Components, components};
+use crate::sizes::list_components;
+use crate::spots::Ends;
+use grid_components::{Components, SizedComponents, label_components};
 use grid_ids::{Memory, Seq};
 use std::alloc::Global;
 
@@ -38,14 +39,13 @@ impl Numbers {
         ensures counts { IfOk result (λ numbers. numbers.counts ≡ counts) }
         ensures ends { IfOk result (λ numbers. numbers.ends ≡ ends) }
     {
-        let pairs = end_pairs(alloc, ends.slice())?;
-        let components = components(alloc, counts.count, pairs.slice())?;
-        let sizes = component_sizes(alloc, components.slice())?;
+        let labels = join_ends(alloc, counts.count, ends.slice())?;
+        let SizedComponents { numbers, sizes } = label_components(alloc, labels)?;
         Ok(Numbers {
             counts,
             ends,
-            components,
-            sizes: Seq::from_vec(sizes),
+            components: numbers,
+            sizes,
         })
     }
 

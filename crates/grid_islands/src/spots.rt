@@ -1,13 +1,13 @@
-// Where the ends of branches stand, and the pairs of buses that follow.
-ghost use Rattle.std.specs.Prelude.{◌≡◌, ◌++◌, IfOk, OnOk, List, length, map, flat_map, option_and_then};
+// Where the ends of branches stand, and the buses there.
+ghost use Rattle.std.specs.Prelude.{◌≡◌, IfOk, List, length, map, option_and_then};
 ghost use Rattle.grid_islands.specs.Spots as spots;
 ghost use Rattle.grid_islands.specs.Spots.{NumbersFit, SameElsewhere};
 ghost use Rattle.grid_islands.specs.declared.kept.KeptLevel.{KeptLevel};
 
 use crate::kept::KeptLevel;
-use crate::pairs::{Pairs, node_index, push_between};
+use crate::pairs::node_index;
 use grid_ids::{Memory, Seq};
-use grid_structure::{Branch, End, Structure};
+use grid_structure::{Branch, BranchEnds, End, Structure};
 use std::alloc::Global;
 
 /// Where an end of a branch stands.
@@ -82,19 +82,12 @@ fn spots_from(
 fn spots_of_branch(structure: &Structure, place: u32, branch: &Branch) -> BranchSpots
     ensures { result ≡ spots.spots_of_branch structure.now branch.now }
 {
-    match branch {
-        Branch::Line { end1, end2 } => spots_from(structure, place, end1, end2, None),
-        Branch::TwoWindings { end1, end2, .. } => spots_from(structure, place, end1, end2, None),
-        Branch::ThreeWindings {
-            end1,
-            end2,
-            end3,
-            ..
-        } => {
-            let third = spot_of_end(structure, place, 3, end3);
-            spots_from(structure, place, end1, end2, third)
-        }
-    }
+    let BranchEnds { end1, end2, end3 } = branch.ends();
+    let third = match end3 {
+        Some(end3) => spot_of_end(structure, place, 3, end3),
+        None => None,
+    };
+    spots_from(structure, place, end1, end2, third)
 }
 
 /// The spots of all branches.
@@ -204,27 +197,4 @@ pub(crate) fn follow_level(
             ends.set(place, buses_at(firsts, kept, branch));
         }
     }
-}
-
-// Puts the pairs of a branch last.
-fn push_branch(pairs: &mut Pairs, branch: &BranchBuses) -> Result<(), Memory>
-    ensures { OnOk result (pairs.new ≡ pairs.old ++ spots.pairs_of_buses branch.now) }
-{
-    push_between(pairs, branch.first, branch.second)?;
-    if branch.third.is_none() {
-        return Ok(());
-    }
-    push_between(pairs, branch.first, branch.third)?;
-    push_between(pairs, branch.second, branch.third)
-}
-
-/// The pairs that branches whose ends stand in these buses make of them.
-pub(crate) fn end_pairs(alloc: Global, branches: &[BranchBuses]) -> Result<Pairs, Memory>
-    ensures { IfOk result (λ pairs. pairs ≡ flat_map spots.pairs_of_buses branches.now) }
-{
-    let mut pairs = Pairs::from_vec(Vec::with_capacity(alloc, branches.len())?);
-    for branch in branches {
-        push_branch(&mut pairs, branch)?;
-    }
-    Ok(pairs)
 }

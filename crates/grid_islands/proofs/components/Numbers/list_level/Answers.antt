@@ -11,7 +11,7 @@ use Rattle.grid_components.specs.Ranks.{is_key}
 use Rattle.grid_islands.specs.declared.components.Numbers.{Numbers}
 use Rattle.grid_islands.specs.declared.numbering.Counts.{Counts}
 use Rattle.grid_islands.specs.Numbering.{buses_before, listed, AreNumbers, IsOwn}
-use Rattle.grid_islands.proofs.LevelComponents.{level_exists, level_inside, listed_as, numbers_long, numbers_below, firsts_counted, first_counted, numbers_joined, total, joining}
+use Rattle.grid_islands.proofs.LevelComponents.{level_exists, level_inside, listed_as, numbers_long, firsts_counted, first_counted, numbers_joined, total, joining}
 use Rattle.grid_islands.proofs.components.Numbers.list_level.Goals as goal
 
 pub index-requires : goal.index-requires
@@ -36,14 +36,20 @@ module _ (net : Network) (opened retained : List (List Bool)) (numbers : Numbers
       omega (arith, first_is, ap length (is.own here.0 here.1), numbers_long net opened retained given joined, level_inside net opened retained level here.0 here.1)
 
   sizes_there : (k : ℕ) → k < length given → get_or given k 0 < length sizes
-  sizes_there k lt = omega (arith, numbers_below net opened retained given joined k lt, are.long, ap length as_given, ap length as_sizes)
+  sizes_there k lt =
+      omega (arith, are.below k (omega (arith, lt, ap length as_given)), ap (λ z. get_or z k 0) as_given, ap length as_sizes)
+
+  sizes_are : (v : ℕ) → v < length given → get_or sizes (get_or given v 0) 0 ≡ count_by (is_key (get_or given v 0)) given
+  sizes_are v lt =
+      let s = get_or given v 0 in
+      ap (λ z. get_or z s 0) as_sizes ∙ are.sizes s (omega (arith, sizes_there v lt, ap length as_sizes)) ∙ ap (count_by (is_key s)) (sym as_given)
 
   list_is : map (listed given sizes) (enumerate_from first leasts) ≡ level_components net opened retained level
   list_is =
       let here = level_exists net level is.inside in
       ap (λ z. map (listed given sizes) (enumerate_from z leasts)) first_is ∙ ap (λ z. map (listed given sizes) (enumerate_from (buses_before opened (levels net) level) z)) (is.own here.0 here.1)
       ∙ listed_as net opened retained given sizes level here.0 joined
-      (λ s lt. ap (λ z. get_or z s 0) as_sizes ∙ are.sizes s (omega (arith, lt, ap length as_given)) ∙ ap (count_by (is_key s)) (sym as_given)) here.1
+      sizes_are here.1
 
 pub list_components-requires-clause-buses : goal.list_components-requires-clause-buses
 list_components-requires-clause-buses c =
