@@ -42,18 +42,30 @@ abbrev pub injection_kind_at : Format → Data → Result InjectionKind Fault
 injection_kind_at format d = word_at injection_words d >>= λ kind. known_injection kind format
 
 -- how the parts of a level are joined: by nodes, or by configured buses
+abbrev pub topology_words : List (List ℕ × Topology)
+topology_words = (codes "NODE_BREAKER", topologies.Nodes) ∷ (codes "BUS_BREAKER", topologies.Buses) ∷ []
+
 abbrev pub topology_at : Format → Data → Result Topology Fault
-topology_at format = word_at ((codes "NODE_BREAKER", topologies.Nodes) ∷ (codes "BUS_BREAKER", topologies.Buses) ∷ [])
+topology_at format = word_at topology_words
 
 -- a transformer's kind
+abbrev pub windings_words : List (List ℕ × WindingsKind)
+windings_words = (codes "TWO_WINDINGS", windings.Two) ∷ (codes "THREE_WINDINGS", windings.Three) ∷ []
+
 abbrev pub windings_kind_at : Format → Data → Result WindingsKind Fault
-windings_kind_at format = word_at ((codes "TWO_WINDINGS", windings.Two) ∷ (codes "THREE_WINDINGS", windings.Three) ∷ [])
+windings_kind_at format = word_at windings_words
+
+abbrev pub branch_words : List (List ℕ × BranchKind)
+branch_words = (codes "LINE", branches.Line) ∷ (codes "TWO_WINDINGS", branches.TwoWindings) ∷ (codes "THREE_WINDINGS", branches.ThreeWindings) ∷ []
 
 abbrev pub branch_kind_at : Format → Data → Result BranchKind Fault
-branch_kind_at format = word_at ((codes "LINE", branches.Line) ∷ (codes "TWO_WINDINGS", branches.TwoWindings) ∷ (codes "THREE_WINDINGS", branches.ThreeWindings) ∷ [])
+branch_kind_at format = word_at branch_words
 
 -- what a listener may want to hear
+abbrev pub event_words : List (List ℕ × EventKind)
+event_words =
+    (codes "created", events.Created) ∷ (codes "removed", events.Removed) ∷ (codes "updated", events.Updated)
+    ∷ (codes "variant_created", events.VariantCreated) ∷ (codes "variant_overwritten", events.VariantOverwritten) ∷ (codes "variant_removed", events.VariantRemoved) ∷ []
+
 abbrev pub event_kind_at : Format → Data → Result EventKind Fault
-event_kind_at format = word_at
-    ((codes "created", events.Created) ∷ (codes "removed", events.Removed) ∷ (codes "updated", events.Updated)
-    ∷ (codes "variant_created", events.VariantCreated) ∷ (codes "variant_overwritten", events.VariantOverwritten) ∷ (codes "variant_removed", events.VariantRemoved) ∷ [])
+event_kind_at format = word_at event_words

@@ -12,3 +12,4 @@ pub mod Loading
 pub mod BusPositions
 pub mod OlderFormats
 pub mod Whole
+pub mod Words

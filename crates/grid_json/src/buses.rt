@@ -102,6 +102,9 @@ impl EndDraft {
     }
 }
 
+/// The members of a switch between two configured buses.
+pub const BUS_SWITCH_MEMBERS: &[&str] = &["id", "bus1", "bus2", "open"];
+
 impl FromJson for BusSwitch {
     ghost use Rattle.grid_json.specs.Network.{bus_switch_at};
 
@@ -109,7 +112,7 @@ impl FromJson for BusSwitch {
 
     #[tactic(auto, unfolding(crate::specs::Network::bus_switch_at))]
     fn from_json(alloc: Global, format: Format, value: &Value) -> Result<BusSwitch, ReadError> {
-        only(alloc, value, &["id", "bus1", "bus2", "open"])?;
+        only(alloc, value, BUS_SWITCH_MEMBERS)?;
         let id = member(alloc, format, value, "id")?;
         let bus1 = member(alloc, format, value, "bus1")?;
         let bus2 = member(alloc, format, value, "bus2")?;
@@ -122,6 +125,9 @@ impl FromJson for BusSwitch {
         })
     }
 }
+
+/// The members that all injections at configured buses have.
+pub const BUS_INJECTION_MEMBERS: &[&str] = &["kind", "id", "bus", "connected"];
 
 /// The members of an injection of a kind at a configured bus.
 pub fn names_of_bus_injection(kind: InjectionKind) -> &'static [&'static str]
@@ -186,25 +192,24 @@ impl FromJson for BusInjection {
     }
 }
 
+/// The members of a level with configured buses.
+pub const BUS_LEVEL_MEMBERS: &[&str] = &[
+    "topology",
+    "id",
+    "nominal_v",
+    "low_v",
+    "high_v",
+    "buses",
+    "switches",
+    "injections",
+];
+
 impl FromJson for BusLevelDraft {
     ghost reads = { bus_level_at };
 
     #[tactic(auto, unfolding(crate::specs::Network::bus_level_at))]
     fn from_json(alloc: Global, format: Format, value: &Value) -> Result<BusLevelDraft, ReadError> {
-        only(
-            alloc,
-            value,
-            &[
-                "topology",
-                "id",
-                "nominal_v",
-                "low_v",
-                "high_v",
-                "buses",
-                "switches",
-                "injections",
-            ],
-        )?;
+        only(alloc, value, BUS_LEVEL_MEMBERS)?;
         let id = member(alloc, format, value, "id")?;
         let nominal_v = member(alloc, format, value, "nominal_v")?;
         let low_v = optional(alloc, format, value, "low_v")?;
@@ -224,6 +229,9 @@ impl FromJson for BusLevelDraft {
     }
 }
 
+/// The members of an end at a configured bus.
+pub const BUS_END_MEMBERS: &[&str] = &["level", "bus", "connected"];
+
 impl FromJson for BusEnd {
     ghost use Rattle.grid_json.specs.Network.{bus_end_at};
 
@@ -231,7 +239,7 @@ impl FromJson for BusEnd {
 
     #[tactic(auto, unfolding(crate::specs::Network::bus_end_at))]
     fn from_json(alloc: Global, format: Format, value: &Value) -> Result<BusEnd, ReadError> {
-        only(alloc, value, &["level", "bus", "connected"])?;
+        only(alloc, value, BUS_END_MEMBERS)?;
         let level = member(alloc, format, value, "level")?;
         let bus = member(alloc, format, value, "bus")?;
         let connected = member_otherwise(alloc, format, value, "connected", true)?;

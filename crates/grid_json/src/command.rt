@@ -1,15 +1,14 @@
 // The commands of a script.
-ghost use Rattle.std.specs.Prelude.{◌≡◌, ◌∷◌, codes};
+ghost use Rattle.std.specs.Prelude.{◌≡◌, codes};
 ghost use Rattle.grid_value.specs.View.{view};
 ghost use Rattle.grid_json.specs.Reading.{Gives, texts, or_fault, word_among, word_at};
 ghost use Rattle.grid_json.specs.Command.{known_verb, command_names, plain_names, branch_names, add_level_at, add_busbar_at, add_switch_at, add_internal_at, remove_internal_at, add_injection_at, shape_at, add_branch_at, clone_at, retain_at, set_power_at, edit_at, request_at, plain_words, edit_words, verb_words, line_of, two_windings_of, three_windings_of, named_at, sided_at};
-ghost use Rattle.grid_json.specs.Network.{item_names};
 
 use crate::ends::{Three, Two};
 use crate::format::Format;
 use crate::kinds::{BranchKind, InjectionKind};
-use crate::network::item_of;
-use crate::read::{FromJson, member, member_otherwise, object, only, optional};
+use crate::network::{item_of, names_of_item};
+use crate::read::{FromJson, member, member_otherwise, object, only, only_of_kind, optional};
 use crate::{ReadError, Reason};
 use grid_ids::Id;
 use grid_requests::Request;
@@ -92,18 +91,25 @@ fn edit_verb(word: &str) -> Option<EditVerb>
     }
 }
 
-/// The verb of a word.
+/// The verb of a word, whichever format it came with.
+pub fn verb_named(word: &str) -> Option<Verb>
+    ensures { or_fault Reason.Unknown result ≡ word_among verb_words word.now }
+{
+    if let Some(verb) = plain_verb(word) {
+        return Some(verb);
+    }
+    Some(Verb::Change(edit_verb(word)?))
+}
+
+/// The verb of a value.
 fn verb_of(alloc: Global, value: &Value) -> Result<Verb, ReadError>
     ensures { Gives result (word_at verb_words (view value.now)) }
 {
     let Some(word) = value.as_str() else {
         return Err(ReadError::here(alloc, Reason::WrongKind));
     };
-    if let Some(verb) = plain_verb(word) {
-        return Ok(verb);
-    }
-    match edit_verb(word) {
-        Some(edit) => Ok(Verb::Change(edit)),
+    match verb_named(word) {
+        Some(verb) => Ok(verb),
         None => Err(ReadError::here(alloc, Reason::Unknown)),
     }
 }
@@ -159,7 +165,7 @@ fn names_of_edit(verb: EditVerb) -> &'static [&'static str]
 }
 
 /// The members of a command without a kind.
-fn names_of_command(verb: Verb) -> &'static [&'static str]
+pub fn names_of_command(verb: Verb) -> &'static [&'static str]
     ensures { texts result.now ≡ command_names verb }
 {
     match verb {
@@ -265,40 +271,15 @@ fn remove_internal_of(alloc: Global, format: Format, value: &Value) -> Result<Ed
     })
 }
 
-/// The members of an added injection of a kind.
-fn names_of_injection(kind: InjectionKind) -> &'static [&'static str]
-    ensures { texts result.now
-        ≡ codes "do" ∷ codes "kind" ∷ codes "id" ∷ codes "level" ∷ codes "node" ∷ item_names kind }
-{
-    match kind {
-        InjectionKind::Load => &["do", "kind", "id", "level", "node", "p0", "q0"],
-        InjectionKind::Generator => &[
-            "do", "kind", "id", "level", "node", "target_p", "target_v", "min_p", "max_p",
-        ],
-        InjectionKind::Battery => &[
-            "do", "kind", "id", "level", "node", "target_p", "target_q", "min_p", "max_p",
-        ],
-        InjectionKind::ShuntCompensator => &[
-            "do",
-            "kind",
-            "id",
-            "level",
-            "node",
-            "section_count",
-            "max_sections",
-        ],
-        InjectionKind::StaticVarCompensator | InjectionKind::ConverterStation => {
-            &["do", "kind", "id", "level", "node", "target_q"]
-        }
-    }
-}
+/// The members that all added injections have.
+pub const ADDED_INJECTION_MEMBERS: &[&str] = &["do", "kind", "id", "level", "node"];
 
 #[tactic(auto, unfolding(crate::specs::Command::add_injection_at))]
 fn add_injection_of(alloc: Global, format: Format, value: &Value) -> Result<Edit, ReadError>
     ensures { Gives result (add_injection_at format (view value.now)) }
 {
     let kind = member(alloc, format, value, "kind")?;
-    only(alloc, value, names_of_injection(kind))?;
+    only_of_kind(alloc, value, ADDED_INJECTION_MEMBERS, names_of_item(kind))?;
     let id = member(alloc, format, value, "id")?;
     let level = member(alloc, format, value, "level")?;
     let node = member(alloc, format, value, "node")?;
@@ -312,7 +293,7 @@ fn add_injection_of(alloc: Global, format: Format, value: &Value) -> Result<Edit
 }
 
 /// The members of an added branch of a kind.
-fn names_of_branch(kind: BranchKind) -> &'static [&'static str]
+pub fn names_of_branch(kind: BranchKind) -> &'static [&'static str]
     ensures { texts result.now ≡ branch_names kind }
 {
     match kind {

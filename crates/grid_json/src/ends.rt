@@ -146,6 +146,9 @@ impl<T: FromJson> FromJson for Three<T> {
     }
 }
 
+/// The members of an end at a node.
+pub const END_MEMBERS: &[&str] = &["level", "node"];
+
 impl FromJson for End {
     ghost use Rattle.grid_json.specs.Network.{end_at};
 
@@ -153,7 +156,7 @@ impl FromJson for End {
 
     #[tactic(auto, unfolding(crate::specs::Network::end_at))]
     fn from_json(alloc: Global, format: Format, value: &Value) -> Result<End, ReadError> {
-        only(alloc, value, &["level", "node"])?;
+        only(alloc, value, END_MEMBERS)?;
         let level = member(alloc, format, value, "level")?;
         let node = member(alloc, format, value, "node")?;
         Ok(End { level, node })

@@ -29,6 +29,12 @@ pub struct JobDraft {
     pub order: Option<Order>,
 }
 
+/// The members of a job.
+pub const JOB_MEMBERS: &[&str] = &["format", "network", "listeners", "workers", "order"];
+
+/// The members of a listener.
+pub const LISTENER_MEMBERS: &[&str] = &["kinds", "variant"];
+
 /// The most listeners that a job may have.
 const MOST_LISTENERS: usize = 16;
 
@@ -80,7 +86,7 @@ impl FromJson for Filter {
 
     #[tactic(auto, unfolding(crate::specs::Job::listener_at, crate::specs::Job::filter_of))]
     fn from_json(alloc: Global, format: Format, value: &Value) -> Result<Filter, ReadError> {
-        only(alloc, value, &["kinds", "variant"])?;
+        only(alloc, value, LISTENER_MEMBERS)?;
         let kinds: Seq<EventKind> = member(alloc, format, value, "kinds")?;
         let variant = optional(alloc, format, value, "variant")?;
         let listed = kinds.slice();
@@ -260,11 +266,7 @@ pub fn read_draft(alloc: Global, value: &Value) -> Result<JobDraft, ReadError>
     ensures draft { Gives result (draft_at (view value.now)) }
     ensures total { IfOk result (λ draft. command_total draft.scripts ≤ max_commands) }
 {
-    only(
-        alloc,
-        value,
-        &["format", "network", "listeners", "workers", "order"],
-    )?;
+    only(alloc, value, JOB_MEMBERS)?;
     let format: Format = member(alloc, Format::One, value, "format")?;
     let network = member(alloc, format, value, "network")?;
     let filters = listeners_of(alloc, format, value)?;

@@ -86,7 +86,7 @@ impl FromJson for SwitchKind {
 }
 
 /// The kind of injections that a word of any format names.
-fn injection_named(word: &str) -> Option<InjectionKind>
+pub fn injection_named(word: &str) -> Option<InjectionKind>
     ensures { or_fault Reason.Unknown result ≡ word_among injection_words word.now }
 {
     match word {

@@ -258,13 +258,51 @@ fn load_parts(alloc: Global, draft: NetworkDraft, loader: &mut Loader) -> Result
     load_under(alloc, draft.lines, "lines", &draft.id, loader)
 }
 
+/// How many ids a level and its parts have: of a level with configured buses, at least so many.
+fn count_level_ids(level: &AnyLevelDraft) -> usize {
+    let (busbars, switches, injections) = match level {
+        AnyLevelDraft::Nodes(level) => (
+            level.busbars.len(),
+            level.switches.len(),
+            level.injections.len(),
+        ),
+        AnyLevelDraft::Buses(level) => (
+            level.buses.len(),
+            level.switches.len(),
+            level.injections.len(),
+        ),
+    };
+    busbars
+        .saturating_add(switches)
+        .saturating_add(injections)
+        .saturating_add(1)
+}
+
+/// How many ids a substation, its levels and its transformers have.
+fn count_substation_ids(substation: &SubstationDraft) -> usize {
+    let mut count = substation.transformers.len().saturating_add(1);
+    for level in substation.levels.slice() {
+        count = count.saturating_add(count_level_ids(level));
+    }
+    count
+}
+
+/// How many ids the parts of a network have, for which the table of ids makes room at once.
+fn count_ids(draft: &NetworkDraft) -> usize {
+    let mut count = draft.lines.len();
+    for substation in draft.substations.slice() {
+        count = count.saturating_add(count_substation_ids(substation));
+    }
+    count
+}
+
 /// The network of a draft.
 #[tactic(auto, unfolding(crate::specs::Loading::network_load))]
 pub fn load_network(seeded: Seeded, draft: NetworkDraft) -> Result<Structure, ReadError>
     ensures { Gives result (network_load draft) }
 {
     let alloc = seeded.alloc;
-    let mut loader = Loader::empty(seeded, draft.id.copy()?);
+    let mut loader = Loader::with_room(seeded, draft.id.copy()?, count_ids(&draft))?;
     match load_parts(alloc, draft, &mut loader) {
         Ok(()) => Ok(loader.structure),
         Err(e) => Err(e.under(alloc, "network")),

@@ -1,5 +1,5 @@
 // What is loaded so far of a network.
-ghost use Rattle.std.specs.Prelude.{◌≡◌};
+ghost use Rattle.std.specs.Prelude.{◌≡◌, IfOk};
 ghost use Rattle.grid_json.specs.Reading.{Gives};
 ghost use Rattle.grid_json.specs.Loading.{Leads, bus_level_load, end_check, level_load, loaded_of, nothing_of, three_check, two_check, with_bus_level, with_network};
 
@@ -10,7 +10,7 @@ use crate::load::Load;
 use crate::network::LevelDraft;
 use crate::seen::SeenIds;
 use crate::{ReadError, Reason};
-use grid_ids::Id;
+use grid_ids::{Id, Memory};
 use grid_structure::{End, Seeded, Structure};
 use std::alloc::Global;
 
@@ -22,14 +22,14 @@ pub struct Loader {
 }
 
 impl Loader {
-    /// A network of this id with nothing in it. It takes no memory.
-    pub fn empty(seeded: Seeded, id: Id) -> Loader
-        ensures { loaded_of result ≡ nothing_of id }
+    /// A network of this id with nothing in it, and with room for so many ids.
+    pub fn with_room(seeded: Seeded, id: Id, room: usize) -> Result<Loader, Memory>
+        ensures { IfOk result (λ loader. loaded_of loader ≡ nothing_of id) }
     {
-        Loader {
-            structure: Structure::empty(seeded, id),
+        Ok(Loader {
+            structure: Structure::with_room(seeded, id, room)?,
             bus_levels: SeenIds::empty(seeded.alloc),
-        }
+        })
     }
 
     /// A level of nodes with its parts.

@@ -2,14 +2,14 @@
 ghost use Rattle.std.specs.Prelude.{◌≡◌};
 ghost use Rattle.grid_value.specs.View.{view};
 ghost use Rattle.grid_json.specs.Reading.{Gives, texts};
-ghost use Rattle.grid_json.specs.Network.{either_level_at, injection_names, item_at, level_by, level_members_at, windings_at};
+ghost use Rattle.grid_json.specs.Network.{either_level_at, item_at, item_names, level_by, level_members_at, windings_at};
 
 use crate::ReadError;
 use crate::buses::{BusLevelDraft, EndDraft};
 use crate::ends::{Three, Two};
 use crate::format::Format;
 use crate::kinds::{InjectionKind, Topology, WindingsKind};
-use crate::read::{FromJson, member, member_otherwise, object, only, optional};
+use crate::read::{FromJson, member, member_otherwise, object, only, only_of_kind, optional};
 use grid_ids::{Id, Seq};
 use grid_kinds::{Injection, SwitchKind};
 use grid_value::Value;
@@ -112,6 +112,9 @@ pub struct NetworkDraft {
     pub lines: Seq<LineDraft>,
 }
 
+/// The members of a busbar section.
+pub const BUSBAR_MEMBERS: &[&str] = &["id", "node"];
+
 impl FromJson for BusbarDraft {
     ghost use Rattle.grid_json.specs.Network.{busbar_at};
 
@@ -119,12 +122,23 @@ impl FromJson for BusbarDraft {
 
     #[tactic(auto, unfolding(crate::specs::Network::busbar_at))]
     fn from_json(alloc: Global, format: Format, value: &Value) -> Result<BusbarDraft, ReadError> {
-        only(alloc, value, &["id", "node"])?;
+        only(alloc, value, BUSBAR_MEMBERS)?;
         let id = member(alloc, format, value, "id")?;
         let node = member(alloc, format, value, "node")?;
         Ok(BusbarDraft { id, node })
     }
 }
+
+/// The members of a switch between two nodes.
+pub const SWITCH_MEMBERS: &[&str] = &[
+    "id",
+    "kind",
+    "node1",
+    "node2",
+    "open",
+    "retained",
+    "fictitious",
+];
 
 impl FromJson for SwitchDraft {
     ghost use Rattle.grid_json.specs.Network.{switch_at};
@@ -133,19 +147,7 @@ impl FromJson for SwitchDraft {
 
     #[tactic(auto, unfolding(crate::specs::Network::switch_at))]
     fn from_json(alloc: Global, format: Format, value: &Value) -> Result<SwitchDraft, ReadError> {
-        only(
-            alloc,
-            value,
-            &[
-                "id",
-                "kind",
-                "node1",
-                "node2",
-                "open",
-                "retained",
-                "fictitious",
-            ],
-        )?;
+        only(alloc, value, SWITCH_MEMBERS)?;
         let id = member(alloc, format, value, "id")?;
         let kind = member(alloc, format, value, "kind")?;
         let node1 = member(alloc, format, value, "node1")?;
@@ -165,6 +167,9 @@ impl FromJson for SwitchDraft {
     }
 }
 
+/// The members of an internal connection.
+pub const INTERNAL_MEMBERS: &[&str] = &["node1", "node2"];
+
 impl FromJson for InternalDraft {
     ghost use Rattle.grid_json.specs.Network.{internal_at};
 
@@ -172,31 +177,26 @@ impl FromJson for InternalDraft {
 
     #[tactic(auto, unfolding(crate::specs::Network::internal_at))]
     fn from_json(alloc: Global, format: Format, value: &Value) -> Result<InternalDraft, ReadError> {
-        only(alloc, value, &["node1", "node2"])?;
+        only(alloc, value, INTERNAL_MEMBERS)?;
         let node1 = member(alloc, format, value, "node1")?;
         let node2 = member(alloc, format, value, "node2")?;
         Ok(InternalDraft { node1, node2 })
     }
 }
 
-/// The members of an injection of a kind.
-fn names_of_injection(kind: InjectionKind) -> &'static [&'static str]
-    ensures { texts result.now ≡ injection_names kind }
+/// The members that all injections at nodes have.
+pub const INJECTION_MEMBERS: &[&str] = &["kind", "id", "node"];
+
+/// The members that an injection has by its kind.
+pub fn names_of_item(kind: InjectionKind) -> &'static [&'static str]
+    ensures { texts result.now ≡ item_names kind }
 {
     match kind {
-        InjectionKind::Load => &["kind", "id", "node", "p0", "q0"],
-        InjectionKind::Generator => &[
-            "kind", "id", "node", "target_p", "target_v", "min_p", "max_p",
-        ],
-        InjectionKind::Battery => &[
-            "kind", "id", "node", "target_p", "target_q", "min_p", "max_p",
-        ],
-        InjectionKind::ShuntCompensator => {
-            &["kind", "id", "node", "section_count", "max_sections"]
-        }
-        InjectionKind::StaticVarCompensator | InjectionKind::ConverterStation => {
-            &["kind", "id", "node", "target_q"]
-        }
+        InjectionKind::Load => &["p0", "q0"],
+        InjectionKind::Generator => &["target_p", "target_v", "min_p", "max_p"],
+        InjectionKind::Battery => &["target_p", "target_q", "min_p", "max_p"],
+        InjectionKind::ShuntCompensator => &["section_count", "max_sections"],
+        InjectionKind::StaticVarCompensator | InjectionKind::ConverterStation => &["target_q"],
     }
 }
 
@@ -319,7 +319,7 @@ impl FromJson for InjectionDraft {
     ) -> Result<InjectionDraft, ReadError> {
         object(alloc, value)?;
         let kind = member(alloc, format, value, "kind")?;
-        only(alloc, value, names_of_injection(kind))?;
+        only_of_kind(alloc, value, INJECTION_MEMBERS, names_of_item(kind))?;
         let id = member(alloc, format, value, "id")?;
         let node = member(alloc, format, value, "node")?;
         let item = item_of(alloc, format, kind, value)?;
@@ -352,6 +352,18 @@ fn level_members(alloc: Global, format: Format, value: &Value) -> Result<LevelDr
     })
 }
 
+/// The members of a level of nodes.
+pub const LEVEL_MEMBERS: &[&str] = &[
+    "id",
+    "nominal_v",
+    "low_v",
+    "high_v",
+    "busbars",
+    "switches",
+    "internal",
+    "injections",
+];
+
 impl FromJson for LevelDraft {
     ghost use Rattle.grid_json.specs.Network.{level_at};
 
@@ -359,44 +371,30 @@ impl FromJson for LevelDraft {
 
     #[tactic(auto, unfolding(crate::specs::Network::level_at))]
     fn from_json(alloc: Global, format: Format, value: &Value) -> Result<LevelDraft, ReadError> {
-        only(
-            alloc,
-            value,
-            &[
-                "id",
-                "nominal_v",
-                "low_v",
-                "high_v",
-                "busbars",
-                "switches",
-                "internal",
-                "injections",
-            ],
-        )?;
+        only(alloc, value, LEVEL_MEMBERS)?;
         level_members(alloc, format, value)
     }
 }
+
+/// The members of a level of nodes that may say so.
+pub const NODE_LEVEL_MEMBERS: &[&str] = &[
+    "topology",
+    "id",
+    "nominal_v",
+    "low_v",
+    "high_v",
+    "busbars",
+    "switches",
+    "internal",
+    "injections",
+];
 
 /// A level of nodes that may say so.
 #[tactic(auto, unfolding(crate::specs::Network::level_by))]
 fn node_level(alloc: Global, format: Format, value: &Value) -> Result<AnyLevelDraft, ReadError>
     ensures { Gives result (level_by Topology.Nodes format (view value.now)) }
 {
-    only(
-        alloc,
-        value,
-        &[
-            "topology",
-            "id",
-            "nominal_v",
-            "low_v",
-            "high_v",
-            "busbars",
-            "switches",
-            "internal",
-            "injections",
-        ],
-    )?;
+    only(alloc, value, NODE_LEVEL_MEMBERS)?;
     Ok(AnyLevelDraft::Nodes(level_members(alloc, format, value)?))
 }
 
@@ -458,6 +456,9 @@ pub fn windings_of(
     }
 }
 
+/// The members of a transformer.
+pub const TRANSFORMER_MEMBERS: &[&str] = &["kind", "id", "ends", "rated_u"];
+
 impl FromJson for TransformerDraft {
     ghost use Rattle.grid_json.specs.Network.{transformer_at};
 
@@ -471,12 +472,15 @@ impl FromJson for TransformerDraft {
     ) -> Result<TransformerDraft, ReadError> {
         object(alloc, value)?;
         let kind = member(alloc, format, value, "kind")?;
-        only(alloc, value, &["kind", "id", "ends", "rated_u"])?;
+        only(alloc, value, TRANSFORMER_MEMBERS)?;
         let id = member(alloc, format, value, "id")?;
         let windings = windings_of(alloc, format, kind, value)?;
         Ok(TransformerDraft { id, windings })
     }
 }
+
+/// The members of a line.
+pub const LINE_MEMBERS: &[&str] = &["id", "ends"];
 
 impl FromJson for LineDraft {
     ghost use Rattle.grid_json.specs.Network.{line_at};
@@ -485,12 +489,15 @@ impl FromJson for LineDraft {
 
     #[tactic(auto, unfolding(crate::specs::Network::line_at))]
     fn from_json(alloc: Global, format: Format, value: &Value) -> Result<LineDraft, ReadError> {
-        only(alloc, value, &["id", "ends"])?;
+        only(alloc, value, LINE_MEMBERS)?;
         let id = member(alloc, format, value, "id")?;
         let ends = member(alloc, format, value, "ends")?;
         Ok(LineDraft { id, ends })
     }
 }
+
+/// The members of a substation.
+pub const SUBSTATION_MEMBERS: &[&str] = &["id", "levels", "transformers"];
 
 impl FromJson for SubstationDraft {
     ghost use Rattle.grid_json.specs.Network.{substation_at};
@@ -503,7 +510,7 @@ impl FromJson for SubstationDraft {
         format: Format,
         value: &Value,
     ) -> Result<SubstationDraft, ReadError> {
-        only(alloc, value, &["id", "levels", "transformers"])?;
+        only(alloc, value, SUBSTATION_MEMBERS)?;
         let id = member(alloc, format, value, "id")?;
         let levels = member_otherwise(alloc, format, value, "levels", Seq::empty(alloc))?;
         let transformers = member_otherwise(
@@ -521,6 +528,9 @@ impl FromJson for SubstationDraft {
     }
 }
 
+/// The members of a network.
+pub const NETWORK_MEMBERS: &[&str] = &["id", "substations", "lines"];
+
 impl FromJson for NetworkDraft {
     ghost use Rattle.grid_json.specs.Network.{network_at};
 
@@ -528,7 +538,7 @@ impl FromJson for NetworkDraft {
 
     #[tactic(auto, unfolding(crate::specs::Network::network_at))]
     fn from_json(alloc: Global, format: Format, value: &Value) -> Result<NetworkDraft, ReadError> {
-        only(alloc, value, &["id", "substations", "lines"])?;
+        only(alloc, value, NETWORK_MEMBERS)?;
         let id = member(alloc, format, value, "id")?;
         let substations = member_otherwise(alloc, format, value, "substations", Seq::empty(alloc))?;
         let lines = member_otherwise(alloc, format, value, "lines", Seq::empty(alloc))?;

@@ -1,5 +1,5 @@
 // Reading values from JSON, each with the first fault and its place.
-ghost use Rattle.std.specs.Prelude.{◌≡◌, ℕ, Result, IfOk, length, is_some};
+ghost use Rattle.std.specs.Prelude.{◌≡◌, ◌++◌, ℕ, Result, IfOk, length, is_some};
 ghost use Rattle.std.specs.List.{list_any, position};
 ghost use Rattle.std.specs.Str.{bytes_eq};
 ghost use Rattle.serde_json.specs.Data.{Data};
@@ -136,25 +136,34 @@ fn first_place(names: &[&str], name: &str) -> Option<usize>
     names.iter().position(|known| same_text(known, name))
 }
 
-/// A place of the name among those given. The one at `likely` is looked at first.
-fn place_of(names: &[&str], name: &str, likely: usize) -> Option<usize>
-    ensures { is_some result ≡ list_any (λ known. bytes_eq known.now name.now) names.now }
+/// A place of the name among those given, or behind them all where it is among those of a kind. The one at `likely` is
+/// looked at first.
+fn place_of(names: &[&str], of_kind: &[&str], name: &str, likely: usize) -> Option<usize>
+    ensures { is_some result ≡ list_any (λ known. bytes_eq known.now name.now)
+        (names.now ++ of_kind.now) }
 {
     if likely < names.len() && same_text(names[likely], name) {
         return Some(likely);
     }
-    first_place(names, name)
+    if let Some(place) = first_place(names, name) {
+        return Some(place);
+    }
+    match first_place(of_kind, name) {
+        Some(_) => Some(names.len()),
+        None => None,
+    }
 }
 
-/// Whether each member's name is among those given. Most objects have their members in the order in which the names
-/// stand, so that the name before the one that was found is the likely one of the member before it.
-fn has_only(names: &[&str], members: &Members) -> bool
-    ensures { result ≡ all_known (texts names.now) (members_view members.now) }
+/// Whether each member's name is among those given: those that all kinds have, and those that a kind brings. Most
+/// objects have their members in the order in which the names stand, so that the name before the one that was found is
+/// the likely one of the member before it.
+fn has_only(names: &[&str], of_kind: &[&str], members: &Members) -> bool
+    ensures { result ≡ all_known (texts (names.now ++ of_kind.now)) (members_view members.now) }
 {
     let mut left = *members;
     let mut behind = names.len();
     while let Some((name, _)) = left.next_back() {
-        match place_of(names, name, behind.saturating_sub(1)) {
+        match place_of(names, of_kind, name, behind.saturating_sub(1)) {
             Some(place) => behind = place,
             None => return false,
         }
@@ -162,18 +171,30 @@ fn has_only(names: &[&str], members: &Members) -> bool
     true
 }
 
-/// The value is an object that has no member but these.
-pub fn only(alloc: Global, value: &Value, names: &[&str]) -> Result<(), ReadError>
-    ensures { Gives result (only_at (texts names.now) (view value.now)) }
+/// The value is an object that has no member but these: those that all kinds have, and those that its kind brings.
+pub fn only_of_kind(
+    alloc: Global,
+    value: &Value,
+    names: &[&str],
+    of_kind: &[&str],
+) -> Result<(), ReadError>
+    ensures { Gives result (only_at (texts (names.now ++ of_kind.now)) (view value.now)) }
 {
     let Some(members) = value.as_object() else {
         return Err(ReadError::here(alloc, Reason::WrongKind));
     };
-    if has_only(names, &members) {
+    if has_only(names, of_kind, &members) {
         Ok(())
     } else {
         Err(ReadError::here(alloc, Reason::Unknown))
     }
+}
+
+/// The value is an object that has no member but these.
+pub fn only(alloc: Global, value: &Value, names: &[&str]) -> Result<(), ReadError>
+    ensures { Gives result (only_at (texts names.now) (view value.now)) }
+{
+    only_of_kind(alloc, value, names, &[])
 }
 
 impl<T: FromJson> FromJson for Seq<T> {

@@ -108,6 +108,18 @@ impl FromTokens for InjectionKind {
     }
 }
 
+// How much more room than its items a list may keep.
+const SPARE: usize = 8;
+
+/// Gives back the room of a list, where there is much more of it than items: lists of a draft stand until all is read.
+fn give_back<T: Drop>(list: &mut Vec<T>)
+    ensures { list.new.items ≡ list.old.items }
+{
+    if list.capacity() - list.len() > SPARE {
+        list.shrink_to_fit();
+    }
+}
+
 impl<T: FromTokens> FromTokens for Seq<T> {
     fn from_tokens(
         alloc: Global,
@@ -121,12 +133,13 @@ impl<T: FromTokens> FromTokens for Seq<T> {
         let Some(Token::BeginArray) = reader.next() else {
             return None;
         };
-        let mut list = Seq::empty(alloc);
+        let mut list = Vec::new(alloc);
         'items: while !reader.take_end_array() {
             let item = T::from_tokens(alloc, format, reader, depth - 1)?;
             list.push(item).ok()?;
         }
-        Some(list)
+        give_back(&mut list);
+        Some(Seq::from_vec(list))
     }
 }
 

@@ -1,38 +1,19 @@
 //! The members that the objects of a job may have, and the words that it may use: for the line on standard error.
-//! They are those of the reader, listed once more.
+//! Those of networks and of scripts are the tables of their reader. Those of other inputs stand here.
 
 use crate::sentence::{Members, Words};
 use grid_forms::Form;
+use grid_json::{
+    ADDED_INJECTION_MEMBERS, BUS_END_MEMBERS, BUS_INJECTION_MEMBERS, BUS_LEVEL_MEMBERS,
+    BUS_SWITCH_MEMBERS, BUSBAR_MEMBERS, BranchKind, END_MEMBERS, EditVerb, INJECTION_MEMBERS,
+    INTERNAL_MEMBERS, JOB_MEMBERS, LEVEL_MEMBERS, LINE_MEMBERS, LISTENER_MEMBERS, NETWORK_MEMBERS,
+    NODE_LEVEL_MEMBERS, SUBSTATION_MEMBERS, SWITCH_MEMBERS, TRANSFORMER_MEMBERS, Verb,
+    branch_words, command_words, event_words, injection_named, injection_words, names_of_branch,
+    names_of_command, names_of_item, switch_words, topology_words, transformer_words, verb_named,
+};
 
 /// What stands in one column of a table, by what stands in the other.
 type Row = (&'static str, Members);
-
-/// The words of `do`, by the format that each came with.
-const COMMANDS: [(&str, i64); 23] = [
-    ("add_branch", 1),
-    ("add_busbar", 1),
-    ("add_injection", 1),
-    ("add_internal", 1),
-    ("add_level", 1),
-    ("add_substation", 1),
-    ("add_switch", 1),
-    ("bus_breaker_view", 1),
-    ("bus_view", 1),
-    ("clone", 1),
-    ("close", 1),
-    ("components", 1),
-    ("connect", 1),
-    ("disconnect", 1),
-    ("open", 1),
-    ("remove", 1),
-    ("remove_equipment", 1),
-    ("remove_internal", 1),
-    ("remove_switch", 1),
-    ("use", 1),
-    ("retain", 2),
-    ("set_power", 3),
-    ("totals", 3),
-];
 
 /// The words of `do` in a job with configured buses.
 const CONFIGURED_COMMANDS: [(&str, i64); 8] = [
@@ -46,23 +27,6 @@ const CONFIGURED_COMMANDS: [(&str, i64); 8] = [
     ("use", 1),
 ];
 
-const SWITCHES: [(&str, i64); 3] = [
-    ("BREAKER", 1),
-    ("DISCONNECTOR", 1),
-    ("LOAD_BREAK_SWITCH", 1),
-];
-
-const INJECTIONS: [(&str, i64); 6] = [
-    ("LOAD", 1),
-    ("GENERATOR", 1),
-    ("BATTERY", 1),
-    ("SHUNT_COMPENSATOR", 1),
-    ("STATIC_VAR_COMPENSATOR", 1),
-    ("CONVERTER_STATION", 4),
-];
-
-const TRANSFORMERS: [(&str, i64); 2] = [("TWO_WINDINGS", 1), ("THREE_WINDINGS", 1)];
-
 /// The pieces of which contingencies are made.
 const PIECES: [(&str, i64); 7] = [
     ("LINE", 1),
@@ -74,41 +38,27 @@ const PIECES: [(&str, i64); 7] = [
     ("BREAKER", 1),
 ];
 
-/// Of what a level's parts are joined.
-const TOPOLOGIES: [(&str, i64); 2] = [("NODE_BREAKER", 5), ("BUS_BREAKER", 5)];
-
 /// What becomes of the piece of a contingency that is made.
 const ROLES: [(&str, i64); 2] = [("out", 1), ("fault", 1)];
 
 /// Of which findings the lines are told.
 const TOLD: [(&str, i64); 2] = [("all", 1), ("losses", 1)];
 
-const BRANCHES: [(&str, i64); 3] = [("LINE", 1), ("TWO_WINDINGS", 1), ("THREE_WINDINGS", 1)];
-
-const EVENTS: [(&str, i64); 6] = [
-    ("created", 1),
-    ("removed", 1),
-    ("updated", 1),
-    ("variant_created", 1),
-    ("variant_overwritten", 1),
-    ("variant_removed", 1),
-];
-
 /// What the kind is of, in an object that stands in this array or is this command.
 pub(crate) fn kinds_of(holder: &str, command: &str) -> Option<Words> {
     match (holder, command) {
-        ("switches", _) | (_, "add_switch") => Some(&SWITCHES),
-        ("injections", _) | (_, "add_injection") => Some(&INJECTIONS),
-        ("transformers", _) => Some(&TRANSFORMERS),
+        ("switches", _) | (_, "add_switch") => Some(switch_words()),
+        ("injections", _) | (_, "add_injection") => Some(injection_words()),
+        ("transformers", _) => Some(transformer_words()),
         ("each", _) => Some(&PIECES),
-        (_, "add_branch") => Some(&BRANCHES),
+        (_, "add_branch") => Some(branch_words()),
         _ => None,
     }
 }
 
 /// The words that choose a level's parts.
 pub(crate) fn topologies() -> Words {
-    &TOPOLOGIES
+    topology_words()
 }
 
 /// What may become of a piece.
@@ -123,14 +73,14 @@ pub(crate) fn told_words() -> Words {
 
 /// The events that a listener may hear.
 pub(crate) fn events() -> Words {
-    &EVENTS
+    event_words()
 }
 
 /// The words of `do`.
 pub(crate) fn commands(form: Option<Form>) -> Words {
     match form {
         Some(Form::Configured(_)) => &CONFIGURED_COMMANDS,
-        _ => &COMMANDS,
+        _ => command_words(),
     }
 }
 
@@ -155,8 +105,6 @@ fn column_of(table: &[Row], word: &str, otherwise: &'static str) -> &'static str
     otherwise
 }
 
-const JOB: &[&str] = &["format", "network", "listeners", "workers", "order"];
-
 const CONFIGURED: &[&str] = &["format", "configured", "workers", "order"];
 
 /// Those of a job with contingencies in the second format.
@@ -169,7 +117,7 @@ fn members_of_top(form: Option<Form>) -> Members {
     match form {
         Some(Form::Hvdc(_)) => HVDC,
         Some(Form::Configured(_)) => CONFIGURED,
-        _ => JOB,
+        _ => JOB_MEMBERS,
     }
 }
 
@@ -185,7 +133,7 @@ const FORMS: [(&str, Members, &str); 4] = [
     ),
     (
         "network",
-        JOB,
+        JOB_MEMBERS,
         ": this is a job for check, replay, run or print (63)",
     ),
 ];
@@ -216,47 +164,24 @@ pub(crate) fn other_form(names: &[&str]) -> &'static str {
 pub(crate) fn members_of_named(form: Option<Form>, name: &str) -> Option<Members> {
     match name {
         "" => Some(members_of_top(form)),
-        "job" => Some(JOB),
-        "network" => Some(&["id", "substations", "lines"]),
+        "job" => Some(JOB_MEMBERS),
+        "network" => Some(NETWORK_MEMBERS),
         "configured" => Some(&["id", "levels", "lines"]),
         _ => None,
     }
 }
 
 const ITEMS: [Row; 11] = [
-    ("substations", &["id", "levels", "transformers"]),
-    (
-        "levels",
-        &[
-            "id",
-            "nominal_v",
-            "low_v",
-            "high_v",
-            "busbars",
-            "switches",
-            "internal",
-            "injections",
-        ],
-    ),
-    ("busbars", &["id", "node"]),
-    (
-        "switches",
-        &[
-            "id",
-            "kind",
-            "node1",
-            "node2",
-            "open",
-            "retained",
-            "fictitious",
-        ],
-    ),
-    ("internal", &["node1", "node2"]),
-    ("injections", &["kind", "id", "node"]),
-    ("transformers", &["kind", "id", "ends", "rated_u"]),
-    ("lines", &["id", "ends"]),
-    ("ends", &["level", "node"]),
-    ("listeners", &["kinds", "variant"]),
+    ("substations", SUBSTATION_MEMBERS),
+    ("levels", LEVEL_MEMBERS),
+    ("busbars", BUSBAR_MEMBERS),
+    ("switches", SWITCH_MEMBERS),
+    ("internal", INTERNAL_MEMBERS),
+    ("injections", INJECTION_MEMBERS),
+    ("transformers", TRANSFORMER_MEMBERS),
+    ("lines", LINE_MEMBERS),
+    ("ends", END_MEMBERS),
+    ("listeners", LISTENER_MEMBERS),
     ("hvdc", &["id", "station1", "station2"]),
 ];
 
@@ -265,34 +190,13 @@ pub(crate) fn members_of_item(holder: &str) -> Option<Members> {
     members_in(&ITEMS, holder)
 }
 
-/// Those of a level of nodes, in a format that has both kinds of levels.
-const NODE_LEVEL: Members = &[
-    "topology",
-    "id",
-    "nominal_v",
-    "low_v",
-    "high_v",
-    "busbars",
-    "switches",
-    "internal",
-    "injections",
-];
-
-/// Those of a level with configured buses.
-const BUS_LEVEL: Members = &[
-    "topology",
-    "id",
-    "nominal_v",
-    "low_v",
-    "high_v",
-    "buses",
-    "switches",
-    "injections",
-];
-
 /// The members of a level, in a format that has both kinds of levels.
 pub(crate) fn members_of_level(has_buses: bool) -> Members {
-    if has_buses { BUS_LEVEL } else { NODE_LEVEL }
+    if has_buses {
+        BUS_LEVEL_MEMBERS
+    } else {
+        NODE_LEVEL_MEMBERS
+    }
 }
 
 /// The members of an object of a job with contingencies, but of what all jobs have, by the job's format: of the object
@@ -313,10 +217,10 @@ const CONFIGURED_ITEMS: [Row; 5] = [
         "levels",
         &["id", "nominal_v", "buses", "switches", "injections"],
     ),
-    ("switches", &["id", "bus1", "bus2", "open"]),
-    ("injections", &["kind", "id", "bus", "connected"]),
-    ("lines", &["id", "ends"]),
-    ("ends", &["level", "bus", "connected"]),
+    ("switches", BUS_SWITCH_MEMBERS),
+    ("injections", BUS_INJECTION_MEMBERS),
+    ("lines", LINE_MEMBERS),
+    ("ends", BUS_END_MEMBERS),
 ];
 
 /// The members of an object that stands in an array of a network with configured buses, or in one of a level with such
@@ -325,71 +229,22 @@ pub(crate) fn members_of_configured(holder: &str) -> Option<Members> {
     members_in(&CONFIGURED_ITEMS, holder)
 }
 
-const KINDS: [Row; 6] = [
-    ("LOAD", &["p0", "q0"]),
-    ("GENERATOR", &["target_p", "target_v", "min_p", "max_p"]),
-    ("BATTERY", &["target_p", "target_q", "min_p", "max_p"]),
-    ("SHUNT_COMPENSATOR", &["section_count", "max_sections"]),
-    ("STATIC_VAR_COMPENSATOR", &["target_q"]),
-    ("CONVERTER_STATION", &["target_q"]),
-];
-
 /// The members that an injection has by its kind.
 pub(crate) fn members_of_kind(kind: &str) -> Members {
-    members_in(&KINDS, kind).unwrap_or(&[])
+    match injection_named(kind) {
+        Some(kind) => names_of_item(kind),
+        None => &[],
+    }
 }
-
-const COMMAND_MEMBERS: [Row; 23] = [
-    ("use", &["do", "variant"]),
-    ("remove", &["do", "variant"]),
-    ("open", &["do", "switch"]),
-    ("close", &["do", "switch"]),
-    ("retain", &["do", "switch", "retained"]),
-    ("set_power", &["do", "equipment", "watts"]),
-    ("totals", &["do"]),
-    ("connect", &["do", "equipment", "side"]),
-    ("disconnect", &["do", "equipment", "side"]),
-    ("bus_breaker_view", &["do", "level"]),
-    ("bus_view", &["do", "level"]),
-    ("components", &["do", "level"]),
-    ("clone", &["do", "from", "to", "overwrite"]),
-    ("add_injection", &["do", "kind", "id", "level", "node"]),
-    (
-        "add_branch",
-        &["do", "kind", "id", "ends", "substation", "rated_u"],
-    ),
-    ("add_substation", &["do", "id"]),
-    ("remove_switch", &["do", "id"]),
-    ("remove_equipment", &["do", "id"]),
-    (
-        "add_level",
-        &["do", "id", "substation", "nominal_v", "low_v", "high_v"],
-    ),
-    ("add_busbar", &["do", "id", "level", "node"]),
-    (
-        "add_switch",
-        &[
-            "do",
-            "id",
-            "level",
-            "kind",
-            "node1",
-            "node2",
-            "open",
-            "retained",
-            "fictitious",
-        ],
-    ),
-    ("add_internal", &["do", "level", "node1", "node2"]),
-    ("remove_internal", &["do", "level", "node1", "node2"]),
-];
 
 /// The members of a command by its word, but those that its kind brings. A line is a branch with fewer.
 pub(crate) fn members_of_command(command: &str, is_line: bool) -> Option<Members> {
-    if is_line && command == "add_branch" {
-        return Some(&["do", "kind", "id", "ends"]);
-    }
-    members_in(&COMMAND_MEMBERS, command)
+    Some(match verb_named(command)? {
+        Verb::Change(EditVerb::AddInjection) => ADDED_INJECTION_MEMBERS,
+        Verb::Change(EditVerb::AddBranch) if is_line => names_of_branch(BranchKind::Line),
+        Verb::Change(EditVerb::AddBranch) => names_of_branch(BranchKind::TwoWindings),
+        verb => names_of_command(verb),
+    })
 }
 
 const UNITS: [Row; 3] = [

@@ -88,6 +88,14 @@ impl Table {
         }
     }
 
+    /// A table of nothing with room for so many ids, which need no memory for their places.
+    pub(crate) fn with_room(seeded: Seeded, room: usize) -> Result<Table, Memory>
+        ensures { IfOk result (λ table. table ≡ []) }
+    {
+        let slots = IndexMap::with_capacity_and_hasher(seeded.alloc, room, seeded.hasher)?;
+        Ok(Table { slots })
+    }
+
     /// What has the id, with its clue.
     #[tactic(auto, unfolding(crate::specs::Table::entry_at))]
     pub(crate) fn find(&self, id: &Id) -> Found

@@ -8,6 +8,6 @@ pub returns-in-Err : goal.returns-in-Err
 unfolding network_load
 returns-in-Err c =
     let parts = parts_load c.args.draft (nothing_of c.args.draft.id) in
-    let began : loaded_of c.empty-loader.result ≡ nothing_of c.args.draft.id = c.empty-loader.ensures ∙ ap nothing_of c.in_ok-copy.ensures in
+    let began : loaded_of c.in_ok-loader.loader ≡ nothing_of c.args.draft.id = c.in_ok-loader.ensures ∙ ap nothing_of c.in_ok-copy.ensures in
     let failed : Fails c.in-Err.e parts = rw began at c.in-Err.ensures in
     fails_on (λ (all : Loaded). Ok all.network) (under (codes "network") parts) c.under.result (under_fails (codes "network") parts c.in-Err.e c.under.result failed c.under.ensures)

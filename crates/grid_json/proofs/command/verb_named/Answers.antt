@@ -2,10 +2,10 @@ use Rattle.std.proofs.Common.{◌≡◌, sym, ap, ◌∙◌, ℕ, Bool, true, fa
 use Rattle.std.specs.Prelude.{Ok}
 use Rattle.std.specs.Str.{bytes_eq}
 use Rattle.grid_json.specs.declared.command.Verb.TheVariants as verbs
-use Rattle.grid_json.specs.declared.fault.Reason.TheVariants.{WrongKind}
-use Rattle.grid_json.specs.Reading.{◌>>=◌, or_fault, word_among}
-use Rattle.grid_json.specs.Command.{plain_words, edit_words, verb_words}
-use Rattle.grid_json.proofs.command.verb_of.Goals as goal
+use Rattle.grid_json.specs.declared.fault.Reason.TheVariants.{Unknown}
+use Rattle.grid_json.specs.Reading.{or_fault, word_among}
+use Rattle.grid_json.specs.Command.{plain_words, edit_words}
+use Rattle.grid_json.proofs.command.verb_named.Goals as goal
 
 -- a word that is found among some is found among these and more
 among_front : {A : Type 0} (words more : List (List ℕ × A)) (word : List ℕ) (x : A) → word_among words word ≡ Ok x → word_among (words ++ more) word ≡ Ok x
@@ -16,7 +16,7 @@ among_front (w ∷ words) more word x h = by (bytes_eq word w.0) h (among_front 
     by true here rest = here
     by false later rest = rest later
 
-pub returns-in-Some-plain_verb : goal.returns-in-Some-plain_verb
-returns-in-Some-plain_verb c =
-    ap (λ text. or_fault WrongKind text >>= word_among verb_words) (sym c.in-Some.ensures)
-    ∙ among_front plain_words (map (λ w. (w.0, verbs.Change w.1)) edit_words) c.in-Some.word.now c.in-Some-plain_verb.verb (sym c.in-Some-plain_verb.ensures)
+pub returns-in-Some : goal.returns-in-Some
+returns-in-Some c =
+    sym (among_front plain_words (map (λ w. (w.0, verbs.Change w.1)) edit_words) c.args.word.now c.in-Some.verb
+    (sym c.plain_verb.ensures ∙ ap (or_fault Unknown) c.in-Some.is))
