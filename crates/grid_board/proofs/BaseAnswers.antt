@@ -133,13 +133,4 @@ module _ (state : State) (v : List ℕ) (asked : Question) (base : BaseLevel) (f
       by : (o : Result (ℕ × ℕ) Refusal) → site_of_side state.structure id side ≡ o → at_site tasks.Disconnect o ≡ Some asked → IsVerdict state v (requests.Disconnect id side) (verdict_of asked.level (computed_of base asked.task))
       by (Ok at) h e = disconnect_answers id side at h (some_is (about (tasks.Disconnect at.1) at.0) asked e)
       by (Err refusal) h e = cc
-  answers (requests.Components id) is = cc
-  answers (requests.UseVariant name) is = cc
-  answers (requests.OpenSwitch id) is = cc
-  answers (requests.CloseSwitch id) is = cc
-  answers (requests.RetainSwitch id retained) is = cc
-  answers (requests.SetPower id watts) is = cc
-  answers requests.Totals is = cc
-  answers (requests.CloneVariant from to overwrite) is = cc
-  answers (requests.RemoveVariant name) is = cc
-  answers (requests.Change edit) is = cc
+  answers other is = cc

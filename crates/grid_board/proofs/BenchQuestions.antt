@@ -42,16 +42,7 @@ module _ (net : Network) (asked : Question) (level : VoltageLevel) (there : slic
   names (requests.BusView id) h = of_level tasks.BusView (find_level net id) refl h
   names (requests.Connect id side) h = at_side tasks.Connect id side (λ node. refl) h
   names (requests.Disconnect id side) h = at_side tasks.Disconnect id side (λ node. refl) h
-  names (requests.Components id) h = cc
-  names (requests.UseVariant name) h = cc
-  names (requests.OpenSwitch id) h = cc
-  names (requests.CloseSwitch id) h = cc
-  names (requests.RetainSwitch id retained) h = cc
-  names (requests.SetPower id watts) h = cc
-  names requests.Totals h = cc
-  names (requests.CloneVariant from to overwrite) h = cc
-  names (requests.RemoveVariant name) h = cc
-  names (requests.Change edit) h = cc
+  names other h = cc
 
 pub stands : (state : State) (request : Request) (asked : Question) (base : BaseLevel) (level : VoltageLevel) → slice_get (levels state.structure) asked.level ≡ Some level → KeepsLimits level
     → asked_of state.structure request ≡ Some asked → base_of state asked.level ≡ Some base → IsTaskOf base asked.task

@@ -94,20 +94,8 @@ edits_of_edit step steps edit is = edits_more step steps ∙ ap (λ r. cond (is_
 
 edits_of_other_at : (request : Request) → ((edit : Edit) → request ≢ requests.Change edit) → is_edit request ≡ false
 unfolding is_edit
-edits_of_other_at (requests.UseVariant name) apart = refl
-edits_of_other_at (requests.OpenSwitch id) apart = refl
-edits_of_other_at (requests.CloseSwitch id) apart = refl
-edits_of_other_at (requests.RetainSwitch id retained) apart = refl
-edits_of_other_at (requests.SetPower id watts) apart = refl
-edits_of_other_at requests.Totals apart = refl
-edits_of_other_at (requests.Connect id side) apart = refl
-edits_of_other_at (requests.Disconnect id side) apart = refl
-edits_of_other_at (requests.BusBreakerView level) apart = refl
-edits_of_other_at (requests.BusView level) apart = refl
-edits_of_other_at (requests.Components level) apart = refl
-edits_of_other_at (requests.CloneVariant from to overwrite) apart = refl
-edits_of_other_at (requests.RemoveVariant name) apart = refl
 edits_of_other_at (requests.Change edit) apart = absurd (apart edit refl)
+edits_of_other_at other apart = refl
 
 pub edits_of_other : (step : Command) (steps : List Command) → ((edit : Edit) → step.request ≢ requests.Change edit) → edits_asked (step ∷ steps) ≡ edits_asked steps
 edits_of_other step steps apart = edits_more step steps ∙ ap (λ b. cond b 1 0 + edits_asked steps) (edits_of_other_at step.request apart) ∙ omega arith

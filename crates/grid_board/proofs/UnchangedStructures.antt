@@ -11,20 +11,8 @@ use Rattle.grid_board.specs.Questions.{asked_of}
 -- what is no edit leaves the structure
 pub no_edit_stays : (net : Network) (request : Request) → ((edit : Edit) → request ≢ requests.Change edit) → structure_after net request ≡ net
 unfolding structure_after
-no_edit_stays net (requests.UseVariant name) apart = refl
-no_edit_stays net (requests.OpenSwitch id) apart = refl
-no_edit_stays net (requests.CloseSwitch id) apart = refl
-no_edit_stays net (requests.RetainSwitch id retained) apart = refl
-no_edit_stays net (requests.SetPower id watts) apart = refl
-no_edit_stays net requests.Totals apart = refl
-no_edit_stays net (requests.Connect id side) apart = refl
-no_edit_stays net (requests.Disconnect id side) apart = refl
-no_edit_stays net (requests.BusBreakerView level) apart = refl
-no_edit_stays net (requests.BusView level) apart = refl
-no_edit_stays net (requests.Components level) apart = refl
-no_edit_stays net (requests.CloneVariant from to overwrite) apart = refl
-no_edit_stays net (requests.RemoveVariant name) apart = refl
 no_edit_stays net (requests.Change edit) apart = absurd (apart edit refl)
+no_edit_stays net other apart = refl
 
 -- an edit has no task
 pub asking_is_no_edit : (net : Network) (request : Request) (asked : Question) → asked_of net request ≡ Some asked → (edit : Edit) → request ≢ requests.Change edit

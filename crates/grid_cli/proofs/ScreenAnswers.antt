@@ -93,18 +93,7 @@ name_stays names (requests.RemoveVariant name) h = by (not (same_id initial_stat
     by : (b : Bool) → (not (same_id initial_state name) && has_id names name) ≡ b → has_id (cond b (without_name name names) names) initial_state ≡ true
     by true is = kept_without name initial_state names (flipped (same_id initial_state name) (and_parts (not (same_id initial_state name)) (has_id names name) is).0) h
     by false is = h
-name_stays names (requests.UseVariant name) h = h
-name_stays names (requests.OpenSwitch id) h = h
-name_stays names (requests.CloseSwitch id) h = h
-name_stays names (requests.RetainSwitch id retained) h = h
-name_stays names (requests.SetPower id watts) h = h
-name_stays names requests.Totals h = h
-name_stays names (requests.Connect id side) h = h
-name_stays names (requests.Disconnect id side) h = h
-name_stays names (requests.BusBreakerView level) h = h
-name_stays names (requests.BusView level) h = h
-name_stays names (requests.Components level) h = h
-name_stays names (requests.Change edit) h = h
+name_stays names other h = h
 
 pub initial_live : (steps : List Command) → is_live steps initial_state ≡ true
 unfolding is_live live has_id

@@ -78,12 +78,7 @@ module _ (network : ConfiguredNetwork) (fits : NetworkFits network) (state : Sta
   request_mirrors (requests.UseVariant name) h = m
   request_mirrors (requests.CloneVariant from to overwrite) h = m
   request_mirrors (requests.RemoveVariant name) h = m
-  request_mirrors (requests.RetainSwitch id retained) h = absurd (false≢true h)
-  request_mirrors (requests.SetPower id watts) h = absurd (false≢true h)
-  request_mirrors requests.Totals h = absurd (false≢true h)
-  request_mirrors (requests.BusBreakerView level) h = absurd (false≢true h)
-  request_mirrors (requests.Components level) h = absurd (false≢true h)
-  request_mirrors (requests.Change edit) h = absurd (false≢true h)
+  request_mirrors other h = absurd (false≢true h)
 
   -- the reply to a request of switches or terminals
   pub reply_mirrors : (request : Request) → IsTrue (request_plain request) → histories.is_switching request ≡ true → asks_bus network request ≡ false

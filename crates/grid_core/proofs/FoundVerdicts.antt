@@ -28,7 +28,7 @@ use Rattle.grid_core.specs.Fitting.{RowsFit}
 use Rattle.grid_core.specs.Verdicts.{asks, puts, step_of, put_reply, names_of, IsFound, operating, connect_verdict, disconnect_verdict, plan_verdict}
 use Rattle.grid_core.proofs.RequestOutcomes.{connect_refused, disconnect_refused, connect_found, disconnect_found, bus_breaker_reply, bus_reply, components_reply, bus_breaker_nowhere, bus_nowhere, components_nowhere}
 use Rattle.grid_core.proofs.PlanPlaces.{connect_places, disconnect_places}
-use Rattle.grid_core.proofs.VariantSteps.{refused_events}
+use Rattle.grid_core.proofs.RequestKinds.{refused_events}
 use Rattle.std.proofs.lemmas.Option.{slice_get_within}
 
 -- a refusal tells nothing

@@ -57,7 +57,7 @@ module _ (a b : Network) (same : SameLists a b) where
   spot_same end = rw (same.levels_are) refl
 
   branch_spots_same : (branch : Branch) → spots_of_branch b branch ≡ spots_of_branch a branch
-  unfolding spots_of_branch
+  unfolding spots_of_branch branch_ends
   branch_spots_same (Line end1 end2) = rw (spot_same end1, spot_same end2) refl
   branch_spots_same (TwoWindings substation end1 end2 rated_u1 rated_u2) = rw (spot_same end1, spot_same end2) refl
   branch_spots_same (ThreeWindings substation end1 end2 end3 rated_u1 rated_u2 rated_u3) = rw (spot_same end1, spot_same end2, spot_same end3) refl
@@ -97,7 +97,7 @@ module _ (a b : Network) (same : SameLists a b) where
         counts = n.numbered.counts ∙ ap (λ (ls : List VoltageLevel). counts_before n.opened ls (length ls)) (sym same.levels_are);
         few = n.numbered.few;
         components = rw (same.levels_are, pairs_same n.opened) n.numbered.components;
-        long = n.numbered.long;
+        below = n.numbered.below;
         sizes = n.numbered.sizes;
       };
       ended = n.ended ∙ ap (map (buses_of_spots numbers.counts.firsts kept.levels)) (sym spots_same);
@@ -149,15 +149,7 @@ accepted_same net id (Err fault) h = record { levels_are = refl; branches_are = 
 edit_same : (net : Network) (edit : Edit) → edit_leaves edit ≡ true → SameLists net (changed_or net (apply net edit))
 unfolding edit_leaves
 edit_same net (edits.AddSubstation id) h = accepted_same net id (apply net (edits.AddSubstation id)) refl
-edit_same net (edits.AddLevel id substation nominal_v low_v high_v) h = absurd (false≢true h)
-edit_same net (edits.AddBusbar id level node) h = absurd (false≢true h)
-edit_same net (edits.AddSwitch id level kind node1 node2 opened retained fictitious) h = absurd (false≢true h)
-edit_same net (edits.RemoveSwitch id) h = absurd (false≢true h)
-edit_same net (edits.AddInternal level node1 node2) h = absurd (false≢true h)
-edit_same net (edits.RemoveInternal level node1 node2) h = absurd (false≢true h)
-edit_same net (edits.AddInjection id level node item) h = absurd (false≢true h)
-edit_same net (edits.AddBranch id shape) h = absurd (false≢true h)
-edit_same net (edits.RemoveEquipment id) h = absurd (false≢true h)
+edit_same net other h = absurd (false≢true h)
 
 itself : (net : Network) → SameLists net net
 itself net = record { levels_are = refl; branches_are = refl }
@@ -165,19 +157,7 @@ itself net = record { levels_are = refl; branches_are = refl }
 leaves_same : (net : Network) (request : Request) → leaves request ≡ true → SameLists net (structure_after net request)
 unfolding leaves structure_after
 leaves_same net (requests.Change edit) h = edit_same net edit h
-leaves_same net (requests.UseVariant name) h = itself net
-leaves_same net (requests.OpenSwitch id) h = itself net
-leaves_same net (requests.CloseSwitch id) h = itself net
-leaves_same net (requests.RetainSwitch id retained) h = itself net
-leaves_same net (requests.SetPower id watts) h = itself net
-leaves_same net requests.Totals h = itself net
-leaves_same net (requests.Connect id side) h = itself net
-leaves_same net (requests.Disconnect id side) h = itself net
-leaves_same net (requests.BusBreakerView level) h = itself net
-leaves_same net (requests.BusView level) h = itself net
-leaves_same net (requests.Components level) h = itself net
-leaves_same net (requests.CloneVariant from to overwrite) h = itself net
-leaves_same net (requests.RemoveVariant name) h = itself net
+leaves_same net other h = itself net
 
 pub left_so : (net : Network) (request : Request) (before after : List Variant) (all : Kept) → leaves request ≡ true → IsKept net before all → SameFlags before after → IsKept (structure_after net request) after all
 left_so net request before after all h k same =
@@ -195,18 +175,7 @@ pub puts_not_left : (r : Request) (opened : Bool) → puts r opened ≡ true →
 unfolding puts leaves
 puts_not_left (requests.Connect id side) opened h k = false≢true k
 puts_not_left (requests.Disconnect id side) opened h k = false≢true k
-puts_not_left (requests.UseVariant name) opened h k = false≢true h
-puts_not_left (requests.OpenSwitch id) opened h k = false≢true h
-puts_not_left (requests.CloseSwitch id) opened h k = false≢true h
-puts_not_left (requests.RetainSwitch id retained) opened h k = false≢true h
-puts_not_left (requests.SetPower id watts) opened h k = false≢true h
-puts_not_left requests.Totals opened h k = false≢true h
-puts_not_left (requests.BusBreakerView level) opened h k = false≢true h
-puts_not_left (requests.BusView level) opened h k = false≢true h
-puts_not_left (requests.Components level) opened h k = false≢true h
-puts_not_left (requests.CloneVariant from to overwrite) opened h k = false≢true h
-puts_not_left (requests.RemoveVariant name) opened h k = false≢true h
-puts_not_left (requests.Change edit) opened h k = false≢true h
+puts_not_left other opened h k = false≢true h
 
 -- nor is it where a verdict on it operates switches
 pub switches_not_left : (m : Machine) (v : List ℕ) (r : Request) (level : ℕ) (places : List ℕ) (opened : Bool) → DecidesSome m v r (verdicts.Switches level places opened) → leaves r ≡ true → ⊥

@@ -38,19 +38,7 @@ pub not_accepted_same : (origin : Network) (before : List Command) (worker : ℕ
 unfolding reply reply_to structure_after
 not_accepted_same origin before worker (requests.Change edit) r is h =
     refused_same (structure origin before) edit (apply (structure origin before) edit) (ap (accepts (requests.Change edit)) (sym is) ∙ h)
-not_accepted_same origin before worker (requests.UseVariant name) r is h = refl
-not_accepted_same origin before worker (requests.OpenSwitch id) r is h = refl
-not_accepted_same origin before worker (requests.CloseSwitch id) r is h = refl
-not_accepted_same origin before worker (requests.RetainSwitch id retained) r is h = refl
-not_accepted_same origin before worker (requests.SetPower id watts) r is h = refl
-not_accepted_same origin before worker requests.Totals r is h = refl
-not_accepted_same origin before worker (requests.Connect id side) r is h = refl
-not_accepted_same origin before worker (requests.Disconnect id side) r is h = refl
-not_accepted_same origin before worker (requests.BusBreakerView level) r is h = refl
-not_accepted_same origin before worker (requests.BusView level) r is h = refl
-not_accepted_same origin before worker (requests.Components level) r is h = refl
-not_accepted_same origin before worker (requests.CloneVariant from to overwrite) r is h = refl
-not_accepted_same origin before worker (requests.RemoveVariant name) r is h = refl
+not_accepted_same origin before worker other r is h = refl
 
 -- what `follow` leaves is of the structure after the step
 pub followed_so : (origin : Network) (before : List Command) (old new : Machine) (worker : ℕ) (request : Request) (made : Made) (was now : Kept) (touched : Touched) → Held origin before old → Makes origin before (command worker request) made new

@@ -27,7 +27,8 @@ use Rattle.grid_core.specs.Replies.{events_of}
 use Rattle.grid_core.specs.Made.{made_of}
 use Rattle.grid_core.specs.Machines.{StandsAt, Steps, WorksOn}
 use Rattle.grid_core.proofs.Ranges.{rows_of_levels}
-use Rattle.grid_core.proofs.VariantSteps.{Flagged, of_variant, refused_events, stays, moves}
+use Rattle.grid_core.proofs.RequestKinds.{of_variant, refused_events}
+use Rattle.grid_core.proofs.VariantSteps.{Flagged, stays, moves}
 use Rattle.grid_watts.proofs.FirstSides.{no_site}
 use Rattle.grid_watts.proofs.Listings.{values_keep, listings_room}
 use Rattle.grid_watts.proofs.Variants.{values_move, row_told}
@@ -125,9 +126,9 @@ module _ (m : Machine) (worker slot : ℕ) (v : List ℕ) (works : WorksOn m wor
 
         pub set_made : (by : Shift) (variants : List Variant) (made : Made) → IsTable m.slots → int_eq now new ≡ false → is_narrow new ≡ true → by ≡ change p.stand now new → made ≡ made_of replies.Done []
             → variants ≡ changed (λ x. x.slot == slot) (λ rows. shifted by (with_watts rows level p.node new)) m.slots → Steps m (record m { slots = variants }) worker (requests.SetPower id new) made
-        unfolding of_variant is_switching events_of with_power
+        unfolding is_switching events_of with_power
         set_made by variants made table is few shift tells gone =
-            moves m worker slot v (requests.SetPower id new) replies.Done [] made (λ rows. shifted by (with_watts rows level p.node new)) (λ state. with_power state id new) variants refl refl table works at
+            moves m worker slot v (requests.SetPower id new) replies.Done [] made (λ rows. shifted by (with_watts rows level p.node new)) (λ state. with_power state id new) variants refl table works at
             (λ state f st ro li. record {
               does = asked state false st ro is;
               rows = ap (λ (n : Network). rows_under n state.opened state.retained (with_value id new state.powers)) (sym st)

@@ -106,38 +106,15 @@ move_of net request touched before after is move = by (moved_level request touch
 -- where all levels are touched no single one is
 pub all_touched : (net : Network) (request : Request) → IsMoveOf net request touches.All
 unfolding moved_level
-all_touched net (requests.UseVariant name) place e = absurd (cc)
-all_touched net (requests.OpenSwitch id) place e = absurd (cc)
-all_touched net (requests.CloseSwitch id) place e = absurd (cc)
-all_touched net (requests.RetainSwitch id retained) place e = absurd (cc)
-all_touched net (requests.SetPower id watts) place e = absurd (cc)
-all_touched net requests.Totals place e = absurd (cc)
-all_touched net (requests.Connect id side) place e = absurd (cc)
-all_touched net (requests.Disconnect id side) place e = absurd (cc)
-all_touched net (requests.BusBreakerView level) place e = absurd (cc)
-all_touched net (requests.BusView level) place e = absurd (cc)
-all_touched net (requests.Components level) place e = absurd (cc)
-all_touched net (requests.CloneVariant from to overwrite) place e = absurd (cc)
-all_touched net (requests.RemoveVariant name) place e = absurd (cc)
 all_touched net (requests.Change edit) place e = absurd (cc)
+all_touched net other place e = absurd (cc)
 
 -- a request that puts switches into a position moves none alone
 pub puts_none_moved : (net : Network) (r : Request) (opened : Bool) → puts r opened ≡ true → moves_at net r ≡ None
 unfolding puts moves_at
-puts_none_moved net (requests.Connect id side) opened h = refl
-puts_none_moved net (requests.Disconnect id side) opened h = refl
-puts_none_moved net (requests.UseVariant name) opened h = refl
 puts_none_moved net (requests.OpenSwitch id) opened h = absurd (false≢true h)
 puts_none_moved net (requests.CloseSwitch id) opened h = absurd (false≢true h)
-puts_none_moved net (requests.RetainSwitch id retained) opened h = refl
-puts_none_moved net (requests.SetPower id watts) opened h = refl
-puts_none_moved net requests.Totals opened h = refl
-puts_none_moved net (requests.BusBreakerView level) opened h = refl
-puts_none_moved net (requests.BusView level) opened h = refl
-puts_none_moved net (requests.Components level) opened h = refl
-puts_none_moved net (requests.CloneVariant from to overwrite) opened h = refl
-puts_none_moved net (requests.RemoveVariant name) opened h = refl
-puts_none_moved net (requests.Change edit) opened h = refl
+puts_none_moved net other opened h = refl
 
 pub switches_moved : (m : Machine) (v : List ℕ) (r : Request) (level : ℕ) (places : List ℕ) (opened : Bool) (before after : List Variant) → DecidesSome m v r (verdicts.Switches level places opened) → AreMoved (moves_at m.structure r) before after
 unfolding AreMoved

@@ -121,16 +121,10 @@ solo-fits state (requests.OpenSwitch id) f = switched-fits state true _ f
 solo-fits state (requests.CloseSwitch id) f = switched-fits state false _ f
 solo-fits state (requests.RetainSwitch id retained) f = retained_set-fits state retained _ f
 solo-fits state (requests.SetPower id watts) f = power_set-fits state id watts _ f
-solo-fits state requests.Totals f = f
 solo-fits state (requests.Connect id side) f = connected_from-fits state _ f
 solo-fits state (requests.Disconnect id side) f = disconnected_from-fits state _ f
-solo-fits state (requests.BusBreakerView level) f = f
-solo-fits state (requests.BusView level) f = f
-solo-fits state (requests.Components level) f = f
 solo-fits state (requests.Change edit) f = edited-fits state edit (apply state.structure edit) refl f
-solo-fits state (requests.UseVariant name) f = f
-solo-fits state (requests.CloneVariant from to overwrite) f = f
-solo-fits state (requests.RemoveVariant name) f = f
+solo-fits state other f = f
 
 pub record_rows-fit : (flag : Switch → Bool) (net : Network) → RowsFit net (record_rows flag net)
 unfolding record_rows switch_counts
@@ -163,20 +157,8 @@ changed-sound net edit (Err fault) h s = s
 
 after-sound : (net : Network) (request : Request) → IsSound net → IsSound (structure_after net request)
 unfolding structure_after
-after-sound net (requests.OpenSwitch id) s = s
-after-sound net (requests.CloseSwitch id) s = s
-after-sound net (requests.RetainSwitch id retained) s = s
-after-sound net (requests.SetPower id watts) s = s
-after-sound net requests.Totals s = s
-after-sound net (requests.Connect id side) s = s
-after-sound net (requests.Disconnect id side) s = s
-after-sound net (requests.BusBreakerView level) s = s
-after-sound net (requests.BusView level) s = s
-after-sound net (requests.Components level) s = s
 after-sound net (requests.Change edit) s = changed-sound net edit (apply net edit) refl s
-after-sound net (requests.UseVariant name) s = s
-after-sound net (requests.CloneVariant from to overwrite) s = s
-after-sound net (requests.RemoveVariant name) s = s
+after-sound net other s = s
 
 pub structure-sound : (origin : Network) (steps : List Command) → IsSound origin → IsSound (structure origin steps)
 unfolding structure

@@ -1,7 +1,6 @@
 -- Steps that ask of one variant: what they find, and what they make of the machine of all variants.
 use Rattle.std.proofs.Common.{◌≡◌, refl, sym, ap, ◌∙◌, subst, ℕ, suc, zero, ◌<◌, Bool, true, false, List, [], ◌∷◌, length, get_or, Some, None}
 use Rattle.std.specs.Prelude.{slice_get, ◌==◌, IsTrue}
-use Rattle.std.proofs.lemmas.Bool.{true≢false}
 use Rattle.grid_structure.specs.Network.{Network}
 use Rattle.grid_structure.specs.Sites.{find_switch}
 use Rattle.grid_states.specs.Rows as rows
@@ -14,20 +13,20 @@ use Rattle.grid_requests.specs.declared.request.Request.{Request}
 use Rattle.grid_requests.specs.declared.request.Request.TheVariants as requests
 use Rattle.grid_core.specs.declared.reply.Reply.{Reply}
 use Rattle.grid_core.specs.declared.reply.Reply.TheVariants as replies
-use Rattle.grid_core.specs.declared.reply.Refusal.{Refusal}
 use Rattle.grid_core.specs.declared.reply.Refusal.TheVariants as refusals
 use Rattle.grid_core.specs.declared.machine.Machine.{Machine}
 use Rattle.grid_core.specs.declared.machine.Made.{Made}
 use Rattle.std.specs.Bool.{beq}
 use Rattle.grid_core.specs.Solo.{State, state_rows, solo, flag_at, with_opened, with_retained, set_from}
 use Rattle.grid_core.specs.History.{Command, command, is_live, is_switching, working}
-use Rattle.grid_core.specs.Replies.{state_of, reply, reply_to, reply_on, events_of}
+use Rattle.grid_core.specs.Replies.{state_of, reply_on, events_of}
 use Rattle.grid_core.specs.Fitting.{StateFits}
 use Rattle.grid_core.specs.Made.{made_of}
 use Rattle.grid_core.specs.Machines.{Held, IsMachine, IsDead, Standing, StandsAt, Makes, Steps, WorksOn, switching}
 use Rattle.grid_core.proofs.NameRows.{slot_there}
 use Rattle.grid_core.proofs.Ranges.{switch_in_rows}
-use Rattle.grid_core.proofs.StepEffects.{Unmoved, Switched, dead_step, switched_step, unswitched_step, bus_breaker_view_step, bus_view_step, components_step, totals_step}
+use Rattle.grid_core.proofs.RequestKinds.{of_variant, switching_variant, variant_request, refused_events}
+use Rattle.grid_core.proofs.StepEffects.{Switched, dead_step, switched_step, unswitched_step}
 use Rattle.grid_watts.specs.Nodes.{IsListing}
 use Rattle.grid_core.proofs.VariantPowers.{listing_switched}
 use Rattle.grid_core.proofs.Together.{parts_flagged, reply_live, reply_dead}
@@ -76,95 +75,15 @@ within m slot id level place f h =
     let retained = switch_in_rows f.state.structure f.state.retained id level place f.fits.retained at in
     subst (λ (rows : Rows). Within rows level place) (sym f.rows) (record { level_is = opened.0; opened = opened.1; retained = retained.1 })
 
--- ---- replies
-
--- a request that asks of the worker's variant
-unfoldable pub of_variant : Request → Bool
-of_variant (requests.UseVariant name) = false
-of_variant (requests.CloneVariant from to overwrite) = false
-of_variant (requests.RemoveVariant name) = false
-of_variant (requests.Change edit) = false
-of_variant other = true
-
-pub variant_reply : (origin : Network) (before : List Command) (worker : ℕ) (r : Request) → of_variant r ≡ true → reply origin before (command worker r) ≡ reply_on origin before (working before worker) r
-unfolding reply reply_to of_variant
-variant_reply origin before worker (requests.OpenSwitch id) h = refl
-variant_reply origin before worker (requests.CloseSwitch id) h = refl
-variant_reply origin before worker (requests.RetainSwitch id retained) h = refl
-variant_reply origin before worker (requests.SetPower id watts) h = refl
-variant_reply origin before worker requests.Totals h = refl
-variant_reply origin before worker (requests.Connect id side) h = refl
-variant_reply origin before worker (requests.Disconnect id side) h = refl
-variant_reply origin before worker (requests.BusBreakerView level) h = refl
-variant_reply origin before worker (requests.BusView level) h = refl
-variant_reply origin before worker (requests.Components level) h = refl
-variant_reply origin before worker (requests.Change edit) h = absurd (true≢false (sym h))
-variant_reply origin before worker (requests.UseVariant name) h = absurd (true≢false (sym h))
-variant_reply origin before worker (requests.CloneVariant from to overwrite) h = absurd (true≢false (sym h))
-variant_reply origin before worker (requests.RemoveVariant name) h = absurd (true≢false (sym h))
-
--- a refusal has no event
-pub refused_events : (v : List ℕ) (r : Request) (refusal : Refusal) → events_of v r (replies.Refused refusal) ≡ []
-unfolding events_of
-refused_events v (requests.OpenSwitch id) refusal = refl
-refused_events v (requests.CloseSwitch id) refusal = refl
-refused_events v (requests.RetainSwitch id retained) refusal = refl
-refused_events v (requests.SetPower id watts) refusal = refl
-refused_events v requests.Totals refusal = refl
-refused_events v (requests.Connect id side) refusal = refl
-refused_events v (requests.Disconnect id side) refusal = refl
-refused_events v (requests.BusBreakerView level) refusal = refl
-refused_events v (requests.BusView level) refusal = refl
-refused_events v (requests.Components level) refusal = refl
-refused_events v (requests.Change edit) refusal = refl
-refused_events v (requests.UseVariant name) refusal = refl
-refused_events v (requests.CloneVariant from to overwrite) refusal = refl
-refused_events v (requests.RemoveVariant name) refusal = refl
-
--- ---- steps that change nothing
-
-dead_unmoved : (origin : Network) (before : List Command) (worker : ℕ) (r : Request) → of_variant r ≡ true → is_live before (working before worker) ≡ false → Unmoved origin before (command worker r)
-unfolding of_variant is_switching
-dead_unmoved origin before worker (requests.OpenSwitch id) h dead = dead_step origin before worker (requests.OpenSwitch id) refl dead
-dead_unmoved origin before worker (requests.CloseSwitch id) h dead = dead_step origin before worker (requests.CloseSwitch id) refl dead
-dead_unmoved origin before worker (requests.RetainSwitch id retained) h dead = dead_step origin before worker (requests.RetainSwitch id retained) refl dead
-dead_unmoved origin before worker (requests.SetPower id watts) h dead = dead_step origin before worker (requests.SetPower id watts) refl dead
-dead_unmoved origin before worker requests.Totals h dead = totals_step origin before worker
-dead_unmoved origin before worker (requests.Connect id side) h dead = dead_step origin before worker (requests.Connect id side) refl dead
-dead_unmoved origin before worker (requests.Disconnect id side) h dead = dead_step origin before worker (requests.Disconnect id side) refl dead
-dead_unmoved origin before worker (requests.BusBreakerView level) h dead = bus_breaker_view_step origin before worker level
-dead_unmoved origin before worker (requests.BusView level) h dead = bus_view_step origin before worker level
-dead_unmoved origin before worker (requests.Components level) h dead = components_step origin before worker level
-dead_unmoved origin before worker (requests.Change edit) h dead = absurd (true≢false (sym h))
-dead_unmoved origin before worker (requests.UseVariant name) h dead = absurd (true≢false (sym h))
-dead_unmoved origin before worker (requests.CloneVariant from to overwrite) h dead = absurd (true≢false (sym h))
-dead_unmoved origin before worker (requests.RemoveVariant name) h dead = absurd (true≢false (sym h))
-
-live_unmoved : (origin : Network) (before : List Command) (worker : ℕ) (r : Request) → of_variant r ≡ true → is_live before (working before worker) ≡ true
-    → (solo (state_of origin before (working before worker)) r).0 ≡ state_of origin before (working before worker) → Unmoved origin before (command worker r)
-unfolding of_variant is_switching
-live_unmoved origin before worker (requests.OpenSwitch id) h alive same = unswitched_step origin before worker (requests.OpenSwitch id) refl alive same
-live_unmoved origin before worker (requests.CloseSwitch id) h alive same = unswitched_step origin before worker (requests.CloseSwitch id) refl alive same
-live_unmoved origin before worker (requests.RetainSwitch id retained) h alive same = unswitched_step origin before worker (requests.RetainSwitch id retained) refl alive same
-live_unmoved origin before worker (requests.SetPower id watts) h alive same = unswitched_step origin before worker (requests.SetPower id watts) refl alive same
-live_unmoved origin before worker requests.Totals h alive same = totals_step origin before worker
-live_unmoved origin before worker (requests.Connect id side) h alive same = unswitched_step origin before worker (requests.Connect id side) refl alive same
-live_unmoved origin before worker (requests.Disconnect id side) h alive same = unswitched_step origin before worker (requests.Disconnect id side) refl alive same
-live_unmoved origin before worker (requests.BusBreakerView level) h alive same = bus_breaker_view_step origin before worker level
-live_unmoved origin before worker (requests.BusView level) h alive same = bus_view_step origin before worker level
-live_unmoved origin before worker (requests.Components level) h alive same = components_step origin before worker level
-live_unmoved origin before worker (requests.Change edit) h alive same = absurd (true≢false (sym h))
-live_unmoved origin before worker (requests.UseVariant name) h alive same = absurd (true≢false (sym h))
-live_unmoved origin before worker (requests.CloneVariant from to overwrite) h alive same = absurd (true≢false (sym h))
-live_unmoved origin before worker (requests.RemoveVariant name) h alive same = absurd (true≢false (sym h))
+-- ---- steps that change nothing, and steps that change what the variant has
 
 -- the worker's variant is not live
 pub dead_made : (m : Machine) (worker : ℕ) (v : List ℕ) (r : Request) (made : Made) → of_variant r ≡ true → WorksOn m worker v → IsDead m v → made ≡ made_of (replies.Refused refusals.NoVariant) [] → Steps m m worker r made
 dead_made m worker v r made of works none is origin before h =
     let dead : is_live before (working before worker) ≡ false = ap (is_live before) (working_of origin before m worker v h works) ∙ none origin before h in
     makes origin before worker r (replies.Refused refusals.NoVariant) [] made m is
-    (variant_reply origin before worker r of ∙ reply_dead origin before (working before worker) r dead) (refused_events (working before worker) r refusals.NoVariant)
-    (held_unmoved origin before (command worker r) m (dead_unmoved origin before worker r of dead) h)
+    ((variant_request r of).replied origin before worker ∙ reply_dead origin before (working before worker) r dead) (refused_events (working before worker) r refusals.NoVariant)
+    (held_unmoved origin before (command worker r) m (dead_step origin before worker r of dead) h)
 
 -- it is, and its machine answers and stays
 module _ (origin : Network) (before : List Command) (m : Machine) (worker slot : ℕ) (v : List ℕ) (r : Request) (rep : Reply) (made : Made) (of : of_variant r ≡ true) (works : WorksOn m worker v) (at : StandsAt m v slot) (h : Held origin before m) where
@@ -180,8 +99,8 @@ module _ (origin : Network) (before : List Command) (m : Machine) (worker slot :
       subst (λ (n : List ℕ). solo (state_of origin before n) r ≡ (state_of origin before n, rep)) (sym same) answered in
       let alive : is_live before (working before worker) ≡ true = ap (is_live before) same ∙ stands.alive in
       makes origin before worker r rep [] made m is
-      (variant_reply origin before worker r of ∙ reply_live origin before (working before worker) r alive ∙ ap (λ (z : State × Reply). z.1) told) (ap (λ n. events_of n r rep) same ∙ silent)
-      (held_unmoved origin before (command worker r) m (live_unmoved origin before worker r of alive (ap (λ (z : State × Reply). z.0) told)) h)
+      ((variant_request r of).replied origin before worker ∙ reply_live origin before (working before worker) r alive ∙ ap (λ (z : State × Reply). z.1) told) (ap (λ n. events_of n r rep) same ∙ silent)
+      (held_unmoved origin before (command worker r) m (unswitched_step origin before worker r of alive (ap (λ (z : State × Reply). z.0) told)) h)
 
   -- and changes what it has
   pub moves_after : (es : List Event) (change : Rows → Rows) (next : State) (variants : List Variant) → is_switching r ≡ true → IsTable m.slots → solo (state_of origin before v) r ≡ (next, rep)
@@ -193,7 +112,7 @@ module _ (origin : Network) (before : List Command) (m : Machine) (worker slot :
       let parts = parts_flagged origin before (command worker r) v m.structure m.slots m.working.items slot change switched table.differ at.0 (ap (λ (z : State × Reply). state_rows z.0) does ∙ moved) h.parts in
       let listing = listing_switched origin before (command worker r) m.structure h.listing v switched (subst (λ (s : State). IsListing m.structure s.powers) (sym (ap (λ (z : State × Reply). z.0) does)) listed) in
       makes origin before worker r rep es made (record m { slots = variants }) is
-      (variant_reply origin before worker r of ∙ ap (λ n. reply_on origin before n r) same ∙ reply_live origin before v r stands.alive ∙ ap (λ (z : State × Reply). z.1) does) (ap (λ n. events_of n r rep) same ∙ told)
+      ((variant_request r of).replied origin before worker ∙ ap (λ n. reply_on origin before n r) same ∙ reply_live origin before v r stands.alive ∙ ap (λ (z : State × Reply). z.1) does) (ap (λ n. events_of n r rep) same ∙ told)
       (record { parts = rw gone parts; listing = listing })
 
 -- whatever the history
@@ -211,26 +130,24 @@ pub record Moved (net : Network) (r : Request) (rep : Reply) (change : Rows → 
   pub listing : IsListing net next.powers
 
 pub moves : (m : Machine) (worker slot : ℕ) (v : List ℕ) (r : Request) (rep : Reply) (es : List Event) (made : Made) (change : Rows → Rows) (next : State → State) (variants : List Variant)
-    → is_switching r ≡ true → of_variant r ≡ true → IsTable m.slots → WorksOn m worker v → StandsAt m v slot
+    → is_switching r ≡ true → IsTable m.slots → WorksOn m worker v → StandsAt m v slot
     → ((state : State) → StateFits state → m.structure ≡ state.structure → rows_at m.slots slot ≡ state_rows state → IsListing m.structure state.powers → Moved m.structure r rep change state (next state))
     → events_of v r rep ≡ es → made ≡ made_of rep es → variants ≡ changed (λ x. x.slot == slot) change m.slots → Steps m (record m { slots = variants }) worker r made
-moves m worker slot v r rep es made change next variants switches of table works at answers told is gone origin before h =
+moves m worker slot v r rep es made change next variants switches table works at answers told is gone origin before h =
     let s = at.1 origin before h in
     let state = state_of origin before v in
     let a = answers state s.fits s.structure_is s.rows s.listing in
-    moves_after origin before m worker slot v r rep made of works at h es change (next state) variants switches table a.does a.rows a.listing told is gone
+    moves_after origin before m worker slot v r rep made (switching_variant r switches) works at h es change (next state) variants switches table a.does a.rows a.listing told is gone
 
 -- ---- a switch
-
-of_switching : (id : List ℕ) (opened : Bool) → of_variant (switching id opened) ≡ true
-unfolding of_variant
-of_switching id true = refl
-of_switching id false = refl
 
 switches_switching : (id : List ℕ) (opened : Bool) → is_switching (switching id opened) ≡ true
 unfolding is_switching
 switches_switching id true = refl
 switches_switching id false = refl
+
+of_switching : (id : List ℕ) (opened : Bool) → of_variant (switching id opened) ≡ true
+of_switching id opened = switching_variant (switching id opened) (switches_switching id opened)
 
 silent_switching : (v id : List ℕ) (opened : Bool) → events_of v (switching id opened) replies.Unchanged ≡ []
 unfolding events_of
@@ -276,7 +193,7 @@ pub position_made : (m : Machine) (worker slot level place : ℕ) (v id : List �
     → Steps m (record m { slots = variants }) worker (switching id opened) made
 unfolding flag_at with_opened rows.with_opened
 position_made m worker slot level place v id opened was made variants table works at found now other is gone =
-    moves m worker slot v (switching id opened) replies.Done (events.Updated v id opened ∷ []) made (λ r. rows.with_opened r level place opened) (λ state. with_opened state (level, place) opened) variants (switches_switching id opened) (of_switching id opened) table works at
+    moves m worker slot v (switching id opened) replies.Done (events.Updated v id opened ∷ []) made (λ r. rows.with_opened r level place opened) (λ state. with_opened state (level, place) opened) variants (switches_switching id opened) table works at
     (λ state f st ro li.
     let flag : flag_at state.opened (level, place) ≡ was = got_is (row_at state.opened level) place was false (ap (λ (rows : Rows). slice_get (row_at rows.opened level) place) (sym ro) ∙ now) in
     record {
@@ -314,9 +231,9 @@ retain_same m worker slot level place v id flag was made works at found now equa
 pub retain_made : (m : Machine) (worker slot level place : ℕ) (v id : List ℕ) (flag was : Bool) (made : Made) (variants : List Variant) → IsTable m.slots → WorksOn m worker v → StandsAt m v slot
     → find_switch m.structure id ≡ Some (level, place) → slice_get (row_at (rows_at m.slots slot).retained level) place ≡ Some was → beq was flag ≡ false → made ≡ made_of replies.Done []
     → variants ≡ changed (λ x. x.slot == slot) (λ r. rows.with_retained r level place flag) m.slots → Steps m (record m { slots = variants }) worker (requests.RetainSwitch id flag) made
-unfolding flag_at of_variant is_switching events_of with_retained rows.with_retained
+unfolding flag_at is_switching events_of with_retained rows.with_retained
 retain_made m worker slot level place v id flag was made variants table works at found now other is gone =
-    moves m worker slot v (requests.RetainSwitch id flag) replies.Done [] made (λ r. rows.with_retained r level place flag) (λ state. with_retained state (level, place) flag) variants refl refl table works at
+    moves m worker slot v (requests.RetainSwitch id flag) replies.Done [] made (λ r. rows.with_retained r level place flag) (λ state. with_retained state (level, place) flag) variants refl table works at
     (λ state f st ro li.
     let kept : flag_at state.retained (level, place) ≡ was = got_is (row_at state.retained level) place was false (ap (λ (rows : Rows). slice_get (row_at rows.retained level) place) (sym ro) ∙ now) in
     record {

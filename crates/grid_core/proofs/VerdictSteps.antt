@@ -23,45 +23,16 @@ use Rattle.grid_core.specs.Replies.{state_of, events_of, updates}
 use Rattle.grid_core.specs.Fitting.{RowsFit, AreListed}
 use Rattle.grid_core.specs.Made.{made_of}
 use Rattle.grid_core.specs.Machines.{IsMachine, StandsAt, WorksOn}
-use Rattle.grid_core.specs.Verdicts.{asks, puts, put_reply, names_of, step_of, IsVerdict, IsFound, Decides, DecidesSome, CarriesOut}
-use Rattle.grid_core.proofs.VariantSteps.{of_variant, stays_after, moves_after}
-
-pub asks_variant : (r : Request) → asks r ≡ true → of_variant r ≡ true
-unfolding asks of_variant
-asks_variant (requests.UseVariant name) h = h
-asks_variant (requests.OpenSwitch id) h = refl
-asks_variant (requests.CloseSwitch id) h = refl
-asks_variant (requests.RetainSwitch id retained) h = refl
-asks_variant (requests.SetPower id watts) h = refl
-asks_variant requests.Totals h = refl
-asks_variant (requests.Connect id side) h = refl
-asks_variant (requests.Disconnect id side) h = refl
-asks_variant (requests.BusBreakerView level) h = refl
-asks_variant (requests.BusView level) h = refl
-asks_variant (requests.Components level) h = refl
-asks_variant (requests.CloneVariant from to overwrite) h = h
-asks_variant (requests.RemoveVariant name) h = h
-asks_variant (requests.Change edit) h = h
+use Rattle.grid_core.specs.Verdicts.{puts, put_reply, names_of, step_of, IsVerdict, IsFound, Decides, DecidesSome, CarriesOut}
+use Rattle.grid_core.proofs.RequestKinds.{asks_variant}
+use Rattle.grid_core.proofs.VariantSteps.{stays_after, moves_after}
 
 -- what is told of switches that are put into a position
 told : (v : List ℕ) (r : Request) (opened : Bool) (names : List (List ℕ)) → puts r opened ≡ true → (events_of v r (put_reply opened names) ≡ updates v opened names) × (is_switching r ≡ true)
 unfolding puts put_reply events_of is_switching
 told v (requests.Connect id side) false names h = (refl, refl)
-told v (requests.Connect id side) true names h = cc
 told v (requests.Disconnect id side) true names h = (refl, refl)
-told v (requests.Disconnect id side) false names h = cc
-told v (requests.UseVariant name) opened names h = cc
-told v (requests.OpenSwitch id) opened names h = cc
-told v (requests.CloseSwitch id) opened names h = cc
-told v (requests.RetainSwitch id retained) opened names h = cc
-told v (requests.SetPower id watts) opened names h = cc
-told v requests.Totals opened names h = cc
-told v (requests.BusBreakerView level) opened names h = cc
-told v (requests.BusView level) opened names h = cc
-told v (requests.Components level) opened names h = cc
-told v (requests.CloneVariant from to overwrite) opened names h = cc
-told v (requests.RemoveVariant name) opened names h = cc
-told v (requests.Change edit) opened names h = cc
+told v other opened names h = cc
 
 pub decided_machine : (m : Machine) (v : List ℕ) (r : Request) (verdict : Verdict) → DecidesSome m v r verdict → IsMachine m
 decided_machine m v r verdict d = (d.0, (d.1.0, d.1.1.held))

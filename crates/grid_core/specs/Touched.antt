@@ -1,9 +1,9 @@
 -- Which levels an edit changes.
-use Rattle.std.specs.Prelude.{◌≡◌, ◌⊎◌, ℕ, ◌<◌, ◌≤◌, Some, List, length}
+use Rattle.std.specs.Prelude.{◌≡◌, ◌⊎◌, ℕ, ◌<◌, ◌≤◌, Some, List, [], ◌∷◌, length}
 use Rattle.grid_structure.specs.declared.Branch.{Branch}
-use Rattle.grid_structure.specs.declared.Branch.TheVariants as shapes
+use Rattle.grid_structure.specs.declared.End.{End}
 use Rattle.grid_structure.specs.Network.{Network}
-use Rattle.grid_structure.specs.Sites.{levels, find_level, find_switch, site}
+use Rattle.grid_structure.specs.Sites.{levels, branch_ends, find_level, find_switch, site}
 use Rattle.grid_islands.specs.Kept.{LeavesOthers}
 use Rattle.grid_core.specs.declared.touched.Touched.{Touched}
 use Rattle.grid_core.specs.declared.touched.Touched.TheVariants as touches
@@ -48,8 +48,13 @@ AreLevelsOf net id1 id2 id3 (touches.Level place) = ⊥
 AreLevelsOf net id1 id2 id3 (touches.Ends first second third) = (find_level net id1 ≡ Some first) × (find_level net id2 ≡ Some second) × (find_level net id3 ≡ Some third)
 AreLevelsOf net id1 id2 id3 touches.All = Unit {0}
 
+-- the levels of two ends, or of three
+abbrev pub AreLevelsOfList : Network → List End → Touched → Type 0
+AreLevelsOfList net [] touched = ⊥
+AreLevelsOfList net (first ∷ []) touched = ⊥
+AreLevelsOfList net (first ∷ second ∷ []) touched = AreLevelsOf net first.level second.level second.level touched
+AreLevelsOfList net (first ∷ second ∷ third ∷ rest) touched = AreLevelsOf net first.level second.level third.level touched
+
 -- the levels of a branch's ends
 abbrev pub AreLevelsOfEnds : Network → Branch → Touched → Type 0
-AreLevelsOfEnds net (shapes.Line end1 end2) = AreLevelsOf net end1.level end2.level end2.level
-AreLevelsOfEnds net (shapes.TwoWindings substation end1 end2 rated_u1 rated_u2) = AreLevelsOf net end1.level end2.level end2.level
-AreLevelsOfEnds net (shapes.ThreeWindings substation end1 end2 end3 rated_u1 rated_u2 rated_u3) = AreLevelsOf net end1.level end2.level end3.level
+AreLevelsOfEnds net branch touched = AreLevelsOfList net (branch_ends branch) touched

@@ -9,7 +9,7 @@ ghost use Rattle.grid_core.specs.Kept.{IsMoveOf};
 
 use crate::Request;
 use grid_ids::Id;
-use grid_structure::{Branch, Edit, End, Structure};
+use grid_structure::{Branch, BranchEnds, Edit, End, Structure};
 
 /// The places of the levels that an edit may change, or of the level whose flags a request may.
 #[derive(Clone, Copy)]
@@ -49,16 +49,10 @@ fn levels_of_ends(structure: &Structure, end1: &End, end2: &End, end3: &End) -> 
 fn levels_of_branch(structure: &Structure, branch: &Branch) -> Touched
     ensures { AreLevelsOfEnds structure.now branch.now result }
 {
-    match branch {
-        Branch::Line { end1, end2 } | Branch::TwoWindings { end1, end2, .. } => {
-            levels_of_ends(structure, end1, end2, end2)
-        }
-        Branch::ThreeWindings {
-            end1,
-            end2,
-            end3,
-            ..
-        } => levels_of_ends(structure, end1, end2, end3),
+    let BranchEnds { end1, end2, end3 } = branch.ends();
+    match end3 {
+        Some(end3) => levels_of_ends(structure, end1, end2, end3),
+        None => levels_of_ends(structure, end1, end2, end2),
     }
 }
 

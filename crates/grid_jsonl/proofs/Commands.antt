@@ -24,11 +24,7 @@ pub injection_is : (id level : List ℕ) (node : ℤ) (item : Injection) → add
     ++ fields_before_node item) ++ (codes "node", whole node) ∷ []) ++ fields_behind_node item)
 unfolding members_from ordered fields_before_node fields_behind_node
 injection_is id level node (Load p0 q0) = refl
-injection_is id level node (Generator target_p target_v min_p max_p) = refl
-injection_is id level node (Battery target_p target_q min_p max_p) = refl
-injection_is id level node (ShuntCompensator section_count max_sections) = refl
-injection_is id level node (StaticVarCompensator target_q) = refl
-injection_is id level node (ConverterStation target_q) = refl
+injection_is id level node other = refl
 
 pub level_is : (id substation : List ℕ) (nominal_v : ℤ) (low_v high_v : Option ℤ) → edit_value (AddLevel id substation nominal_v low_v high_v)
     ≡ ordered ((codes "do", string (codes "add_level")) ∷ (((given (codes "high_v") whole high_v ++ (codes "id", string id) ∷ []) ++ given (codes "low_v") whole low_v)
@@ -62,26 +58,10 @@ transformer_is word id substation ends rated_u = refl
 
 pub no_level : (edit : Edit) → ((id substation : List ℕ) (nominal_v : ℤ) (low_v high_v : Option ℤ) → edit ≢ AddLevel id substation nominal_v low_v high_v) → new_level_text edit ≡ []
 unfolding new_level_text
-no_level (AddSubstation id) apart = refl
 no_level (AddLevel id substation nominal_v low_v high_v) apart = absurd (apart id substation nominal_v low_v high_v refl)
-no_level (AddBusbar id level node) apart = refl
-no_level (AddSwitch id level kind node1 node2 opened retained fictitious) apart = refl
-no_level (RemoveSwitch id) apart = refl
-no_level (AddInternal level node1 node2) apart = refl
-no_level (RemoveInternal level node1 node2) apart = refl
-no_level (AddInjection id level node item) apart = refl
-no_level (AddBranch id shape) apart = refl
-no_level (RemoveEquipment id) apart = refl
+no_level other apart = refl
 
 pub no_switch : (edit : Edit) → ((id level : List ℕ) (kind : SwitchKind) (node1 node2 : ℤ) (opened retained fictitious : Bool) → edit ≢ AddSwitch id level kind node1 node2 opened retained fictitious) → new_switch_text edit ≡ []
 unfolding new_switch_text
-no_switch (AddSubstation id) apart = refl
-no_switch (AddLevel id substation nominal_v low_v high_v) apart = refl
-no_switch (AddBusbar id level node) apart = refl
 no_switch (AddSwitch id level kind node1 node2 opened retained fictitious) apart = absurd (apart id level kind node1 node2 opened retained fictitious refl)
-no_switch (RemoveSwitch id) apart = refl
-no_switch (AddInternal level node1 node2) apart = refl
-no_switch (RemoveInternal level node1 node2) apart = refl
-no_switch (AddInjection id level node item) apart = refl
-no_switch (AddBranch id shape) apart = refl
-no_switch (RemoveEquipment id) apart = refl
+no_switch other apart = refl

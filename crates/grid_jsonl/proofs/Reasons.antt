@@ -37,29 +37,13 @@ fault_stays (faults.Check fault) h = check_stays fault
 fault_stays (faults.NodeRange node) h = one_number (codes "node range") node refl
 fault_stays (faults.NodeTaken terminal) h = absurd (cc)
 fault_stays (faults.SameNode node) h = one_number (codes "same node") node refl
-fault_stays faults.NoEdge h = refl
-fault_stays faults.TooManyNodes h = refl
-fault_stays faults.TooManyEdges h = refl
-fault_stays faults.IdTaken h = refl
-fault_stays faults.NoSubstation h = refl
-fault_stays faults.NoLevel h = refl
-fault_stays faults.NoSuchId h = refl
 fault_stays (faults.OtherSubstation side) h = stays_more (codes "other substation ") (decimal side) refl (decimal_stays side)
-fault_stays faults.TooManyLevels h = refl
-fault_stays faults.TooManySwitches h = refl
+fault_stays other h = refl
 
 pub reason_stays : (refusal : Refusal) → taken_by refusal ≡ None → Stays (reason_text refusal)
 unfolding reason_text taken_by escape_byte
-reason_stays refusals.NoVariant h = refl
-reason_stays refusals.NoSwitch h = refl
-reason_stays refusals.NoEquipment h = refl
-reason_stays refusals.NoSide h = refl
-reason_stays refusals.NoLevel h = refl
-reason_stays refusals.TargetExists h = refl
-reason_stays refusals.InitialStays h = refl
-reason_stays refusals.TooManyVariants h = refl
-reason_stays refusals.NoPower h = refl
 reason_stays (refusals.Edit fault) h = fault_stays fault h
+reason_stays other h = refl
 
 -- the reason that names a terminal
 
@@ -69,30 +53,10 @@ taken_escaped t = flat_map-append escape_byte (codes "node taken by ") (terminal
 
 fault_taken : (fault : EditFault) (t : Terminal) → taken_at fault ≡ Some t → fault_reason fault ≡ codes "node taken by " ++ terminal_text t
 unfolding fault_reason taken_at
-fault_taken (faults.Check fault) t h = absurd (cc)
-fault_taken (faults.NodeRange node) t h = absurd (cc)
 fault_taken (faults.NodeTaken terminal) t h = ap (λ (o : Option Terminal). codes "node taken by " ++ terminal_text (unwrap_or o t)) h
-fault_taken (faults.SameNode node) t h = absurd (cc)
-fault_taken faults.NoEdge t h = absurd (cc)
-fault_taken faults.TooManyNodes t h = absurd (cc)
-fault_taken faults.TooManyEdges t h = absurd (cc)
-fault_taken faults.IdTaken t h = absurd (cc)
-fault_taken faults.NoSubstation t h = absurd (cc)
-fault_taken faults.NoLevel t h = absurd (cc)
-fault_taken faults.NoSuchId t h = absurd (cc)
-fault_taken (faults.OtherSubstation side) t h = absurd (cc)
-fault_taken faults.TooManyLevels t h = absurd (cc)
-fault_taken faults.TooManySwitches t h = absurd (cc)
+fault_taken other t h = absurd (cc)
 
 pub reason_taken : (refusal : Refusal) (t : Terminal) → taken_by refusal ≡ Some t → reason_text refusal ≡ codes "node taken by " ++ terminal_text t
 unfolding reason_text taken_by
-reason_taken refusals.NoVariant t h = absurd (cc)
-reason_taken refusals.NoSwitch t h = absurd (cc)
-reason_taken refusals.NoEquipment t h = absurd (cc)
-reason_taken refusals.NoSide t h = absurd (cc)
-reason_taken refusals.NoLevel t h = absurd (cc)
-reason_taken refusals.TargetExists t h = absurd (cc)
-reason_taken refusals.InitialStays t h = absurd (cc)
-reason_taken refusals.TooManyVariants t h = absurd (cc)
-reason_taken refusals.NoPower t h = absurd (cc)
 reason_taken (refusals.Edit fault) t h = fault_taken fault t h
+reason_taken other t h = absurd (cc)

@@ -182,10 +182,7 @@ IsBack format request = command_at format (request_value request) ≡ Ok request
 retain_back : (format : Format) (id : List ℕ) (retained : Bool) → IsId id → IsKnownIn format (requests.RetainSwitch id retained) → IsBack format (requests.RetainSwitch id retained)
 unfolding command_at request_at retain_at first_format request_value members_from
 retain_back One id retained valid known = cc
-retain_back Two id retained valid known = rw valid refl
-retain_back Three id retained valid known = rw valid refl
-retain_back Four id retained valid known = rw valid refl
-retain_back Five id retained valid known = rw valid refl
+retain_back other id retained valid known = rw valid refl
 
 set_power_back : (format : Format) (id : List ℕ) (watts : ℤ) → IsId id → IsWhole watts → IsKnownIn format (requests.SetPower id watts) → IsBack format (requests.SetPower id watts)
 unfolding command_at request_at set_power_at first_format request_value members_from

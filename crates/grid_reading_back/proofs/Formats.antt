@@ -25,42 +25,18 @@ use Rattle.grid_reading_back.specs.Requests.{IsKnownIn}
 item_fifth : (item : Injection) → nat_le 5 (item_format item) ≡ false
 unfolding item_format
 item_fifth (injections.Load p0 q0) = refl
-item_fifth (injections.Generator target_p target_v min_p max_p) = refl
-item_fifth (injections.Battery target_p target_q min_p max_p) = refl
-item_fifth (injections.ShuntCompensator section_count max_sections) = refl
-item_fifth (injections.StaticVarCompensator target_q) = refl
-item_fifth (injections.ConverterStation target_q) = refl
+item_fifth other = refl
 
 edit_fifth : (edit : Edit) → nat_le 5 (edit_format edit) ≡ false
 unfolding edit_format
-edit_fifth (edits.AddSubstation id) = refl
-edit_fifth (edits.AddLevel id substation nominal_v low_v high_v) = refl
-edit_fifth (edits.AddBusbar id level node) = refl
-edit_fifth (edits.AddSwitch id level kind node1 node2 opened retained fictitious) = refl
-edit_fifth (edits.RemoveSwitch id) = refl
-edit_fifth (edits.AddInternal level node1 node2) = refl
-edit_fifth (edits.RemoveInternal level node1 node2) = refl
 edit_fifth (edits.AddInjection id level node item) = item_fifth item
-edit_fifth (edits.AddBranch id shape) = refl
-edit_fifth (edits.RemoveEquipment id) = refl
+edit_fifth other = refl
 
 -- each command is known in the fourth format
 pub known_in_fourth : (request : Request) → IsKnownIn Four request
 unfolding first_format
-known_in_fourth (requests.UseVariant name) = refl
-known_in_fourth (requests.OpenSwitch id) = refl
-known_in_fourth (requests.CloseSwitch id) = refl
-known_in_fourth (requests.RetainSwitch id retained) = refl
-known_in_fourth (requests.SetPower id watts) = refl
-known_in_fourth requests.Totals = refl
-known_in_fourth (requests.Connect id side) = refl
-known_in_fourth (requests.Disconnect id side) = refl
-known_in_fourth (requests.BusBreakerView level) = refl
-known_in_fourth (requests.BusView level) = refl
-known_in_fourth (requests.Components level) = refl
-known_in_fourth (requests.CloneVariant from to overwrite) = refl
-known_in_fourth (requests.RemoveVariant name) = refl
 known_in_fourth (requests.Change edit) = edit_fifth edit
+known_in_fourth other = refl
 
 stand_fifth : (stand : Stand) → nat_le 5 (stand_format stand) ≡ false
 unfolding stand_format
@@ -85,20 +61,12 @@ fourth_has_scripts scripts = none_of (needs 5) (λ script. none_of (λ request. 
 item_second : (item : Injection) → nat_le 2 (item_format item) ≡ nat_le 4 (item_format item)
 unfolding item_format
 item_second (injections.Load p0 q0) = refl
-item_second (injections.Generator target_p target_v min_p max_p) = refl
-item_second (injections.Battery target_p target_q min_p max_p) = refl
-item_second (injections.ShuntCompensator section_count max_sections) = refl
-item_second (injections.StaticVarCompensator target_q) = refl
-item_second (injections.ConverterStation target_q) = refl
+item_second other = refl
 
 item_third : (item : Injection) → nat_le 3 (item_format item) ≡ nat_le 4 (item_format item)
 unfolding item_format
 item_third (injections.Load p0 q0) = refl
-item_third (injections.Generator target_p target_v min_p max_p) = refl
-item_third (injections.Battery target_p target_q min_p max_p) = refl
-item_third (injections.ShuntCompensator section_count max_sections) = refl
-item_third (injections.StaticVarCompensator target_q) = refl
-item_third (injections.ConverterStation target_q) = refl
+item_third other = refl
 
 stand_second : (stand : Stand) → nat_le 2 (stand_format stand) ≡ nat_le 4 (stand_format stand)
 unfolding stand_format

@@ -26,10 +26,7 @@ use Rattle.grid_reading_back.proofs.Scripts.{scripts_back}
 
 format_back : (format : Format) → format_at One (natural (number_of format)) ≡ Ok format
 format_back One = refl
-format_back Two = refl
-format_back Three = refl
-format_back Four = refl
-format_back Five = refl
+format_back other = refl
 
 -- in the least format
 draft_in : (format : Format) (net : Network) (filters : List Filter) (scripts : List (List Request)) (order : Option (List ℕ)) → HasAllWords net scripts format → IsReadable net

@@ -97,11 +97,7 @@ switch_word_ascii LoadBreakSwitch = refl
 
 injection_word_ascii : (x : Injection) → are_ascii (injection_word x) ≡ true
 injection_word_ascii (Load p0 q0) = refl
-injection_word_ascii (Generator target_p target_v min_p max_p) = refl
-injection_word_ascii (Battery target_p target_q min_p max_p) = refl
-injection_word_ascii (ShuntCompensator section_count max_sections) = refl
-injection_word_ascii (StaticVarCompensator target_q) = refl
-injection_word_ascii (ConverterStation target_q) = refl
+injection_word_ascii other = refl
 
 word_spelled : (word : List ℕ) → are_ascii word ≡ true → IsSpelled (string word)
 word_spelled word ascii = IsUtf8-are_ascii word ascii
@@ -351,10 +347,7 @@ order_spelled scripts order few scheduled =
 
 format_fits : (format : Format) → number_of format < 2 ^ 63
 format_fits One = omega arith
-format_fits Two = omega arith
-format_fits Three = omega arith
-format_fits Four = omega arith
-format_fits Five = omega arith
+format_fits other = omega arith
 
 pub job_spelled : (job : Job) → JobKeeps IsUtf8 job → IsSpelled (job_value job.network job.filters job.scripts job.order)
 unfolding job_value

@@ -55,29 +55,15 @@ level_verb id substation nominal_v (Some a) (Some b) = refl
 
 verb_is : (e : Edit) → id_at (codes "do") (edit_value e) ≡ verb_of e
 unfolding edit_value members_from
-verb_is (edits.AddSubstation id) = refl
 verb_is (edits.AddLevel id substation nominal_v low_v high_v) = level_verb id substation nominal_v low_v high_v
-verb_is (edits.AddBusbar id level node) = refl
-verb_is (edits.AddSwitch id level kind node1 node2 opened retained fictitious) = refl
-verb_is (edits.RemoveSwitch id) = refl
-verb_is (edits.AddInternal level node1 node2) = refl
-verb_is (edits.RemoveInternal level node1 node2) = refl
 verb_is (edits.AddInjection id level node item) = (injection_says id level node item).0
 verb_is (edits.AddBranch id shape) = (branch_says id shape).0
-verb_is (edits.RemoveEquipment id) = refl
+verb_is other = refl
 
 changes : (e : Edit) (d : Data) → request_by (verb_of e) d ≡ requests.Change (edit_in d)
 unfolding request_by
 changes (edits.AddSubstation id) d = refl
-changes (edits.AddLevel id substation nominal_v low_v high_v) d = refl
-changes (edits.AddBusbar id level node) d = refl
-changes (edits.AddSwitch id level kind node1 node2 opened retained fictitious) d = refl
-changes (edits.RemoveSwitch id) d = refl
-changes (edits.AddInternal level node1 node2) d = refl
-changes (edits.RemoveInternal level node1 node2) d = refl
-changes (edits.AddInjection id level node item) d = refl
-changes (edits.AddBranch id shape) d = refl
-changes (edits.RemoveEquipment id) d = refl
+changes other d = refl
 
 change_back : (e : Edit) → request_in (edit_value e) ≡ requests.Change e
 change_back e = ap (λ verb. request_by verb (edit_value e)) (verb_is e) ∙ changes e (edit_value e) ∙ ap requests.Change (edit_back e)

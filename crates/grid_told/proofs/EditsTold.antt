@@ -217,11 +217,7 @@ pub injection_says : (id level : List ℕ) (node : ℤ) (item : Injection)
     × ((id_at (codes "level") (edit_value (edits.AddInjection id level node item)) ≡ level) × (whole_at (codes "node") (edit_value (edits.AddInjection id level node item)) ≡ node)))
 unfolding edit_value members_from
 injection_says id level node (Load p0 q0) = (refl, (refl, (refl, whole_back node)))
-injection_says id level node (Generator target_p target_v min_p max_p) = (refl, (refl, (refl, whole_back node)))
-injection_says id level node (Battery target_p target_q min_p max_p) = (refl, (refl, (refl, whole_back node)))
-injection_says id level node (ShuntCompensator section_count max_sections) = (refl, (refl, (refl, whole_back node)))
-injection_says id level node (StaticVarCompensator target_q) = (refl, (refl, (refl, whole_back node)))
-injection_says id level node (ConverterStation target_q) = (refl, (refl, (refl, whole_back node)))
+injection_says id level node other = (refl, (refl, (refl, whole_back node)))
 
 injection_back : (id level : List ℕ) (node : ℤ) (item : Injection) → edit_in (edit_value (edits.AddInjection id level node item)) ≡ edits.AddInjection id level node item
 injection_back id level node item =

@@ -181,16 +181,13 @@ solo_fits state (requests.OpenSwitch id) = switched_fits (requests.OpenSwitch id
 solo_fits state (requests.CloseSwitch id) = switched_fits (requests.CloseSwitch id) state false _
 solo_fits state (requests.RetainSwitch id retained) = retained_fits (requests.RetainSwitch id retained) state retained _
 solo_fits state (requests.SetPower id watts) = power_fits (requests.SetPower id watts) state id watts _
-solo_fits state requests.Totals = tt
 solo_fits state (requests.Connect id side) = connects_fit (requests.Connect id side) state _
 solo_fits state (requests.Disconnect id side) = disconnects_fit (requests.Disconnect id side) state _
 solo_fits state (requests.BusBreakerView level) = breaker_fits state level
 solo_fits state (requests.BusView level) = view_fits state level
 solo_fits state (requests.Components level) = components_fit level _ (level_found state.structure level)
 solo_fits state (requests.Change edit) = edited_fits (requests.Change edit) state edit _
-solo_fits state (requests.UseVariant name) = tt
-solo_fits state (requests.CloneVariant from to overwrite) = tt
-solo_fits state (requests.RemoveVariant name) = tt
+solo_fits state other = tt
 
 -- ---- the machine of all variants
 

@@ -55,29 +55,13 @@ fault_utf8 (faults.Check fault) h = check_utf8 fault h
 fault_utf8 (faults.NodeRange node) h = one_utf8 (codes "node range") node (word _ refl) h
 fault_utf8 (faults.NodeTaken terminal) h = IsUtf8-append (codes "node taken by ") (terminal_text terminal) (word _ refl) (terminal_utf8 terminal h)
 fault_utf8 (faults.SameNode node) h = one_utf8 (codes "same node") node (word _ refl) h
-fault_utf8 faults.NoEdge h = word _ refl
-fault_utf8 faults.TooManyNodes h = word _ refl
-fault_utf8 faults.TooManyEdges h = word _ refl
-fault_utf8 faults.IdTaken h = word _ refl
-fault_utf8 faults.NoSubstation h = word _ refl
-fault_utf8 faults.NoLevel h = word _ refl
-fault_utf8 faults.NoSuchId h = word _ refl
 fault_utf8 (faults.OtherSubstation side) h = IsUtf8-append (codes "other substation ") (decimal side) (word _ refl) (digits_utf8 side h)
-fault_utf8 faults.TooManyLevels h = word _ refl
-fault_utf8 faults.TooManySwitches h = word _ refl
+fault_utf8 other h = word _ refl
 
 pub reason_utf8 : (refusal : Refusal) → IsRefusal refusal → IsUtf8 (reason_text refusal)
 unfolding reason_text
-reason_utf8 refusals.NoVariant h = word _ refl
-reason_utf8 refusals.NoSwitch h = word _ refl
-reason_utf8 refusals.NoEquipment h = word _ refl
-reason_utf8 refusals.NoSide h = word _ refl
-reason_utf8 refusals.NoLevel h = word _ refl
-reason_utf8 refusals.TargetExists h = word _ refl
-reason_utf8 refusals.InitialStays h = word _ refl
-reason_utf8 refusals.TooManyVariants h = word _ refl
-reason_utf8 refusals.NoPower h = word _ refl
 reason_utf8 (refusals.Edit fault) h = fault_utf8 fault h
+reason_utf8 other h = word _ refl
 
 -- ---- the values behind a reason's words
 
@@ -175,10 +159,7 @@ check_back (checks.RatedNotPositive found bound) h = ap (λ (p : ℤ × ℤ). ch
 is_check : (fault : CheckFault) (text : List ℕ) → fault_by (check_number fault) text ≡ faults.Check (check_by (check_number fault) text)
 unfolding fault_by check_number
 is_check (checks.NominalNotPositive found bound) text = refl
-is_check (checks.VoltageLimits found bound) text = refl
-is_check (checks.PowerLimits found bound) text = refl
-is_check (checks.Sections found bound) text = refl
-is_check (checks.RatedNotPositive found bound) text = refl
+is_check other text = refl
 
 fault_back : (fault : EditFault) → IsEditFault fault → fault_by (fault_number fault) (fault_reason fault) ≡ fault
 unfolding fault_by fault_number fault_reason
@@ -186,52 +167,21 @@ fault_back (faults.Check fault) h = is_check fault (check_reason fault) ∙ ap f
 fault_back (faults.NodeRange node) h = ap faults.NodeRange (value_back (codes "node range") node h)
 fault_back (faults.NodeTaken terminal) h = ap faults.NodeTaken (terminal_back (codes "node taken by ") terminal h)
 fault_back (faults.SameNode node) h = ap faults.SameNode (value_back (codes "same node") node h)
-fault_back faults.NoEdge h = refl
-fault_back faults.TooManyNodes h = refl
-fault_back faults.TooManyEdges h = refl
-fault_back faults.IdTaken h = refl
-fault_back faults.NoSubstation h = refl
-fault_back faults.NoLevel h = refl
-fault_back faults.NoSuchId h = refl
 fault_back (faults.OtherSubstation side) h = ap faults.OtherSubstation (side_back (codes "other substation ") side h)
-fault_back faults.TooManyLevels h = refl
-fault_back faults.TooManySwitches h = refl
+fault_back other h = refl
 
 check_edit : (fault : CheckFault) (text : List ℕ) → refusal_by (check_number fault) text ≡ refusals.Edit (fault_by (check_number fault) text)
 unfolding refusal_by check_number
 check_edit (checks.NominalNotPositive found bound) text = refl
-check_edit (checks.VoltageLimits found bound) text = refl
-check_edit (checks.PowerLimits found bound) text = refl
-check_edit (checks.Sections found bound) text = refl
-check_edit (checks.RatedNotPositive found bound) text = refl
+check_edit other text = refl
 
 is_edit : (fault : EditFault) (text : List ℕ) → refusal_by (fault_number fault) text ≡ refusals.Edit (fault_by (fault_number fault) text)
 unfolding refusal_by fault_number
 is_edit (faults.Check fault) text = check_edit fault text
-is_edit (faults.NodeRange node) text = refl
-is_edit (faults.NodeTaken terminal) text = refl
-is_edit (faults.SameNode node) text = refl
-is_edit faults.NoEdge text = refl
-is_edit faults.TooManyNodes text = refl
-is_edit faults.TooManyEdges text = refl
-is_edit faults.IdTaken text = refl
-is_edit faults.NoSubstation text = refl
-is_edit faults.NoLevel text = refl
-is_edit faults.NoSuchId text = refl
-is_edit (faults.OtherSubstation side) text = refl
-is_edit faults.TooManyLevels text = refl
-is_edit faults.TooManySwitches text = refl
+is_edit other text = refl
 
 -- for a refusal the number fixes how many values its reason ends with
 pub refusal_back : (refusal : Refusal) → IsRefusal refusal → refusal_by (refusal_number refusal) (reason_text refusal) ≡ refusal
 unfolding refusal_by refusal_number reason_text
-refusal_back refusals.NoVariant h = refl
-refusal_back refusals.NoSwitch h = refl
-refusal_back refusals.NoEquipment h = refl
-refusal_back refusals.NoSide h = refl
-refusal_back refusals.NoLevel h = refl
-refusal_back refusals.TargetExists h = refl
-refusal_back refusals.InitialStays h = refl
-refusal_back refusals.TooManyVariants h = refl
-refusal_back refusals.NoPower h = refl
 refusal_back (refusals.Edit fault) h = is_edit fault (fault_reason fault) ∙ ap refusals.Edit (fault_back fault h)
+refusal_back other h = refl

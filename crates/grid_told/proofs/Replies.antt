@@ -37,40 +37,17 @@ use Rattle.grid_told.proofs.Reasons.{reason_utf8, refusal_by, refusal_back}
 check_small : (fault : CheckFault) → IsUnsigned (check_number fault)
 unfolding check_number
 check_small (checks.NominalNotPositive found bound) = omega arith
-check_small (checks.VoltageLimits found bound) = omega arith
-check_small (checks.PowerLimits found bound) = omega arith
-check_small (checks.Sections found bound) = omega arith
-check_small (checks.RatedNotPositive found bound) = omega arith
+check_small other = omega arith
 
 fault_small : (fault : EditFault) → IsUnsigned (fault_number fault)
 unfolding fault_number
 fault_small (faults.Check fault) = check_small fault
-fault_small (faults.NodeRange node) = omega arith
-fault_small (faults.NodeTaken terminal) = omega arith
-fault_small (faults.SameNode node) = omega arith
-fault_small faults.NoEdge = omega arith
-fault_small faults.TooManyNodes = omega arith
-fault_small faults.TooManyEdges = omega arith
-fault_small faults.IdTaken = omega arith
-fault_small faults.NoSubstation = omega arith
-fault_small faults.NoLevel = omega arith
-fault_small faults.NoSuchId = omega arith
-fault_small (faults.OtherSubstation side) = omega arith
-fault_small faults.TooManyLevels = omega arith
-fault_small faults.TooManySwitches = omega arith
+fault_small other = omega arith
 
 number_small : (refusal : Refusal) → IsUnsigned (refusal_number refusal)
 unfolding refusal_number
-number_small refusals.NoVariant = omega arith
-number_small refusals.NoSwitch = omega arith
-number_small refusals.NoEquipment = omega arith
-number_small refusals.NoSide = omega arith
-number_small refusals.NoLevel = omega arith
-number_small refusals.TargetExists = omega arith
-number_small refusals.InitialStays = omega arith
-number_small refusals.TooManyVariants = omega arith
-number_small refusals.NoPower = omega arith
 number_small (refusals.Edit fault) = fault_small fault
+number_small other = omega arith
 
 operated_readable : (word : List ℕ) (ids : List (List ℕ)) → IsReadable 4 (string word) → All IsUtf8 ids → IsReadable 5 (operated_value word ids)
 operated_readable word ids known h = ordered_readable 4 _ refl (known, (deeper 1 4 (array_of string ids) (omega arith) (array_readable IsUtf8 0 string (text_readable 0) ids (each_of IsUtf8 ids h)), tt))
@@ -99,38 +76,20 @@ components_readable : (r : Request) (buses : List BusComponent) → IsRequest r 
 unfolding components_value
 components_readable (requests.Components level) buses known h =
     deeper 2 4 (array_of (component_value level) buses) (omega arith) (array_readable IsComponent 1 (component_value level) (component_readable level known) buses (each_of IsComponent buses h))
-components_readable (requests.UseVariant name) buses known h = none_readable
-components_readable (requests.OpenSwitch id) buses known h = none_readable
-components_readable (requests.CloseSwitch id) buses known h = none_readable
-components_readable (requests.RetainSwitch id retained) buses known h = none_readable
-components_readable (requests.SetPower id watts) buses known h = none_readable
-components_readable requests.Totals buses known h = none_readable
-components_readable (requests.Connect id side) buses known h = none_readable
-components_readable (requests.Disconnect id side) buses known h = none_readable
-components_readable (requests.BusBreakerView level) buses known h = none_readable
-components_readable (requests.BusView level) buses known h = none_readable
-components_readable (requests.CloneVariant from to overwrite) buses known h = none_readable
-components_readable (requests.RemoveVariant name) buses known h = none_readable
-components_readable (requests.Change edit) buses known h = none_readable
+components_readable other buses known h = none_readable
 
 pub reply_readable : (r : Request) (reply : Reply) → IsRequest r → IsReply reply → IsReadable 5 (reply_value r reply)
 unfolding reply_value
-reply_readable r replies.Done known h = ordered_readable 4 _ refl (word_readable 4 _ refl, tt)
-reply_readable r replies.Unchanged known h = ordered_readable 4 _ refl (word_readable 4 _ refl, tt)
 reply_readable r (replies.Closed ids) known h = operated_readable (codes "closed") ids (word_readable 4 _ refl) h
-reply_readable r replies.AlreadyConnected known h = ordered_readable 4 _ refl (word_readable 4 _ refl, tt)
-reply_readable r replies.NoPath known h = ordered_readable 4 _ refl (word_readable 4 _ refl, tt)
 reply_readable r (replies.Opened ids) known h = operated_readable (codes "opened") ids (word_readable 4 _ refl) h
-reply_readable r replies.AlreadyDisconnected known h = ordered_readable 4 _ refl (word_readable 4 _ refl, tt)
 reply_readable r (replies.NoBreaker terminal) known h = ordered_readable 4 _ refl (word_readable 4 _ refl, (deeper 1 4 _ (omega arith) (terminal_readable terminal h), tt))
 reply_readable r (replies.BusBreaker view) known h = breaker_readable view h
 reply_readable r (replies.Bus view) known h = ordered_readable 4 _ refl (word_readable 4 _ refl, (buses_readable view h, tt))
 reply_readable r (replies.Components buses) known h = ordered_readable 4 _ refl (word_readable 4 _ refl, (components_readable r buses known h, tt))
 reply_readable r (replies.Totals load generation) known h = ordered_readable 4 _ refl (word_readable 4 _ refl, (sum_readable 4 load h.0, (sum_readable 4 generation h.1, tt)))
-reply_readable r replies.Created known h = ordered_readable 4 _ refl (word_readable 4 _ refl, tt)
-reply_readable r replies.Overwritten known h = ordered_readable 4 _ refl (word_readable 4 _ refl, tt)
 reply_readable r (replies.Refused refusal) known h =
     ordered_readable 4 _ refl (word_readable 4 _ refl, (natural_readable 4 (refusal_number refusal) (number_small refusal), (text_readable 4 (reason_text refusal) (reason_utf8 refusal h), tt)))
+reply_readable r other known h = ordered_readable 4 _ refl (word_readable 4 _ refl, tt)
 
 -- ---- told
 

@@ -119,10 +119,7 @@ module _ (net : Network) (place : ℕ) (name : List ℕ) (small : IsUnsigned pla
       → IsReadable 6 (contingency_object format net place name (findings.Effect after losses tripped))
   unfolding contingency_object finding_fields
   effect_readable formats.One after losses tripped h = first_readable after losses tripped h
-  effect_readable formats.Two after losses tripped h = second_readable after losses tripped h
-  effect_readable formats.Three after losses tripped h = second_readable after losses tripped h
-  effect_readable formats.Four after losses tripped h = second_readable after losses tripped h
-  effect_readable formats.Five after losses tripped h = second_readable after losses tripped h
+  effect_readable other after losses tripped h = second_readable after losses tripped h
 
   readable : (format : Format) (finding : Finding) → IsFinding net finding → IsReadable 6 (contingency_object format net place name finding)
   readable format (findings.UnknownId id) h = unknown_readable format id h

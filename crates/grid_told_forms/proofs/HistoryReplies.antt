@@ -60,20 +60,7 @@ module _ (r : Request) where
   variant_fits : (x : Reply) → Fits r (variant_reply x)
   unfolding variant_reply
   variant_fits answers.Done = tt
-  variant_fits answers.Unchanged = tt
-  variant_fits (answers.Closed ids) = tt
-  variant_fits answers.AlreadyConnected = tt
-  variant_fits answers.NoPath = tt
-  variant_fits (answers.Opened ids) = tt
-  variant_fits answers.AlreadyDisconnected = tt
-  variant_fits (answers.NoBreaker terminal) = tt
-  variant_fits (answers.BusBreaker view) = tt
-  variant_fits (answers.Bus view) = tt
-  variant_fits (answers.Components buses) = tt
-  variant_fits (answers.Totals load generation) = tt
-  variant_fits answers.Created = tt
-  variant_fits answers.Overwritten = tt
-  variant_fits (answers.Refused refusal) = tt
+  variant_fits other = tt
 
 viewed_fits : (network : ConfiguredNetwork) (opened connected : List Bool) (id : List ℕ) (o : Option ConfiguredLevel) → ((l : ConfiguredLevel) → o ≡ Some l → l.id ≡ id)
     → Fits (requests.BusView id) (viewed (option_map configured_view (option_map (λ l. stood l opened connected) (option_map (placed_level network) o))))
@@ -99,15 +86,7 @@ machine_fits network flags (requests.CloseSwitch id) = switched_fits (requests.C
 machine_fits network flags (requests.Connect id side) = plugged_fits (requests.Connect id side) flags true _
 machine_fits network flags (requests.Disconnect id side) = plugged_fits (requests.Disconnect id side) flags false _
 machine_fits network flags (requests.BusView level) = view_fits network flags level (find_level network level) refl
-machine_fits network flags (requests.UseVariant name) = tt
-machine_fits network flags (requests.RetainSwitch id retained) = tt
-machine_fits network flags (requests.SetPower id watts) = tt
-machine_fits network flags requests.Totals = tt
-machine_fits network flags (requests.BusBreakerView level) = tt
-machine_fits network flags (requests.Components level) = tt
-machine_fits network flags (requests.CloneVariant from to overwrite) = tt
-machine_fits network flags (requests.RemoveVariant name) = tt
-machine_fits network flags (requests.Change edit) = tt
+machine_fits network flags other = tt
 
 on_fits : (network : ConfiguredNetwork) (before : List Command) (v : List ℕ) (r : Request) → Fits r (reply_on network before v r)
 unfolding reply_on

@@ -49,14 +49,9 @@ refused_readable refusal h = journal_readable requests.Totals (answers.Refused r
 
 pub reply_readable : (reply : ConfiguredReply) → IsReply reply → IsReadable 5 (reply_value reply)
 unfolding reply_value
-reply_readable replies.Done h = ordered_readable 4 _ refl (word_readable 4 _ refl, tt)
-reply_readable replies.Unchanged h = ordered_readable 4 _ refl (word_readable 4 _ refl, tt)
-reply_readable replies.AlreadyConnected h = ordered_readable 4 _ refl (word_readable 4 _ refl, tt)
-reply_readable replies.AlreadyDisconnected h = ordered_readable 4 _ refl (word_readable 4 _ refl, tt)
 reply_readable (replies.View view) h = ordered_readable 4 _ refl (word_readable 4 _ refl, (buses_readable view h, tt))
-reply_readable replies.Created h = ordered_readable 4 _ refl (word_readable 4 _ refl, tt)
-reply_readable replies.Overwritten h = ordered_readable 4 _ refl (word_readable 4 _ refl, tt)
 reply_readable (replies.Refused refusal) h = refused_readable refusal h
+reply_readable other h = ordered_readable 4 _ refl (word_readable 4 _ refl, tt)
 
 -- ---- told
 

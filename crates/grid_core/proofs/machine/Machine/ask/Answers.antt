@@ -4,7 +4,7 @@ use Rattle.grid_core.specs.Machines.{IsDead}
 use Rattle.grid_core.specs.Verdicts.{Decides}
 use Rattle.grid_core.proofs.MachineSteps.{each_ok}
 use Rattle.grid_core.proofs.VariantSteps.{dead_made}
-use Rattle.grid_core.proofs.VerdictSteps.{asks_variant}
+use Rattle.grid_core.proofs.RequestKinds.{asks_variant}
 use Rattle.grid_core.proofs.machine.Machine.ask.Goals as goal
 
 pub returns-in-None-clause-made : goal.returns-in-None-clause-made

@@ -5,7 +5,8 @@ use mir.Val.{SFits}
 use Rattle.grid_core.specs.declared.reply.Reply.TheVariants.{Totals}
 use Rattle.grid_core.specs.Made.{made_of}
 use Rattle.grid_core.proofs.MachineSteps.{each_ok}
-use Rattle.grid_core.proofs.VariantSteps.{of_variant, stands_slot, dead_made}
+use Rattle.grid_core.proofs.RequestKinds.{of_variant}
+use Rattle.grid_core.proofs.VariantSteps.{stands_slot, dead_made}
 use Rattle.grid_requests.specs.declared.request.Request.TheVariants as requests
 use Rattle.grid_core.proofs.PowerRequests.{totals_made}
 use Rattle.grid_core.proofs.machine.Machine.ask_totals.Goals as goal

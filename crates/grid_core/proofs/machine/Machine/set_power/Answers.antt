@@ -10,7 +10,8 @@ use Rattle.grid_watts.specs.Ranges.{is_narrow}
 use Rattle.grid_watts.specs.Nodes.{row_watts_at, change}
 use Rattle.grid_requests.specs.declared.request.Request.TheVariants as requests
 use Rattle.grid_core.proofs.MachineSteps.{each_ok, present_sound}
-use Rattle.grid_core.proofs.VariantSteps.{of_variant, stands_slot, flagged, dead_made}
+use Rattle.grid_core.proofs.RequestKinds.{of_variant}
+use Rattle.grid_core.proofs.VariantSteps.{stands_slot, flagged, dead_made}
 use Rattle.grid_core.specs.Kept.{SameFlags}
 use Rattle.grid_core.proofs.RowMoves.{on_ok, watts_left}
 use Rattle.grid_core.proofs.PowerRequests.{unpowered, level_in_rows, slot_room, set_nowhere, set_none, set_same, set_made, sides_there, sides_nowhere}
