@@ -11,7 +11,7 @@ use Rattle.grid_graph.proofs.Counts.{count_all}
 use Rattle.grid_level.specs.declared.Placed.{Placed}
 use Rattle.grid_groups.specs.Labels.{items_at}
 use Rattle.grid_groups.proofs.Steps.{places_passed}
-use Rattle.grid_busview.specs.declared.view.Count.{Count}
+use Rattle.grid_busview.specs.declared.counts.Count.{Count}
 use Rattle.grid_busview.specs.Labelled.{counted, count_of, nothing}
 use Rattle.grid_busview.proofs.KindCounts.{count_of_push, length_items}
 

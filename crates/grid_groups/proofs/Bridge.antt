@@ -13,7 +13,7 @@ use Rattle.grid_graph.proofs.RenamedNodes.{EndsIn, within_renamed, renamed}
 use Rattle.grid_graph.proofs.Places.{AreBelow, In_places}
 use Rattle.grid_graph.proofs.Below.{pairs_below}
 use Rattle.grid_graph.proofs.Counts.{at_place, long_places}
-use Rattle.grid_graph.proofs.Least.{least_is_least, least_below, least_le, least_same, joined_from_least, n_refl, In_filter}
+use Rattle.grid_graph.proofs.Least.{least_is_least, least_below, least_le, least_same, leads_itself as least_leads, joined_from_least, n_refl, In_filter}
 use Rattle.grid_level.specs.Passing.{is_rising}
 use Rattle.grid_groups.specs.Labels.{index_in, pair_by_index, graph_among, places_with, items_at, leading, label_of}
 use Rattle.grid_groups.proofs.Lists.{items_passing, first_item, In_filtered, get_or_any, passed_all, passed_below, In_get}
@@ -53,6 +53,15 @@ module _ (ns : List ℕ) (pairs : List (ℕ × ℕ)) (rise : is_rising ns ≡ tr
     pub label_below : (k : ℕ) → k < length ns → get_or labels k 0 < length ns
     unfolding graph_among
     label_below k lt = omega (arith, label_is k lt, least_below (graph_among ns pairs) k below lt)
+
+    -- a label is no greater than its index, and its own label
+    pub label_rooted : (k : ℕ) → k < length ns → (get_or labels k 0 ≤ k) × (get_or labels (get_or labels k 0) 0 ≡ get_or labels k 0)
+    unfolding graph_among
+    label_rooted k lt =
+        let net = graph_among ns pairs in (
+          omega (arith, label_is k lt, least_le net k below lt),
+          label_is (get_or labels k 0) (label_below k lt) ∙ least_leads net k (get_or labels k 0) below lt (sym (label_is k lt)),
+        )
 
     -- two indices have one label where their nodes are joined
     pub same_label : (l k : ℕ) → l < length ns → k < length ns → eqb (get_or labels k 0) (get_or labels l 0) ≡ joined ns pairs (get_or ns l 0) (get_or ns k 0)

@@ -27,7 +27,7 @@ rank_last : (p : ℕ → Bool) (n : ℕ) (xs : List ℕ) (t : Bool) → t ≡ tr
 rank_last p n xs true h = (omega (arith, length-append xs (n ∷ [])), get_or-append_seam xs n [] 0)
 rank_last p n xs false h = absurd (cc)
 
-place_at : (p : ℕ → Bool) (n l : ℕ) → l < n → p l ≡ true → (length (filter p (places l)) < length (filter p (places n))) × (get_or (filter p (places n)) (length (filter p (places l))) 0 ≡ l)
+pub place_at : (p : ℕ → Bool) (n l : ℕ) → l < n → p l ≡ true → (length (filter p (places l)) < length (filter p (places n))) × (get_or (filter p (places n)) (length (filter p (places l))) 0 ≡ l)
 place_at p zero l lt h = absurd (omega arith)
 place_at p (suc n) l lt h =
     let xs : List ℕ = filter p (places n) in
@@ -55,7 +55,7 @@ rank_over p n j xs t long rest lt = elim (cases_lt j (length xs)) [
     last false less h = let none : List ℕ = [] in absurd (omega (arith, less, h, length-append xs none))
 
 -- as many places that pass come before one of them as stand before it
-rank_of : (p : ℕ → Bool) (n j : ℕ) → j < length (filter p (places n)) → length (filter p (places (get_or (filter p (places n)) j 0))) ≡ j
+pub rank_of : (p : ℕ → Bool) (n j : ℕ) → j < length (filter p (places n)) → length (filter p (places (get_or (filter p (places n)) j 0))) ≡ j
 unfolding places
 rank_of p zero j lt = absurd (omega arith)
 rank_of p (suc n) j lt =
@@ -137,11 +137,11 @@ pub few_with_key : (keys : List ℕ) (i key : ℕ) → length (with_key keys i k
 unfolding with_key
 few_with_key keys i key = few_passed (λ k. eqb (get_or keys k 0) key) i
 
-key_next : (keys : List ℕ) (i key : ℕ) → get_or keys i 0 ≡ key → with_key keys (i + 1) key ≡ with_key keys i key ++ i ∷ []
+pub key_next : (keys : List ℕ) (i key : ℕ) → get_or keys i 0 ≡ key → with_key keys (i + 1) key ≡ with_key keys i key ++ i ∷ []
 unfolding with_key
 key_next keys i key e = places_passed (λ k. eqb (get_or keys k 0) key) i ∙ ap (λ t. filter (λ k. eqb (get_or keys k 0) key) (places i) ++ cond t (i ∷ []) []) (eq-eqb (get_or keys i 0) key e)
 
-key_past : (keys : List ℕ) (i key : ℕ) → get_or keys i 0 ≢ key → with_key keys (i + 1) key ≡ with_key keys i key
+pub key_past : (keys : List ℕ) (i key : ℕ) → get_or keys i 0 ≢ key → with_key keys (i + 1) key ≡ with_key keys i key
 unfolding with_key
 key_past keys i key ne =
     places_passed (λ k. eqb (get_or keys k 0) key) i ∙ ap (λ t. filter (λ k. eqb (get_or keys k 0) key) (places i) ++ cond t (i ∷ []) []) (ne_eqb (get_or keys i 0) key ne)
@@ -156,7 +156,7 @@ count_more keys counts i key read count inside so_far e lt = elim (cases_eq key 
   | inr ne ↦ get_or-set_other counts (get_or keys i 0) key (read + 1) 0 ne ∙ so_far key lt ∙ sym (ap length (key_past keys i key (λ h. ne (sym h))))
 ]
 
-items_push : {X : Type 0} (xs : List X) (ks : List ℕ) (k : ℕ) (x : X) → slice_get xs k ≡ Some x → items_at xs (ks ++ k ∷ []) ≡ items_at xs ks ++ x ∷ []
+pub items_push : {X : Type 0} (xs : List X) (ks : List ℕ) (k : ℕ) (x : X) → slice_get xs k ≡ Some x → items_at xs (ks ++ k ∷ []) ≡ items_at xs ks ++ x ∷ []
 unfolding items_at
 items_push xs ks k x e = filter_map-append (slice_get xs) ks (k ∷ []) ∙ ap (λ z. filter_map (slice_get xs) ks ++ z) (rw e refl)
 

@@ -1,5 +1,6 @@
 -- One step more of a loop.
 use Rattle.std.proofs.Common.{◌≡◌, refl, sym, ap, ◌∙◌, subst, ℕ, zero, suc, ◌+◌, ◌<◌, ◌≤◌, Bool, true, false, cond, ◌&&◌, List, [], ◌∷◌, ◌++◌, length, get_or, take, append_assoc, arith, Some}
+use Rattle.std.specs.Bool.{beq}
 use Rattle.std.specs.Prelude.{eqb, map, filter, slice_get}
 use Rattle.std.specs.List.{list_all, filter_map, range_with_len, zip}
 use Rattle.std.proofs.lemmas.Slice.Zip.{length-zip, get_or-zip}
@@ -15,7 +16,7 @@ use Rattle.grid_level.specs.VoltageLevel.{VoltageLevel}
 use Rattle.grid_level.specs.Passing as passing
 use Rattle.grid_level.specs.Passing.{Edge, switch_edge, internal_edge, edges, ends, nodes}
 use Rattle.grid_level.specs.Kept.{among, ends_among}
-use Rattle.grid_groups.specs.Labels.{items_at, places_with}
+use Rattle.grid_groups.specs.Labels.{items_at, places_with, passing_flag, passing_flags}
 use Rattle.grid_groups.proofs.Lists.{get_or_any, passed_below}
 
 -- ---- items that pass, behind others
@@ -144,13 +145,24 @@ pair_at level i pair h lt at =
     and_parts (among ns pair.0) (among ns pair.1)
     (all_at (λ (p : ℕ × ℕ). among ns p.0 && among ns p.1) (map passing.switch_ends level.switches) i pair (ends_among-switches ns level.switches (map internal_edge level.internals) h) lt at)
 
--- the ends of the switches whose flag is set
-pub passed_ends : (ss : List Switch) (flags : List Bool) → map (λ pair. pair.0) (filter (λ pair. pair.1) (zip (map passing.switch_ends ss) flags)) ≡ map (λ pair. ends (switch_edge pair.0)) (filter (λ pair. pair.1) (zip ss flags))
+-- a flag lets pass where it is the value that does
+pub passing_flag_is : (value flag : Bool) → passing_flag value flag ≡ beq flag value
+passing_flag_is true true = refl
+passing_flag_is true false = refl
+passing_flag_is false true = refl
+passing_flag_is false false = refl
+
+-- the ends of the switches whose flag has the value that lets pass
+pub passed_ends : (ss : List Switch) (value : Bool) (flags : List Bool)
+    → map (λ pair. pair.0) (filter (λ pair. passing_flag value pair.1) (zip (map passing.switch_ends ss) flags)) ≡ map (λ pair. ends (switch_edge pair.0)) (filter (λ pair. pair.1) (zip ss (passing_flags value flags)))
 unfolding ends
-passed_ends [] flags = refl
-passed_ends (s ∷ ss) [] = refl
-passed_ends (s ∷ ss) (true ∷ flags) = ap (λ z. (s.node1, s.node2) ∷ z) (passed_ends ss flags)
-passed_ends (s ∷ ss) (false ∷ flags) = passed_ends ss flags
+passed_ends [] value flags = refl
+passed_ends (s ∷ ss) true [] = refl
+passed_ends (s ∷ ss) false [] = refl
+passed_ends (s ∷ ss) true (true ∷ flags) = ap (λ z. (s.node1, s.node2) ∷ z) (passed_ends ss true flags)
+passed_ends (s ∷ ss) true (false ∷ flags) = passed_ends ss true flags
+passed_ends (s ∷ ss) false (true ∷ flags) = passed_ends ss false flags
+passed_ends (s ∷ ss) false (false ∷ flags) = ap (λ z. (s.node1, s.node2) ∷ z) (passed_ends ss false flags)
 
 -- ---- what is made of the places that pass
 

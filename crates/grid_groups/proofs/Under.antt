@@ -1,5 +1,5 @@
 -- What one label per node tells of a level as it stands under a rule.
-use Rattle.std.proofs.Common.{◌≡◌, refl, sym, ap, ◌∙◌, subst, ℕ, zero, suc, ◌<◌, Bool, not, ◌&&◌, List, [], ◌∷◌, length, get_or, arith}
+use Rattle.std.proofs.Common.{◌≡◌, refl, sym, ap, ◌∙◌, subst, ℕ, zero, suc, ◌<◌, ◌≤◌, Bool, not, ◌&&◌, List, [], ◌∷◌, length, get_or, arith}
 use Rattle.std.specs.Prelude.{eqb, map, filter}
 use Rattle.std.specs.List.{list_any, zip}
 use Rattle.grid_graph.specs.Joined.{least_nodes, group_of}
@@ -16,7 +16,7 @@ use Rattle.grid_groups.specs.Labels.{graph_among, graph_under, passing_where, la
 use Rattle.grid_groups.proofs.Lists.{items_passing, map_items, both_made, all_made}
 use Rattle.grid_groups.proofs.TerminalNodes.{placed_node}
 use Rattle.grid_groups.proofs.PassingEdges.{nodes-positioned, nodes-stood, passing_bus, passing_breaker, passing_ends}
-use Rattle.grid_groups.proofs.Bridge.{labels_long, label_below, group_items, placed_label, leading_items, leading_is, leader_is}
+use Rattle.grid_groups.proofs.Bridge.{labels_long, label_below, label_rooted, group_items, placed_label, leading_items, leading_is, leader_is}
 
 -- a level as it stands: its nodes and terminals are the same, and what passes joins its nodes
 pub record Stands (rule : Rule) (level stands : VoltageLevel) : Type 0 where
@@ -66,6 +66,9 @@ module _ (rule : Rule) (level stands : VoltageLevel) (labels : List ℕ) (keeps 
   below k lt =
       let r = label_below (nodes level) (passing rule stands) keeps.nodes_rise s.ends_in labels among k (omega (arith, lt, long)) in
       omega (arith, r, long)
+
+  pub rooted : (k : ℕ) → k < length labels → (get_or labels k 0 ≤ k) × (get_or labels (get_or labels k 0) 0 ≡ get_or labels k 0)
+  rooted k lt = label_rooted (nodes level) (passing rule stands) keeps.nodes_rise s.ends_in labels among k (omega (arith, lt, long))
 
   -- the least node joined to a node
   pub leader_as : (n : ℕ) → In n (nodes level) → get_or (nodes level) (label_of (nodes level) labels n) 0 ≡ leader_of rule stands n

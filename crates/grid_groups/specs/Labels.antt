@@ -1,5 +1,5 @@
 -- The groups of a level's nodes by one label per node: the index of the least node joined to it.
-use Rattle.std.specs.Prelude.{◌≡◌, IsTrue, Some, ℕ, ◌<◌, ◌==◌, Bool, List, [], ◌++◌, length, map, filter, position, unwrap_or, slice_get, slice_index}
+use Rattle.std.specs.Prelude.{◌≡◌, IsTrue, Some, ℕ, ◌<◌, ◌==◌, Bool, true, false, not, List, [], ◌++◌, length, map, filter, position, unwrap_or, slice_get, slice_index}
 use Rattle.std.specs.List.{filter_map, zip}
 use Rattle.grid_graph.specs.Components.{places}
 use Rattle.grid_graph.specs.Graph.{Graph, graph, labels_of}
@@ -30,6 +30,16 @@ graph_among ns pairs = graph (length ns) (map (pair_by_index ns) pairs)
 -- the nodes of a level by their indices, and the edges that pass under a rule
 unfoldable pub graph_under : Rule → VoltageLevel → Graph
 graph_under rule level = graph_among (nodes level) (passing rule level)
+
+-- whether a flag lets pass, where those do that have one value
+abbrev pub passing_flag : Bool → Bool → Bool
+passing_flag true flag = flag
+passing_flag false flag = not flag
+
+-- which flags let pass, where those do that have one value
+abbrev pub passing_flags : Bool → List Bool → List Bool
+passing_flags true flags = flags
+passing_flags false flags = map not flags
 
 -- the ends of the switches whose flag is set, and of each internal connection
 unfoldable pub passing_where : VoltageLevel → List Bool → List (ℕ × ℕ)

@@ -7,6 +7,6 @@ mod nets;
 mod node_indices;
 
 pub use grouping::{Group, Groups, Places, group_nodes, leader, terminal_labels, terminals_at};
-pub use joining::{index_of, labels};
+pub use joining::{closed_labels, index_of, labels};
 pub use nets::net_of;
 pub use node_indices::NodeIndices;

@@ -29,10 +29,11 @@ impl<'a> Model for NodeIndices<'a> {
     ghost invariant = { λ i. HoldsIndices (nodes i.level.now) i.table.items };
 }
 
-// How long a table is worth its while: up to the last node, if that is little against the edges.
+// How long a table is worth its while: up to the last node, if that is little against the edges, and if these are not
+// so few that making the table costs more than finding their ends without one.
 fn table_len(level: &Level) -> usize {
     let count = level.node_count();
-    if count == 0 {
+    if count == 0 || level.edge_count() < 4 {
         return 0;
     }
     let len = level.node_at(count - 1) as usize + 1;

@@ -6,6 +6,7 @@ ghost use Rattle.grid_core.specs.Fitting.{RowsFit};
 ghost use Rattle.grid_jsonl.specs.Outcomes as outcomes;
 ghost use Rattle.grid_hvdc.specs.Texts.{LevelsThere};
 ghost use Rattle.grid_hvdc.specs.Lines.{bus_object, named_bus_line, variant_objects};
+ghost use Rattle.grid_report.specs.Puts.{Puts};
 
 use crate::buses::{BusName, list_buses};
 use crate::write::number_buses;
@@ -25,9 +26,7 @@ fn put_bus_line(
     least: u16,
     number: &HvdcNumber,
 ) -> Result<(), Memory>
-    ensures ok { OnOk result (out.new
-        ≡ out.old ++ line_of (bus_object variant.now level.now least number.now)) }
-    ensures err { OnErr result (out.new ≡ []) }
+    ensures { Puts out.old (line_of (bus_object variant.now level.now least number.now)) out.new result }
 {
     open_with(out, "kind", "bus")?;
     put_id(out, "variant", variant)?;
@@ -49,10 +48,9 @@ fn put_bus_lines(
     numbers: &[HvdcNumber],
 ) -> Result<(), Memory>
     requires { LevelsThere structure.now names.now }
-    ensures ok { OnOk result (out.new
-        ≡ out.old ++ flat_map (named_bus_line variant.now structure.now)
-        (zip names.now numbers.now)) }
-    ensures err { OnErr result (out.new ≡ []) }
+    ensures { Puts out.old
+        (flat_map (named_bus_line variant.now structure.now) (zip names.now numbers.now))
+        out.new result }
 {
     for (name, number) in names.iter().zip(numbers) {
         let level = structure.level(name.level).id();

@@ -7,6 +7,7 @@ ghost use Rattle.grid_hvdc.specs.Numbers as numbers;
 ghost use Rattle.grid_hvdc.specs.Names.{bus_names};
 ghost use Rattle.grid_hvdc.specs.Stations.{hvdc_links};
 ghost use Rattle.grid_hvdc.specs.Texts.{component_text, hvdc_line, level_name, named_line, variant_text, LevelsThere, NumbersOf};
+ghost use Rattle.grid_report.specs.Puts.{Puts};
 
 use crate::buses::{BusName, list_buses};
 use crate::links::link_pairs;
@@ -21,8 +22,7 @@ use std::alloc::Global;
 
 // Puts a component's number and size.
 fn put_component(out: &mut Text, number: u32, size: u32) -> Result<(), Memory>
-    ensures ok { OnOk result (out.new ≡ out.old ++ component_text number size) }
-    ensures err { OnErr result (out.new ≡ []) }
+    ensures { Puts out.old (component_text number size) out.new result }
 {
     out.put(" ")?;
     out.put_unsigned(u64::from(number))?;
@@ -34,8 +34,7 @@ fn put_component(out: &mut Text, number: u32, size: u32) -> Result<(), Memory>
 // Puts the line of a bus.
 #[tactic(auto, unfolding(crate::specs::Texts::hvdc_line))]
 fn put_line(out: &mut Text, level: &Id, least: u16, number: &HvdcNumber) -> Result<(), Memory>
-    ensures ok { OnOk result (out.new ≡ out.old ++ hvdc_line level.now least number.now) }
-    ensures err { OnErr result (out.new ≡ []) }
+    ensures { Puts out.old (hvdc_line level.now least number.now) out.new result }
 {
     put_bus_name(out, level, least)?;
     out.put(" connected")?;
@@ -53,9 +52,7 @@ fn put_lines(
     numbers: &[HvdcNumber],
 ) -> Result<(), Memory>
     requires { LevelsThere structure.now names.now }
-    ensures ok { OnOk result (out.new
-        ≡ out.old ++ flat_map (named_line structure.now) (zip names.now numbers.now)) }
-    ensures err { OnErr result (out.new ≡ []) }
+    ensures { Puts out.old (flat_map (named_line structure.now) (zip names.now numbers.now)) out.new result }
 {
     for (name, number) in names.iter().zip(numbers) {
         put_line(out, structure.level(name.level).id(), name.least, number)?;
@@ -94,8 +91,7 @@ pub(crate) fn number_buses(
 
 // Puts a variant's name on a line of its own.
 fn put_name(out: &mut Text, name: &Id) -> Result<(), Memory>
-    ensures ok { OnOk result (out.new ≡ out.old ++ (codes "variant " ++ name.now ++ codes "\n")) }
-    ensures err { OnErr result (out.new ≡ []) }
+    ensures { Puts out.old (codes "variant " ++ name.now ++ codes "\n") out.new result }
 {
     out.put("variant ")?;
     out.put(name.text())?;

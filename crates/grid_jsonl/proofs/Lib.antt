@@ -2,6 +2,7 @@ pub mod RemainingLines
 pub mod Commands
 pub mod StepNumbers
 pub mod TextEscapes
+pub mod Puts
 pub mod Objects
 pub mod Plain
 pub mod Reasons

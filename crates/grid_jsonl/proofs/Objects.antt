@@ -1,8 +1,7 @@
 -- The texts of objects and arrays, part by part.
-use Rattle.std.proofs.Common.{◌≡◌, refl, sym, ap, ◌∙◌, ℕ, List, [], ◌∷◌, ◌++◌, true, false, map, append_assoc, append-nil, Result, Ok, Err, length, get_or, take, drop, ◌≤◌, ◌-◌, arith}
+use Rattle.std.proofs.Common.{◌≡◌, refl, sym, ap, ◌∙◌, ℕ, List, [], ◌∷◌, ◌++◌, true, false, map, append_assoc, append-nil, Result, length, get_or, take, drop, ◌≤◌, ◌-◌, arith}
 use Rattle.std.proofs.lemmas.List.{take_rest}
 use Rattle.std.proofs.lemmas.List.Concat.{flat_map-append}
-use Rattle.std.specs.Prelude.{OnOk}
 use Rattle.std.specs.List.{flat_map}
 use Rattle.json.specs.Print.{quoted}
 use Rattle.serde_json.specs.Data.{Data}
@@ -10,7 +9,9 @@ use Rattle.serde_json.specs.View.{items_of}
 use Rattle.serde_json.specs.Written.{compact_text, items_text, members_text, comma_if}
 use Rattle.grid_print.specs.Objects.{array_of}
 use Rattle.grid_print.specs.Job.{line_of}
+use Rattle.grid_report.specs.Puts.{Puts}
 use Rattle.grid_jsonl.specs.Trees.{ordered, members_of, name_text, field_text, more_text, fields_text}
+use Rattle.grid_jsonl.proofs.Puts.{put_with}
 
 -- ---- arrays
 
@@ -94,16 +95,14 @@ closed {old} {now} {f} {fields} next o e =
     ∙ ap (λ l. old ++ l) (sym (object_text f fields))
 
 -- the object is put where its closing brace is
-pub ends : {T E : Type 0} {old now : List ℕ} {f : List ℕ × Data} {fields : List (List ℕ × Data)} (r : Result T E) (next : List ℕ) → Open old (f ∷ fields) now → OnOk r (next ≡ now ++ 125 ∷ []) → OnOk r (next ≡ old ++ compact_text (ordered (f ∷ fields)))
-ends (Ok x) next o e = closed next o e
-ends (Err x) next o e = tt
+pub ends : {E : Type 0} {old now next : List ℕ} {f : List ℕ × Data} {fields : List (List ℕ × Data)} {r : Result (Unit {0}) E} → Open old (f ∷ fields) now → Puts now (125 ∷ []) next r → Puts old (compact_text (ordered (f ∷ fields))) next r
+ends {E} {old} {now} {next} o p = put_with (closed next o) p
 
 -- the line of an object is put where its closing brace and the newline are
-pub line_ends : {T E : Type 0} {old now : List ℕ} {f : List ℕ × Data} {fields : List (List ℕ × Data)} (r : Result T E) (next : List ℕ) → Open old (f ∷ fields) now → OnOk r (next ≡ now ++ 125 ∷ 10 ∷ []) → OnOk r (next ≡ old ++ line_of (ordered (f ∷ fields)))
-line_ends {T} {E} {old} {now} {f} {fields} (Ok x) next o e =
+pub line_ends : {E : Type 0} {old now next : List ℕ} {f : List ℕ × Data} {fields : List (List ℕ × Data)} {r : Result (Unit {0}) E} → Open old (f ∷ fields) now → Puts now (125 ∷ 10 ∷ []) next r → Puts old (line_of (ordered (f ∷ fields))) next r
+line_ends {E} {old} {now} {next} {f} {fields} o p =
     let whole = closed (now ++ 125 ∷ []) o refl in
-    e ∙ sym (append_assoc now (125 ∷ []) (10 ∷ [])) ∙ ap (λ l. l ++ 10 ∷ []) whole ∙ append_assoc old (compact_text (ordered (f ∷ fields))) (10 ∷ [])
-line_ends (Err x) next o e = tt
+    put_with (λ e. e ∙ sym (append_assoc now (125 ∷ []) (10 ∷ [])) ∙ ap (λ l. l ++ 10 ∷ []) whole ∙ append_assoc old (compact_text (ordered (f ∷ fields))) (10 ∷ [])) p
 
 -- ---- members without braces
 
@@ -123,9 +122,8 @@ one_member {old} {now} {f} {fields} next g o e =
 pub next_member : {old now : List ℕ} {f : List ℕ × Data} {fields : List (List ℕ × Data)} (next : List ℕ) (g : List ℕ × Data) → Members old (f ∷ fields) now → next ≡ now ++ field_text true g → Members old (f ∷ (fields ++ g ∷ [])) next
 next_member next g o e = record { is = one_member next g o e }
 
-pub last_member : {T E : Type 0} {old now : List ℕ} {f : List ℕ × Data} {fields : List (List ℕ × Data)} (r : Result T E) (next : List ℕ) (g : List ℕ × Data) → Members old (f ∷ fields) now → OnOk r (next ≡ now ++ field_text true g) → OnOk r (next ≡ old ++ fields_text (f ∷ (fields ++ g ∷ [])))
-last_member (Ok x) next g o e = one_member next g o e
-last_member (Err x) next g o e = tt
+pub last_member : {E : Type 0} {old now next : List ℕ} {f : List ℕ × Data} {fields : List (List ℕ × Data)} {r : Result (Unit {0}) E} (g : List ℕ × Data) → Members old (f ∷ fields) now → Puts now (field_text true g) next r → Puts old (fields_text (f ∷ (fields ++ g ∷ []))) next r
+last_member {E} {old} {now} {next} g o p = put_with (one_member next g o) p
 
 whole : {A : Type 0} (xs : List A) (x : A) → 1 ≤ length xs → x ≡ get_or xs 0 x → x ∷ drop 1 xs ≡ xs
 whole [] x some is = absurd (omega arith)
@@ -136,17 +134,16 @@ pub first_and : {A : Type 0} (xs : List A) (x : A) → 1 ≤ length xs → x ≡
 first_and xs x some is = ap (λ l. x ∷ l) (take_rest xs 1) ∙ whole xs x some is
 
 -- the same of an array
-pub array_ends : {T E A : Type 0} (r : Result T E) (v : A → Data) (x : A) (xs items : List A) (old opened first others next : List ℕ) → x ∷ xs ≡ items
+pub array_ends : {E A : Type 0} {others next : List ℕ} {r : Result (Unit {0}) E} (v : A → Data) (x : A) (xs items : List A) (old opened first : List ℕ) → x ∷ xs ≡ items
     → opened ≡ old ++ 91 ∷ [] → first ≡ opened ++ compact_text (v x) → others ≡ first ++ flat_map (λ y. 44 ∷ compact_text (v y)) xs
-    → OnOk r (next ≡ others ++ 93 ∷ []) → OnOk r (next ≡ old ++ compact_text (array_of v items))
-array_ends (Err e) v x xs items old opened first others next same a b c d = tt
-array_ends (Ok t) v x xs items old opened first others next same a b c d =
+    → Puts others (93 ∷ []) next r → Puts old (compact_text (array_of v items)) next r
+array_ends v x xs items old opened first same a b c p =
     let rest = flat_map (λ y. 44 ∷ compact_text (v y)) xs in
-    d ∙ ap (λ l. l ++ 93 ∷ []) (c ∙ ap (λ l. l ++ rest) (b ∙ ap (λ l. l ++ compact_text (v x)) a ∙ append_assoc old (91 ∷ []) (compact_text (v x))) ∙ append_assoc old (91 ∷ compact_text (v x)) rest)
+    put_with (λ d. d ∙ ap (λ l. l ++ 93 ∷ []) (c ∙ ap (λ l. l ++ rest) (b ∙ ap (λ l. l ++ compact_text (v x)) a ∙ append_assoc old (91 ∷ []) (compact_text (v x))) ∙ append_assoc old (91 ∷ compact_text (v x)) rest)
     ∙ append_assoc old (91 ∷ (compact_text (v x) ++ rest)) (93 ∷ [])
     ∙ ap (λ l. old ++ 91 ∷ l) (append_assoc (compact_text (v x)) rest (93 ∷ []))
     ∙ ap (λ l. old ++ l) (sym (items_text_is v x xs))
-    ∙ ap (λ l. old ++ compact_text (array_of v l)) same
+    ∙ ap (λ l. old ++ compact_text (array_of v l)) same) p
 
 -- an item more behind the first, behind a comma
 pub other_more : {A : Type 0} (v : A → Data) (xs : List A) (x : A) (first now comma next : List ℕ) → now ≡ first ++ flat_map (λ y. 44 ∷ compact_text (v y)) xs
@@ -158,8 +155,7 @@ other_more v xs x first now comma next so_far a b =
     ∙ ap (λ l. first ++ l) (ap (λ l. before ++ l) (sym (append-nil (44 ∷ compact_text (v x)))) ∙ sym (flat_map-append (λ y. 44 ∷ compact_text (v y)) xs (x ∷ [])))
 
 -- a member is put where its name and then its value are
-pub member_ends : {T E : Type 0} (r : Result T E) (name : List ℕ) (d : Data) (old named next : List ℕ) → named ≡ old ++ name_text true name
-    → OnOk r (next ≡ named ++ compact_text d) → OnOk r (next ≡ old ++ field_text true (name, d))
+pub member_ends : {E : Type 0} {named next : List ℕ} {r : Result (Unit {0}) E} (name : List ℕ) (d : Data) (old : List ℕ) → named ≡ old ++ name_text true name
+    → Puts named (compact_text d) next r → Puts old (field_text true (name, d)) next r
 unfolding field_text
-member_ends (Ok x) name d old named next a b = b ∙ ap (λ l. l ++ compact_text d) a ∙ append_assoc old (name_text true name) (compact_text d)
-member_ends (Err x) name d old named next a b = tt
+member_ends name d old a p = put_with (λ b. b ∙ ap (λ l. l ++ compact_text d) a ∙ append_assoc old (name_text true name) (compact_text d)) p

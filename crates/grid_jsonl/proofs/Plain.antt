@@ -1,6 +1,6 @@
 -- Texts that stand between quotes as they are.
-use Rattle.std.proofs.Common.{◌≡◌, refl, ap, ◌∙◌, ℕ, zero, suc, ℤ, pos, negsuc, ◌+◌, ◌<◌, ◌/◌, ◌%◌, List, [], ◌∷◌, ◌++◌, Bool, true, false, Result, Ok, Err, arith, sym, append_assoc}
-use Rattle.std.specs.Prelude.{◌==◌, decimal, codes, if◌then◌else◌, OnOk}
+use Rattle.std.proofs.Common.{◌≡◌, refl, ap, ◌∙◌, ℕ, zero, suc, ℤ, pos, negsuc, ◌+◌, ◌<◌, ◌/◌, ◌%◌, List, [], ◌∷◌, ◌++◌, Bool, true, false, Result, arith, sym, append_assoc}
+use Rattle.std.specs.Prelude.{◌==◌, decimal, codes, if◌then◌else◌}
 use Rattle.std.specs.Fmt.{digits, digits_onto, digit_glyph}
 use Rattle.std.proofs.lemmas.List.Concat.{flat_map-append}
 use Rattle.std.proofs.lemmas.Bool.{lt-ltb}
@@ -13,6 +13,8 @@ use Rattle.grid_jsonl.specs.Trees.{has_64_bits, sum_value}
 use Rattle.grid_level.specs.declared.Terminal.{Terminal}
 use Rattle.grid_report.specs.Lines.{bus_name, terminal_text}
 use Rattle.grid_report.specs.Words.{signed, behind}
+use Rattle.grid_report.specs.Puts.{Puts}
+use Rattle.grid_jsonl.proofs.Puts.{put_with}
 
 -- the text is written between quotes as it is
 abbrev pub Stays : List ℕ → Type 0
@@ -91,11 +93,10 @@ unfolding escape_byte
 terminal_escaped t = named_escaped t.equipment (codes ".") t.side refl
 
 -- a text is put where an id in it, a mark and digits are, and the closing quote
-pub quoted_ends : {T E : Type 0} (r : Result T E) (before name mark digits text old named numbered next : List ℕ) → 34 ∷ escape text ≡ before ++ escape name ++ mark ++ digits
-    → named ≡ old ++ (before ++ escape name ++ mark) → numbered ≡ named ++ digits → OnOk r (next ≡ numbered ++ 34 ∷ []) → OnOk r (next ≡ old ++ quoted text)
-quoted_ends (Err x) before name mark digits text old named numbered next is a b c = tt
-quoted_ends (Ok x) before name mark digits text old named numbered next is a b c =
+pub quoted_ends : {E : Type 0} {numbered next : List ℕ} {r : Result (Unit {0}) E} (before name mark digits text old named : List ℕ) → 34 ∷ escape text ≡ before ++ escape name ++ mark ++ digits
+    → named ≡ old ++ (before ++ escape name ++ mark) → numbered ≡ named ++ digits → Puts numbered (34 ∷ []) next r → Puts old (quoted text) next r
+quoted_ends before name mark digits text old named is a b p =
     let parts : (before ++ escape name ++ mark) ++ digits ≡ before ++ escape name ++ mark ++ digits = simp append_assoc in
-    c
+    put_with (λ c. c
     ∙ ap (λ l. l ++ 34 ∷ []) (b ∙ ap (λ l. l ++ digits) a ∙ append_assoc old (before ++ escape name ++ mark) digits ∙ ap (λ l. old ++ l) (parts ∙ sym is))
-    ∙ append_assoc old (34 ∷ escape text) (34 ∷ [])
+    ∙ append_assoc old (34 ∷ escape text) (34 ∷ [])) p

@@ -1,11 +1,13 @@
 -- Steps from a place on, the first of them that was refused, and the warning of it.
-use Rattle.std.proofs.Common.{◌≡◌, refl, sym, ap, ◌∙◌, ℕ, suc, ◌+◌, ◌<◌, ◌≤◌, List, ◌∷◌, ◌++◌, drop, take, get_or, length, Bool, true, false, cond, Option, Some, None, add-one, append_assoc, Result, Ok, Err}
-use Rattle.std.specs.Prelude.{find, ◌==◌, OnOk, codes, decimal}
+use Rattle.std.proofs.Common.{◌≡◌, refl, sym, ap, ◌∙◌, ℕ, suc, ◌+◌, ◌<◌, ◌≤◌, List, ◌∷◌, ◌++◌, drop, take, get_or, length, Bool, true, false, cond, Option, Some, None, add-one, append_assoc, Result}
+use Rattle.std.specs.Prelude.{find, ◌==◌, codes, decimal}
 use Rattle.std.specs.List.{count_by}
 use Rattle.std.proofs.Math.Seq.{drop-cons}
 use Rattle.std.proofs.lemmas.List.{drop_all}
 use Rattle.grid_core.specs.declared.journal.Entry.{Entry}
+use Rattle.grid_report.specs.Puts.{Puts}
 use Rattle.grid_jsonl.specs.Steps.{Step, step_of, step_at, steps_from, steps, is_refused, first_refused, refused_count, told_text, warning_of}
+use Rattle.grid_jsonl.proofs.Puts.{put_with}
 
 -- the first refused step from a place on
 abbrev pub refused_from : List Entry → ℕ → Option Step
@@ -49,10 +51,9 @@ none_refused journal place h = ap (λ l. find (λ s. is_refused s.entry.reply) (
 abbrev pub counts_text : List Entry → List ℕ
 counts_text journal = codes "grid: warning: " ++ decimal (refused_count journal) ++ codes " of " ++ decimal (length journal) ++ codes " commands refused; the first: worker "
 
-pub warned : {T E : Type 0} (r : Result T E) (journal : List Entry) (s : Step) (old counts told next : List ℕ) → counts ≡ old ++ counts_text journal → told ≡ counts ++ told_text s
-    → OnOk r (next ≡ told ++ codes "\n") → OnOk r (next ≡ old ++ warning_of journal (Some s))
+pub warned : {E : Type 0} {told next : List ℕ} {r : Result (Unit {0}) E} (journal : List Entry) (s : Step) (old counts : List ℕ) → counts ≡ old ++ counts_text journal → told ≡ counts ++ told_text s
+    → Puts told (codes "\n") next r → Puts old (warning_of journal (Some s)) next r
 unfolding warning_of
-warned (Ok x) journal s old counts told next a b d =
-    d ∙ ap (λ l. l ++ codes "\n") (b ∙ ap (λ l. l ++ told_text s) a ∙ append_assoc old (counts_text journal) (told_text s))
-    ∙ append_assoc old (counts_text journal ++ told_text s) (codes "\n")
-warned (Err x) journal s old counts told next a b d = tt
+warned journal s old counts a b p =
+    put_with (λ d. d ∙ ap (λ l. l ++ codes "\n") (b ∙ ap (λ l. l ++ told_text s) a ∙ append_assoc old (counts_text journal) (told_text s))
+    ∙ append_assoc old (counts_text journal ++ told_text s) (codes "\n")) p

@@ -1,11 +1,12 @@
 // Edits that add a branch.
-ghost use Rattle.std.specs.Prelude.{◌≡◌, ◌++◌, ◌∷◌, OnOk, OnErr, [], true, codes};
+ghost use Rattle.std.specs.Prelude.{◌∷◌, [], true, codes};
 ghost use Rattle.serde_json.specs.Data.{string};
 ghost use Rattle.serde_json.specs.Written.{compact_text};
 ghost use Rattle.grid_print.specs.Network.{end_value};
 ghost use Rattle.grid_print.specs.Objects.{array_of, whole};
 ghost use Rattle.grid_print.specs.Command.{add_branch_value};
 ghost use Rattle.grid_jsonl.specs.Trees.{field_text, more_text};
+ghost use Rattle.grid_report.specs.Puts.{Puts};
 
 use crate::items::Written;
 use crate::member::{open_id, open_with, put_id, put_name, put_text, put_whole, put_whole_number};
@@ -33,9 +34,9 @@ impl Written for End {
 
 /// Puts a member that is an array of two, behind a comma.
 fn put_pair<T: Written>(out: &mut Text, name: &str, first: &T, second: &T) -> Result<(), Memory>
-    ensures ok { OnOk result (out.new
-        ≡ out.old ++ field_text true (name.now, array_of T.written (first.now ∷ second.now ∷ []))) }
-    ensures err { OnErr result (out.new ≡ []) }
+    ensures { Puts out.old
+        (field_text true (name.now, array_of T.written (first.now ∷ second.now ∷ [])))
+        out.new result }
 {
     put_name(out, name)?;
     out.put("[")?;
@@ -53,13 +54,9 @@ fn put_triple<T: Written>(
     second: &T,
     third: &T,
 ) -> Result<(), Memory>
-    ensures ok { OnOk result (out.new
-        ≡ out.old ++ field_text true (
-          name.now,
-          array_of T.written (first.now ∷ second.now
-              ∷ third.now ∷ []),
-        )) }
-    ensures err { OnErr result (out.new ≡ []) }
+    ensures { Puts out.old
+        (field_text true (name.now, array_of T.written (first.now ∷ second.now ∷ third.now ∷ [])))
+        out.new result }
 {
     put_name(out, name)?;
     out.put("[")?;
@@ -73,10 +70,9 @@ fn put_triple<T: Written>(
 
 /// Puts the id and the kind of a branch.
 fn put_kind(out: &mut Text, id: &Id, word: &str) -> Result<(), Memory>
-    ensures ok { OnOk result (out.new
-        ≡ out.old ++ more_text ((codes "id", string id.now) ∷ (codes "kind", string word.now)
-        ∷ [])) }
-    ensures err { OnErr result (out.new ≡ []) }
+    ensures { Puts out.old
+        (more_text ((codes "id", string id.now) ∷ (codes "kind", string word.now) ∷ []))
+        out.new result }
 {
     put_id(out, "id", id)?;
     put_text(out, "kind", word)
@@ -84,9 +80,7 @@ fn put_kind(out: &mut Text, id: &Id, word: &str) -> Result<(), Memory>
 
 /// Puts the edit that adds a branch of this shape.
 pub(crate) fn put_branch(out: &mut Text, id: &Id, shape: &Branch) -> Result<(), Memory>
-    ensures ok { OnOk result (out.new
-        ≡ out.old ++ compact_text (add_branch_value id.now shape.now)) }
-    ensures err { OnErr result (out.new ≡ []) }
+    ensures { Puts out.old (compact_text (add_branch_value id.now shape.now)) out.new result }
 {
     match shape {
         Branch::Line { end1, end2 } => {

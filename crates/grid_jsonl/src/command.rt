@@ -1,11 +1,12 @@
 // Commands, as printing writes them in a job.
-ghost use Rattle.std.specs.Prelude.{◌≡◌, ◌++◌, ◌∷◌, OnOk, OnErr, [], codes};
+ghost use Rattle.std.specs.Prelude.{◌∷◌, [], codes};
 ghost use Rattle.serde_json.specs.Data.{boolean, string};
 ghost use Rattle.serde_json.specs.Written.{compact_text};
 ghost use Rattle.grid_print.specs.Objects.{whole};
 ghost use Rattle.grid_print.specs.Command.{add_injection_value, edit_value, request_value};
 ghost use Rattle.grid_jsonl.specs.Trees.{more_text, ordered};
 ghost use Rattle.grid_jsonl.specs.Commands.{fields_before_node, fields_behind_node, new_level_text, new_switch_text};
+ghost use Rattle.grid_report.specs.Puts.{Puts};
 
 use crate::branch::put_branch;
 use crate::member::{open_with, put_flag, put_given, put_id, put_text, put_whole};
@@ -18,10 +19,9 @@ use grid_structure::Edit;
 
 /// Puts a command of one id.
 fn put_one(out: &mut Text, verb: &str, name: &str, id: &Id) -> Result<(), Memory>
-    ensures ok { OnOk result (out.new
-        ≡ out.old ++ compact_text (ordered ((codes "do", string verb.now)
-        ∷ (name.now, string id.now) ∷ []))) }
-    ensures err { OnErr result (out.new ≡ []) }
+    ensures { Puts out.old
+        (compact_text (ordered ((codes "do", string verb.now) ∷ (name.now, string id.now) ∷ [])))
+        out.new result }
 {
     open_with(out, "do", verb)?;
     put_id(out, name, id)?;
@@ -30,10 +30,10 @@ fn put_one(out: &mut Text, verb: &str, name: &str, id: &Id) -> Result<(), Memory
 
 /// Puts a command that names an equipment and a side.
 fn put_sided(out: &mut Text, verb: &str, id: &Id, side: &i64) -> Result<(), Memory>
-    ensures ok { OnOk result (out.new
-        ≡ out.old ++ compact_text (ordered ((codes "do", string verb.now)
-        ∷ (codes "equipment", string id.now) ∷ (codes "side", whole side.now) ∷ []))) }
-    ensures err { OnErr result (out.new ≡ []) }
+    ensures { Puts out.old
+        (compact_text (ordered ((codes "do", string verb.now) ∷ (codes "equipment", string id.now)
+        ∷ (codes "side", whole side.now) ∷ [])))
+        out.new result }
 {
     open_with(out, "do", verb)?;
     put_id(out, "equipment", id)?;
@@ -50,11 +50,10 @@ fn put_internal(
     node1: &i64,
     node2: &i64,
 ) -> Result<(), Memory>
-    ensures ok { OnOk result (out.new
-        ≡ out.old ++ compact_text (ordered ((codes "do", string verb.now)
-        ∷ (codes "level", string level.now) ∷ (codes "node1", whole node1.now)
-        ∷ (codes "node2", whole node2.now) ∷ []))) }
-    ensures err { OnErr result (out.new ≡ []) }
+    ensures { Puts out.old
+        (compact_text (ordered ((codes "do", string verb.now) ∷ (codes "level", string level.now)
+        ∷ (codes "node1", whole node1.now) ∷ (codes "node2", whole node2.now) ∷ [])))
+        out.new result }
 {
     open_with(out, "do", verb)?;
     put_id(out, "level", level)?;
@@ -64,11 +63,10 @@ fn put_internal(
 }
 
 fn put_new_busbar(out: &mut Text, id: &Id, level: &Id, node: &i64) -> Result<(), Memory>
-    ensures ok { OnOk result (out.new
-        ≡ out.old ++ compact_text (ordered ((codes "do", string (codes "add_busbar"))
-        ∷ (codes "id", string id.now) ∷ (codes "level", string level.now)
-        ∷ (codes "node", whole node.now) ∷ []))) }
-    ensures err { OnErr result (out.new ≡ []) }
+    ensures { Puts out.old
+        (compact_text (ordered ((codes "do", string (codes "add_busbar")) ∷ (codes "id", string id.now)
+        ∷ (codes "level", string level.now) ∷ (codes "node", whole node.now) ∷ [])))
+        out.new result }
 {
     open_with(out, "do", "add_busbar")?;
     put_id(out, "id", id)?;
@@ -79,8 +77,7 @@ fn put_new_busbar(out: &mut Text, id: &Id, level: &Id, node: &i64) -> Result<(),
 
 /// Puts the edit that adds a level, where it is one.
 fn put_new_level(out: &mut Text, edit: &Edit) -> Result<(), Memory>
-    ensures ok { OnOk result (out.new ≡ out.old ++ new_level_text edit.now) }
-    ensures err { OnErr result (out.new ≡ []) }
+    ensures { Puts out.old (new_level_text edit.now) out.new result }
 {
     match edit {
         Edit::AddLevel {
@@ -104,8 +101,7 @@ fn put_new_level(out: &mut Text, edit: &Edit) -> Result<(), Memory>
 
 /// Puts the edit that adds a switch, where it is one.
 fn put_new_switch(out: &mut Text, edit: &Edit) -> Result<(), Memory>
-    ensures ok { OnOk result (out.new ≡ out.old ++ new_switch_text edit.now) }
-    ensures err { OnErr result (out.new ≡ []) }
+    ensures { Puts out.old (new_switch_text edit.now) out.new result }
 {
     match edit {
         Edit::AddSwitch {
@@ -141,10 +137,9 @@ fn put_two(
     name2: &str,
     number2: &i64,
 ) -> Result<(), Memory>
-    ensures ok { OnOk result (out.new
-        ≡ out.old ++ more_text ((name1.now, whole number1.now) ∷ (name2.now, whole number2.now)
-        ∷ [])) }
-    ensures err { OnErr result (out.new ≡ []) }
+    ensures { Puts out.old
+        (more_text ((name1.now, whole number1.now) ∷ (name2.now, whole number2.now) ∷ []))
+        out.new result }
 {
     put_whole(out, name1, number1)?;
     put_whole(out, name2, number2)
@@ -153,8 +148,7 @@ fn put_two(
 /// Puts the members of an injection's kind that stand before its node.
 #[tactic(auto, unfolding(crate::specs::Commands::fields_before_node))]
 fn put_before_node(out: &mut Text, item: &Injection) -> Result<(), Memory>
-    ensures ok { OnOk result (out.new ≡ out.old ++ more_text (fields_before_node item.now)) }
-    ensures err { OnErr result (out.new ≡ []) }
+    ensures { Puts out.old (more_text (fields_before_node item.now)) out.new result }
 {
     match item {
         Injection::Generator { min_p, max_p, .. } => put_two(out, "max_p", max_p, "min_p", min_p),
@@ -169,8 +163,7 @@ fn put_before_node(out: &mut Text, item: &Injection) -> Result<(), Memory>
 /// Puts the members of an injection's kind that stand behind its node.
 #[tactic(auto, unfolding(crate::specs::Commands::fields_behind_node))]
 fn put_behind_node(out: &mut Text, item: &Injection) -> Result<(), Memory>
-    ensures ok { OnOk result (out.new ≡ out.old ++ more_text (fields_behind_node item.now)) }
-    ensures err { OnErr result (out.new ≡ []) }
+    ensures { Puts out.old (more_text (fields_behind_node item.now)) out.new result }
 {
     match item {
         Injection::Load { p0, q0 } => put_two(out, "p0", p0, "q0", q0),
@@ -199,9 +192,7 @@ fn put_new_injection(
     node: &i64,
     item: &Injection,
 ) -> Result<(), Memory>
-    ensures ok { OnOk result (out.new
-        ≡ out.old ++ compact_text (add_injection_value id.now level.now node.now item.now)) }
-    ensures err { OnErr result (out.new ≡ []) }
+    ensures { Puts out.old (compact_text (add_injection_value id.now level.now node.now item.now)) out.new result }
 {
     open_with(out, "do", "add_injection")?;
     put_id(out, "id", id)?;
@@ -214,8 +205,7 @@ fn put_new_injection(
 }
 
 fn put_edit(out: &mut Text, edit: &Edit) -> Result<(), Memory>
-    ensures ok { OnOk result (out.new ≡ out.old ++ compact_text (edit_value edit.now)) }
-    ensures err { OnErr result (out.new ≡ []) }
+    ensures { Puts out.old (compact_text (edit_value edit.now)) out.new result }
 {
     match edit {
         Edit::AddSubstation { id } => put_one(out, "add_substation", "id", id),
@@ -247,10 +237,10 @@ fn put_edit(out: &mut Text, edit: &Edit) -> Result<(), Memory>
 // ---- commands
 
 fn put_retain(out: &mut Text, id: &Id, retained: bool) -> Result<(), Memory>
-    ensures ok { OnOk result (out.new
-        ≡ out.old ++ compact_text (ordered ((codes "do", string (codes "retain"))
-        ∷ (codes "retained", boolean retained) ∷ (codes "switch", string id.now) ∷ []))) }
-    ensures err { OnErr result (out.new ≡ []) }
+    ensures { Puts out.old
+        (compact_text (ordered ((codes "do", string (codes "retain")) ∷ (codes "retained", boolean retained)
+        ∷ (codes "switch", string id.now) ∷ [])))
+        out.new result }
 {
     open_with(out, "do", "retain")?;
     put_flag(out, "retained", retained)?;
@@ -259,10 +249,10 @@ fn put_retain(out: &mut Text, id: &Id, retained: bool) -> Result<(), Memory>
 }
 
 fn put_power(out: &mut Text, id: &Id, watts: &i64) -> Result<(), Memory>
-    ensures ok { OnOk result (out.new
-        ≡ out.old ++ compact_text (ordered ((codes "do", string (codes "set_power"))
-        ∷ (codes "equipment", string id.now) ∷ (codes "watts", whole watts.now) ∷ []))) }
-    ensures err { OnErr result (out.new ≡ []) }
+    ensures { Puts out.old
+        (compact_text (ordered ((codes "do", string (codes "set_power")) ∷ (codes "equipment", string id.now)
+        ∷ (codes "watts", whole watts.now) ∷ [])))
+        out.new result }
 {
     open_with(out, "do", "set_power")?;
     put_id(out, "equipment", id)?;
@@ -271,11 +261,10 @@ fn put_power(out: &mut Text, id: &Id, watts: &i64) -> Result<(), Memory>
 }
 
 fn put_clone(out: &mut Text, from: &Id, to: &Id, overwrite: bool) -> Result<(), Memory>
-    ensures ok { OnOk result (out.new
-        ≡ out.old ++ compact_text (ordered ((codes "do", string (codes "clone"))
-        ∷ (codes "from", string from.now) ∷ (codes "overwrite", boolean overwrite)
-        ∷ (codes "to", string to.now) ∷ []))) }
-    ensures err { OnErr result (out.new ≡ []) }
+    ensures { Puts out.old
+        (compact_text (ordered ((codes "do", string (codes "clone")) ∷ (codes "from", string from.now)
+        ∷ (codes "overwrite", boolean overwrite) ∷ (codes "to", string to.now) ∷ [])))
+        out.new result }
 {
     open_with(out, "do", "clone")?;
     put_id(out, "from", from)?;
@@ -285,9 +274,7 @@ fn put_clone(out: &mut Text, from: &Id, to: &Id, overwrite: bool) -> Result<(), 
 }
 
 fn put_totals(out: &mut Text) -> Result<(), Memory>
-    ensures ok { OnOk result (out.new
-        ≡ out.old ++ compact_text (ordered ((codes "do", string (codes "totals")) ∷ []))) }
-    ensures err { OnErr result (out.new ≡ []) }
+    ensures { Puts out.old (compact_text (ordered ((codes "do", string (codes "totals")) ∷ []))) out.new result }
 {
     open_with(out, "do", "totals")?;
     out.put("}")
@@ -295,8 +282,7 @@ fn put_totals(out: &mut Text) -> Result<(), Memory>
 
 /// Puts a command last, as the object that printing writes for it in a job. Where memory runs out, the text is empty.
 pub fn put_command(out: &mut Text, request: &Request) -> Result<(), Memory>
-    ensures ok { OnOk result (out.new ≡ out.old ++ compact_text (request_value request.now)) }
-    ensures err { OnErr result (out.new ≡ []) }
+    ensures { Puts out.old (compact_text (request_value request.now)) out.new result }
 {
     match request {
         Request::UseVariant { name } => put_one(out, "use", "variant", name),

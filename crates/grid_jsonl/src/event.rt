@@ -1,8 +1,9 @@
 // What listeners were told.
-ghost use Rattle.std.specs.Prelude.{◌≡◌, ◌++◌, ◌∷◌, OnOk, OnErr, [], codes};
+ghost use Rattle.std.specs.Prelude.{◌∷◌, [], codes};
 ghost use Rattle.serde_json.specs.Data.{boolean, string};
 ghost use Rattle.grid_jsonl.specs.Trees.{more_text};
 ghost use Rattle.grid_jsonl.specs.Outcomes.{event_fields};
+ghost use Rattle.grid_report.specs.Puts.{Puts};
 
 use crate::member::{put_flag, put_id, put_text};
 use grid_events::Event;
@@ -11,10 +12,9 @@ use grid_report::Text;
 
 /// Puts the word of an event, and an id.
 fn put_one(out: &mut Text, word: &str, name: &str, id: &Id) -> Result<(), Memory>
-    ensures ok { OnOk result (out.new
-        ≡ out.old ++ more_text ((codes "event", string word.now) ∷ (name.now, string id.now)
-        ∷ [])) }
-    ensures err { OnErr result (out.new ≡ []) }
+    ensures { Puts out.old
+        (more_text ((codes "event", string word.now) ∷ (name.now, string id.now) ∷ []))
+        out.new result }
 {
     put_text(out, "event", word)?;
     put_id(out, name, id)
@@ -22,10 +22,10 @@ fn put_one(out: &mut Text, word: &str, name: &str, id: &Id) -> Result<(), Memory
 
 /// Puts the word of an event, and two variants.
 fn put_made(out: &mut Text, word: &str, from: &Id, to: &Id) -> Result<(), Memory>
-    ensures ok { OnOk result (out.new
-        ≡ out.old ++ more_text ((codes "event", string word.now) ∷ (codes "from", string from.now)
-        ∷ (codes "to", string to.now) ∷ [])) }
-    ensures err { OnErr result (out.new ≡ []) }
+    ensures { Puts out.old
+        (more_text ((codes "event", string word.now) ∷ (codes "from", string from.now)
+        ∷ (codes "to", string to.now) ∷ []))
+        out.new result }
 {
     put_text(out, "event", word)?;
     put_id(out, "from", from)?;
@@ -33,11 +33,10 @@ fn put_made(out: &mut Text, word: &str, from: &Id, to: &Id) -> Result<(), Memory
 }
 
 fn put_updated(out: &mut Text, variant: &Id, switch: &Id, opened: bool) -> Result<(), Memory>
-    ensures ok { OnOk result (out.new
-        ≡ out.old ++ more_text ((codes "event", string (codes "updated"))
-        ∷ (codes "variant", string variant.now) ∷ (codes "switch", string switch.now)
-        ∷ (codes "open", boolean opened) ∷ [])) }
-    ensures err { OnErr result (out.new ≡ []) }
+    ensures { Puts out.old
+        (more_text ((codes "event", string (codes "updated")) ∷ (codes "variant", string variant.now)
+        ∷ (codes "switch", string switch.now) ∷ (codes "open", boolean opened) ∷ []))
+        out.new result }
 {
     put_text(out, "event", "updated")?;
     put_id(out, "variant", variant)?;
@@ -48,8 +47,7 @@ fn put_updated(out: &mut Text, variant: &Id, switch: &Id, opened: bool) -> Resul
 /// Puts the members of an event.
 #[tactic(auto, unfolding(crate::specs::Outcomes::event_fields))]
 pub(crate) fn put_event(out: &mut Text, event: &Event) -> Result<(), Memory>
-    ensures ok { OnOk result (out.new ≡ out.old ++ more_text (event_fields event.now)) }
-    ensures err { OnErr result (out.new ≡ []) }
+    ensures { Puts out.old (more_text (event_fields event.now)) out.new result }
 {
     match event {
         Event::Created { id } => put_one(out, "created", "id", id),

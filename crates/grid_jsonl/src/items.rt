@@ -1,10 +1,11 @@
 // Arrays.
-ghost use Rattle.std.specs.Prelude.{◌≡◌, ◌++◌, ◌∷◌, ℕ, List as Seq, OnOk, OnErr, [], true};
+ghost use Rattle.std.specs.Prelude.{◌∷◌, ℕ, List as Seq, true};
 ghost use Rattle.std.specs.List.{flat_map};
 ghost use Rattle.serde_json.specs.Data.{Data, string};
 ghost use Rattle.serde_json.specs.Written.{compact_text};
 ghost use Rattle.grid_print.specs.Objects.{array_of, natural};
 ghost use Rattle.grid_jsonl.specs.Trees.{field_text};
+ghost use Rattle.grid_report.specs.Puts.{Puts};
 
 use crate::member::put_name;
 use crate::string::put_string;
@@ -18,14 +19,11 @@ pub trait Written {
 
     /// Puts the text of the value last. Where memory runs out, the text is empty.
     fn put(&self, out: &mut Text) -> Result<(), Memory>
-        ensures ok { OnOk result (out.new ≡ out.old ++ compact_text (written self.now)) }
-        ensures err { OnErr result (out.new ≡ []) };
+        ensures { Puts out.old (compact_text (written self.now)) out.new result };
 
     /// Puts the text of each value last, behind a comma. Where memory runs out, the text is empty.
     fn put_others(out: &mut Text, items: &[Self]) -> Result<(), Memory>
-        ensures ok { OnOk result (out.new
-            ≡ out.old ++ flat_map (λ x. 44 ∷ compact_text (written x)) items.now) }
-        ensures err { OnErr result (out.new ≡ []) }
+        ensures { Puts out.old (flat_map (λ x. 44 ∷ compact_text (written x)) items.now) out.new result }
     {
         for item in items {
             out.put(",")?;
@@ -42,9 +40,7 @@ pub trait WrittenIn {
 
     /// Puts the text of the value in a level last. Where memory runs out, the text is empty.
     fn put_in(&self, out: &mut Text, level: &Id) -> Result<(), Memory>
-        ensures ok { OnOk result (out.new
-            ≡ out.old ++ compact_text (written_in level.now self.now)) }
-        ensures err { OnErr result (out.new ≡ []) };
+        ensures { Puts out.old (compact_text (written_in level.now self.now)) out.new result };
 }
 
 impl Written for Id {
@@ -70,8 +66,7 @@ impl Written for u16 {
 
 /// Puts an array last. Where memory runs out, the text is empty.
 pub fn put_items<T: Written>(out: &mut Text, items: &[T]) -> Result<(), Memory>
-    ensures ok { OnOk result (out.new ≡ out.old ++ compact_text (array_of T.written items.now)) }
-    ensures err { OnErr result (out.new ≡ []) }
+    ensures { Puts out.old (compact_text (array_of T.written items.now)) out.new result }
 {
     match items {
         [] => out.put("[]"),
@@ -86,9 +81,7 @@ pub fn put_items<T: Written>(out: &mut Text, items: &[T]) -> Result<(), Memory>
 
 /// Puts each item of a level behind a comma.
 fn put_others_in<T: WrittenIn>(out: &mut Text, level: &Id, items: &[T]) -> Result<(), Memory>
-    ensures ok { OnOk result (out.new
-        ≡ out.old ++ flat_map (λ x. 44 ∷ compact_text (T.written_in level.now x)) items.now) }
-    ensures err { OnErr result (out.new ≡ []) }
+    ensures { Puts out.old (flat_map (λ x. 44 ∷ compact_text (T.written_in level.now x)) items.now) out.new result }
 {
     for item in items {
         out.put(",")?;
@@ -99,9 +92,7 @@ fn put_others_in<T: WrittenIn>(out: &mut Text, level: &Id, items: &[T]) -> Resul
 
 /// Puts an array of items of a level last. Where memory runs out, the text is empty.
 pub fn put_items_in<T: WrittenIn>(out: &mut Text, level: &Id, items: &[T]) -> Result<(), Memory>
-    ensures ok { OnOk result (out.new
-        ≡ out.old ++ compact_text (array_of (T.written_in level.now) items.now)) }
-    ensures err { OnErr result (out.new ≡ []) }
+    ensures { Puts out.old (compact_text (array_of (T.written_in level.now) items.now)) out.new result }
 {
     match items {
         [] => out.put("[]"),
@@ -118,9 +109,7 @@ pub fn put_items_in<T: WrittenIn>(out: &mut Text, level: &Id, items: &[T]) -> Re
 #[inline(always)]
 #[tactic(auto, unfolding(crate::specs::Trees::field_text))]
 pub fn put_array<T: Written>(out: &mut Text, name: &str, items: &[T]) -> Result<(), Memory>
-    ensures ok { OnOk result (out.new
-        ≡ out.old ++ field_text true (name.now, array_of T.written items.now)) }
-    ensures err { OnErr result (out.new ≡ []) }
+    ensures { Puts out.old (field_text true (name.now, array_of T.written items.now)) out.new result }
 {
     put_name(out, name)?;
     put_items(out, items)
@@ -135,9 +124,7 @@ pub fn put_array_in<T: WrittenIn>(
     level: &Id,
     items: &[T],
 ) -> Result<(), Memory>
-    ensures ok { OnOk result (out.new
-        ≡ out.old ++ field_text true (name.now, array_of (T.written_in level.now) items.now)) }
-    ensures err { OnErr result (out.new ≡ []) }
+    ensures { Puts out.old (field_text true (name.now, array_of (T.written_in level.now) items.now)) out.new result }
 {
     put_name(out, name)?;
     put_items_in(out, level, items)

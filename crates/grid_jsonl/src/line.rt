@@ -1,5 +1,5 @@
 // The lines of an outcome, in order.
-ghost use Rattle.std.specs.Prelude.{◌≡◌, ◌++◌, ◌∷◌, OnOk, OnErr, [], true, codes, decimal};
+ghost use Rattle.std.specs.Prelude.{◌≡◌, ◌∷◌, true, codes, decimal};
 ghost use Rattle.std.specs.List.{flat_map};
 ghost use Rattle.serde_json.specs.Written.{compact_text};
 ghost use Rattle.grid_print.specs.Objects.{array_of, natural};
@@ -8,6 +8,7 @@ ghost use Rattle.grid_print.specs.Job.{line_of};
 ghost use Rattle.grid_jsonl.specs.Borrowed.{step_in};
 ghost use Rattle.grid_jsonl.specs.Outcomes as outcomes;
 ghost use Rattle.grid_jsonl.specs.Outcomes.{command_object, end_of, event_object, level_object, order_object, variant_object};
+ghost use Rattle.grid_report.specs.Puts.{Puts};
 
 use crate::event::put_event;
 use crate::items::put_array_in;
@@ -64,9 +65,7 @@ impl Shown for Line<'_> {
 }
 
 fn put_workers(out: &mut Text, journal: &[Entry]) -> Result<(), Memory>
-    ensures ok { OnOk result (out.new
-        ≡ out.old ++ flat_map (λ e. 44 ∷ decimal e.worker) journal.now) }
-    ensures err { OnErr result (out.new ≡ []) }
+    ensures { Puts out.old (flat_map (λ e. 44 ∷ decimal e.worker) journal.now) out.new result }
 {
     for entry in journal {
         out.put(",")?;
@@ -77,9 +76,7 @@ fn put_workers(out: &mut Text, journal: &[Entry]) -> Result<(), Memory>
 
 /// Puts the workers of the steps, as an array.
 fn put_order_array(out: &mut Text, journal: &[Entry]) -> Result<(), Memory>
-    ensures ok { OnOk result (out.new
-        ≡ out.old ++ compact_text (array_of (λ e. natural e.worker) journal.now)) }
-    ensures err { OnErr result (out.new ≡ []) }
+    ensures { Puts out.old (compact_text (array_of (λ e. natural e.worker) journal.now)) out.new result }
 {
     match journal {
         [] => out.put("[]"),
@@ -94,9 +91,9 @@ fn put_order_array(out: &mut Text, journal: &[Entry]) -> Result<(), Memory>
 
 #[tactic(auto, unfolding(crate::specs::Trees::field_text))]
 fn put_order_member(out: &mut Text, journal: &[Entry]) -> Result<(), Memory>
-    ensures ok { OnOk result (out.new
-        ≡ out.old ++ field_text true (codes "order", array_of (λ e. natural e.worker) journal.now)) }
-    ensures err { OnErr result (out.new ≡ []) }
+    ensures { Puts out.old
+        (field_text true (codes "order", array_of (λ e. natural e.worker) journal.now))
+        out.new result }
 {
     put_name(out, "order")?;
     put_order_array(out, journal)
@@ -104,8 +101,7 @@ fn put_order_member(out: &mut Text, journal: &[Entry]) -> Result<(), Memory>
 
 /// Puts the line of kind `order` last: the worker of each step. Where memory runs out, the text is empty.
 pub fn put_order_line(out: &mut Text, journal: &[Entry]) -> Result<(), Memory>
-    ensures ok { OnOk result (out.new ≡ out.old ++ line_of (order_object journal.now)) }
-    ensures err { OnErr result (out.new ≡ []) }
+    ensures { Puts out.old (line_of (order_object journal.now)) out.new result }
 {
     open_with(out, "kind", "order")?;
     put_order_member(out, journal)?;
@@ -113,9 +109,7 @@ pub fn put_order_line(out: &mut Text, journal: &[Entry]) -> Result<(), Memory>
 }
 
 fn put_step_line(out: &mut Text, step: &Step<'_>) -> Result<(), Memory>
-    ensures ok { OnOk result (out.new
-        ≡ out.old ++ line_of (command_object (step_in step.now))) }
-    ensures err { OnErr result (out.new ≡ []) }
+    ensures { Puts out.old (line_of (command_object (step_in step.now))) out.new result }
 {
     open_with(out, "kind", "command")?;
     out.put(",")?;
@@ -125,8 +119,7 @@ fn put_step_line(out: &mut Text, step: &Step<'_>) -> Result<(), Memory>
 
 /// Puts the line of kind `variant` last: the variant's name. Where memory runs out, the text is empty.
 pub fn put_variant_line(out: &mut Text, name: &Id) -> Result<(), Memory>
-    ensures ok { OnOk result (out.new ≡ out.old ++ line_of (variant_object name.now)) }
-    ensures err { OnErr result (out.new ≡ []) }
+    ensures { Puts out.old (line_of (variant_object name.now)) out.new result }
 {
     open_with(out, "kind", "variant")?;
     put_id(out, "variant", name)?;
@@ -134,8 +127,7 @@ pub fn put_variant_line(out: &mut Text, name: &Id) -> Result<(), Memory>
 }
 
 fn put_level(out: &mut Text, name: &Id, view: &BusView) -> Result<(), Memory>
-    ensures ok { OnOk result (out.new ≡ out.old ++ line_of (level_object name.now view.now)) }
-    ensures err { OnErr result (out.new ≡ []) }
+    ensures { Puts out.old (line_of (level_object name.now view.now)) out.new result }
 {
     open_with(out, "kind", "level")?;
     put_id(out, "variant", name)?;
@@ -145,9 +137,7 @@ fn put_level(out: &mut Text, name: &Id, view: &BusView) -> Result<(), Memory>
 }
 
 fn put_heard(out: &mut Text, listener: u64, step: &Step<'_>, event: &Event) -> Result<(), Memory>
-    ensures ok { OnOk result (out.new
-        ≡ out.old ++ line_of (event_object listener (step_in step.now) event.now)) }
-    ensures err { OnErr result (out.new ≡ []) }
+    ensures { Puts out.old (line_of (event_object listener (step_in step.now) event.now)) out.new result }
 {
     open_with(out, "kind", "event")?;
     put_number(out, "listener", listener)?;
@@ -175,8 +165,7 @@ fn counts_of(outcome: &Outcome) -> Counts
 
 /// Puts the line of kind `end` last. Where memory runs out, the text is empty.
 pub fn put_end_line(out: &mut Text, counts: &Counts) -> Result<(), Memory>
-    ensures ok { OnOk result (out.new ≡ out.old ++ line_of (end_of counts.now)) }
-    ensures err { OnErr result (out.new ≡ []) }
+    ensures { Puts out.old (line_of (end_of counts.now)) out.new result }
 {
     open_with(out, "kind", "end")?;
     put_number(out, "workers", u64::from(counts.workers))?;

@@ -1,9 +1,10 @@
 // Blocks of lines, handed to a sink.
-ghost use Rattle.std.specs.Prelude.{◌≡◌, ◌≢◌, ◌≤◌, ◌++◌, [], ℕ, List as Seq, length, OnOk, OnErr, Err};
+ghost use Rattle.std.specs.Prelude.{◌≡◌, ◌≢◌, ◌≤◌, ℕ, List as Seq, length, OnOk, OnErr, Err};
 ghost use Rattle.std.specs.List.{flat_map};
 ghost use Rattle.std.specs.Io.KnownBytes.{Appends};
 ghost use Rattle.grid_source.specs.Causes.{Rose};
 ghost use Rattle.grid_source.specs.Whole.{IsBegun};
+ghost use Rattle.grid_report.specs.Puts.{Puts};
 
 use grid_ids::Memory;
 use grid_report::{Blocks, ReportFault, Shown, Text, write_text};
@@ -17,8 +18,7 @@ pub trait Lined {
 
     /// Puts the lines of the value last. Where memory runs out, the text is empty.
     fn put_lines(&self, out: &mut Text) -> Result<(), Memory>
-        ensures ok { OnOk result (out.new ≡ out.old ++ lined self.now) }
-        ensures err { OnErr result (out.new ≡ []) };
+        ensures { Puts out.old (lined self.now) out.new result };
 }
 
 // A block, shown as its lines.

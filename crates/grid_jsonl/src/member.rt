@@ -1,10 +1,11 @@
 // The members of objects. Their names are literals at nearly every call: where it is inlined, no name is looked
 // through.
-ghost use Rattle.std.specs.Prelude.{◌≡◌, ◌++◌, ◌∷◌, OnOk, OnErr, [], true, false};
+ghost use Rattle.std.specs.Prelude.{◌∷◌, true, false};
 ghost use Rattle.serde_json.specs.Data.{boolean, string};
 ghost use Rattle.serde_json.specs.Written.{compact_text};
 ghost use Rattle.grid_print.specs.Objects.{given, natural, whole};
 ghost use Rattle.grid_jsonl.specs.Trees.{field_text, more_text, name_text, sum_value};
+ghost use Rattle.grid_report.specs.Puts.{Puts};
 
 use crate::string::{put_escaped, put_string};
 use crate::sum::put_sum;
@@ -15,8 +16,7 @@ use grid_report::Text;
 #[inline(always)]
 #[tactic(auto, unfolding(crate::specs::Trees::name_text))]
 pub fn put_name(out: &mut Text, name: &str) -> Result<(), Memory>
-    ensures ok { OnOk result (out.new ≡ out.old ++ name_text true name.now) }
-    ensures err { OnErr result (out.new ≡ []) }
+    ensures { Puts out.old (name_text true name.now) out.new result }
 {
     put_escaped(out, ",\"", name, "\":")
 }
@@ -25,9 +25,7 @@ pub fn put_name(out: &mut Text, name: &str) -> Result<(), Memory>
 #[inline(always)]
 #[tactic(auto, unfolding(crate::specs::Trees::field_text, crate::specs::Trees::name_text))]
 pub fn open_with(out: &mut Text, name: &str, text: &str) -> Result<(), Memory>
-    ensures ok { OnOk result (out.new
-        ≡ out.old ++ 123 ∷ field_text false (name.now, string text.now)) }
-    ensures err { OnErr result (out.new ≡ []) }
+    ensures { Puts out.old (123 ∷ field_text false (name.now, string text.now)) out.new result }
 {
     put_escaped(out, "{\"", name, "\":")?;
     put_string(out, text)
@@ -36,8 +34,7 @@ pub fn open_with(out: &mut Text, name: &str, text: &str) -> Result<(), Memory>
 /// Opens an object with an id. Where memory runs out, the text is empty.
 #[inline(always)]
 pub fn open_id(out: &mut Text, name: &str, id: &Id) -> Result<(), Memory>
-    ensures ok { OnOk result (out.new ≡ out.old ++ 123 ∷ field_text false (name.now, string id.now)) }
-    ensures err { OnErr result (out.new ≡ []) }
+    ensures { Puts out.old (123 ∷ field_text false (name.now, string id.now)) out.new result }
 {
     open_with(out, name, id.text())
 }
@@ -46,8 +43,7 @@ pub fn open_id(out: &mut Text, name: &str, id: &Id) -> Result<(), Memory>
 #[inline(always)]
 #[tactic(auto, unfolding(crate::specs::Trees::field_text))]
 pub fn put_text(out: &mut Text, name: &str, text: &str) -> Result<(), Memory>
-    ensures ok { OnOk result (out.new ≡ out.old ++ field_text true (name.now, string text.now)) }
-    ensures err { OnErr result (out.new ≡ []) }
+    ensures { Puts out.old (field_text true (name.now, string text.now)) out.new result }
 {
     put_name(out, name)?;
     put_string(out, text)
@@ -56,8 +52,7 @@ pub fn put_text(out: &mut Text, name: &str, text: &str) -> Result<(), Memory>
 /// Puts a member that is an id, behind a comma. Where memory runs out, the text is empty.
 #[inline(always)]
 pub fn put_id(out: &mut Text, name: &str, id: &Id) -> Result<(), Memory>
-    ensures ok { OnOk result (out.new ≡ out.old ++ field_text true (name.now, string id.now)) }
-    ensures err { OnErr result (out.new ≡ []) }
+    ensures { Puts out.old (field_text true (name.now, string id.now)) out.new result }
 {
     put_text(out, name, id.text())
 }
@@ -66,8 +61,7 @@ pub fn put_id(out: &mut Text, name: &str, id: &Id) -> Result<(), Memory>
 #[inline(always)]
 #[tactic(auto, unfolding(crate::specs::Trees::field_text))]
 pub fn put_number(out: &mut Text, name: &str, number: u64) -> Result<(), Memory>
-    ensures ok { OnOk result (out.new ≡ out.old ++ field_text true (name.now, natural number)) }
-    ensures err { OnErr result (out.new ≡ []) }
+    ensures { Puts out.old (field_text true (name.now, natural number)) out.new result }
 {
     put_name(out, name)?;
     out.put_unsigned(number)
@@ -75,8 +69,7 @@ pub fn put_number(out: &mut Text, name: &str, number: u64) -> Result<(), Memory>
 
 /// Puts a whole number.
 pub(crate) fn put_whole_number(out: &mut Text, number: &i64) -> Result<(), Memory>
-    ensures ok { OnOk result (out.new ≡ out.old ++ compact_text (whole number.now)) }
-    ensures err { OnErr result (out.new ≡ []) }
+    ensures { Puts out.old (compact_text (whole number.now)) out.new result }
 {
     out.put_whole(number)
 }
@@ -85,8 +78,7 @@ pub(crate) fn put_whole_number(out: &mut Text, number: &i64) -> Result<(), Memor
 #[inline(always)]
 #[tactic(auto, unfolding(crate::specs::Trees::field_text))]
 pub fn put_whole(out: &mut Text, name: &str, number: &i64) -> Result<(), Memory>
-    ensures ok { OnOk result (out.new ≡ out.old ++ field_text true (name.now, whole number.now)) }
-    ensures err { OnErr result (out.new ≡ []) }
+    ensures { Puts out.old (field_text true (name.now, whole number.now)) out.new result }
 {
     put_name(out, name)?;
     put_whole_number(out, number)
@@ -96,8 +88,7 @@ pub fn put_whole(out: &mut Text, name: &str, number: &i64) -> Result<(), Memory>
 #[inline(always)]
 #[tactic(auto, unfolding(crate::specs::Trees::field_text))]
 pub fn put_flag(out: &mut Text, name: &str, flag: bool) -> Result<(), Memory>
-    ensures ok { OnOk result (out.new ≡ out.old ++ field_text true (name.now, boolean flag)) }
-    ensures err { OnErr result (out.new ≡ []) }
+    ensures { Puts out.old (field_text true (name.now, boolean flag)) out.new result }
 {
     put_name(out, name)?;
     if flag {
@@ -109,8 +100,7 @@ pub fn put_flag(out: &mut Text, name: &str, flag: bool) -> Result<(), Memory>
 
 /// Puts a member that is a number where it is given, behind a comma. Where memory runs out, the text is empty.
 pub fn put_given(out: &mut Text, name: &str, number: &Option<i64>) -> Result<(), Memory>
-    ensures ok { OnOk result (out.new ≡ out.old ++ more_text (given name.now whole number.now)) }
-    ensures err { OnErr result (out.new ≡ []) }
+    ensures { Puts out.old (more_text (given name.now whole number.now)) out.new result }
 {
     match number {
         Some(number) => put_whole(out, name, number),
@@ -122,8 +112,7 @@ pub fn put_given(out: &mut Text, name: &str, number: &Option<i64>) -> Result<(),
 #[inline(always)]
 #[tactic(auto, unfolding(crate::specs::Trees::field_text))]
 pub fn put_sum_of(out: &mut Text, name: &str, sum: &i128) -> Result<(), Memory>
-    ensures ok { OnOk result (out.new ≡ out.old ++ field_text true (name.now, sum_value sum.now)) }
-    ensures err { OnErr result (out.new ≡ []) }
+    ensures { Puts out.old (field_text true (name.now, sum_value sum.now)) out.new result }
 {
     put_name(out, name)?;
     put_sum(out, *sum)

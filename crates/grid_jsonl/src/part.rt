@@ -1,10 +1,11 @@
 // The parts of lines: terminals, buses and retained switches.
-ghost use Rattle.std.specs.Prelude.{◌≡◌, ◌++◌, ◌∷◌, OnOk, OnErr, [], true, false, codes};
+ghost use Rattle.std.specs.Prelude.{◌∷◌, true, false, codes};
 ghost use Rattle.json.specs.Print.{quoted};
 ghost use Rattle.serde_json.specs.Data.{string};
 ghost use Rattle.grid_report.specs.Lines.{bus_name};
 ghost use Rattle.grid_jsonl.specs.Trees.{field_text};
 ghost use Rattle.grid_jsonl.specs.Parts.{terminal_value, view_bus_value, bus_value, switch_value, component_value};
+ghost use Rattle.grid_report.specs.Puts.{Puts};
 
 use crate::items::{Written, WrittenIn, put_array};
 use crate::member::{open_id, put_flag, put_name, put_number, put_sum_of};
@@ -29,8 +30,7 @@ impl Written for Terminal {
 /// Puts the id of a bus last, as a text: its level's id, an underscore and its least node. Where memory runs out, the
 /// text is empty.
 pub fn put_bus_id(out: &mut Text, level: &Id, least: u32) -> Result<(), Memory>
-    ensures ok { OnOk result (out.new ≡ out.old ++ quoted (bus_name level.now least)) }
-    ensures err { OnErr result (out.new ≡ []) }
+    ensures { Puts out.old (quoted (bus_name level.now least)) out.new result }
 {
     put_escaped(out, "\"", level.text(), "_")?;
     out.put_unsigned(u64::from(least))?;
@@ -39,9 +39,7 @@ pub fn put_bus_id(out: &mut Text, level: &Id, least: u32) -> Result<(), Memory>
 
 /// Opens the object of a bus with its id. Where memory runs out, the text is empty.
 pub fn open_bus(out: &mut Text, level: &Id, least: u32) -> Result<(), Memory>
-    ensures ok { OnOk result (out.new
-        ≡ out.old ++ 123 ∷ field_text false (codes "id", string (bus_name level.now least))) }
-    ensures err { OnErr result (out.new ≡ []) }
+    ensures { Puts out.old (123 ∷ field_text false (codes "id", string (bus_name level.now least))) out.new result }
 {
     out.put("{\"id\":")?;
     put_bus_id(out, level, least)
@@ -51,9 +49,7 @@ pub fn open_bus(out: &mut Text, level: &Id, least: u32) -> Result<(), Memory>
 #[inline(always)]
 #[tactic(auto, unfolding(crate::specs::Trees::field_text))]
 pub fn put_bus(out: &mut Text, name: &str, level: &Id, least: u32) -> Result<(), Memory>
-    ensures ok { OnOk result (out.new
-        ≡ out.old ++ field_text true (name.now, string (bus_name level.now least))) }
-    ensures err { OnErr result (out.new ≡ []) }
+    ensures { Puts out.old (field_text true (name.now, string (bus_name level.now least))) out.new result }
 {
     put_name(out, name)?;
     put_bus_id(out, level, least)

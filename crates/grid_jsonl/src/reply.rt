@@ -1,5 +1,5 @@
 // Replies.
-ghost use Rattle.std.specs.Prelude.{◌≡◌, ◌++◌, ◌∷◌, OnOk, OnErr, [], true, codes};
+ghost use Rattle.std.specs.Prelude.{◌≡◌, ◌++◌, ◌∷◌, [], true, codes};
 ghost use Rattle.std.specs.Option.{option_copied};
 ghost use Rattle.json.specs.Print.{quoted};
 ghost use Rattle.serde_json.specs.Data.{string};
@@ -11,6 +11,7 @@ ghost use Rattle.grid_jsonl.specs.Parts.{terminal_value, view_bus_value};
 ghost use Rattle.grid_jsonl.specs.Refusals as refusals;
 ghost use Rattle.grid_jsonl.specs.Replies.{answer_of, breaker_value, components_value, operated_value, refused_value, reply_value, totals_value};
 ghost use Rattle.grid_print.specs.Objects.{array_of};
+ghost use Rattle.grid_report.specs.Puts.{Puts};
 
 use crate::items::{Written, put_array, put_array_in, put_items_in};
 use crate::member::{open_with, put_name, put_number, put_sum_of};
@@ -25,8 +26,7 @@ use grid_structure::EditFault;
 
 /// Puts an answer last that is a word alone, as an object. Where memory runs out, the text is empty.
 pub fn put_word(out: &mut Text, word: &str) -> Result<(), Memory>
-    ensures ok { OnOk result (out.new ≡ out.old ++ compact_text (answer_of word.now [])) }
-    ensures err { OnErr result (out.new ≡ []) }
+    ensures { Puts out.old (compact_text (answer_of word.now [])) out.new result }
 {
     open_with(out, "answer", word)?;
     out.put("}")
@@ -34,8 +34,7 @@ pub fn put_word(out: &mut Text, word: &str) -> Result<(), Memory>
 
 /// Puts a word and the switches that were operated.
 fn put_operated(out: &mut Text, word: &str, ids: &[Id]) -> Result<(), Memory>
-    ensures ok { OnOk result (out.new ≡ out.old ++ compact_text (operated_value word.now ids.now)) }
-    ensures err { OnErr result (out.new ≡ []) }
+    ensures { Puts out.old (compact_text (operated_value word.now ids.now)) out.new result }
 {
     open_with(out, "answer", word)?;
     put_array(out, "switches", ids)?;
@@ -43,10 +42,9 @@ fn put_operated(out: &mut Text, word: &str, ids: &[Id]) -> Result<(), Memory>
 }
 
 fn put_no_breaker(out: &mut Text, terminal: &Terminal) -> Result<(), Memory>
-    ensures ok { OnOk result (out.new
-        ≡ out.old ++ compact_text (answer_of (codes "no breaker")
-        ((codes "before", terminal_value terminal.now) ∷ []))) }
-    ensures err { OnErr result (out.new ≡ []) }
+    ensures { Puts out.old
+        (compact_text (answer_of (codes "no breaker") ((codes "before", terminal_value terminal.now) ∷ [])))
+        out.new result }
 {
     open_with(out, "answer", "no breaker")?;
     put_before(out, terminal)?;
@@ -55,17 +53,14 @@ fn put_no_breaker(out: &mut Text, terminal: &Terminal) -> Result<(), Memory>
 
 #[tactic(auto, unfolding(crate::specs::Trees::field_text))]
 fn put_before(out: &mut Text, terminal: &Terminal) -> Result<(), Memory>
-    ensures ok { OnOk result (out.new
-        ≡ out.old ++ field_text true (codes "before", terminal_value terminal.now)) }
-    ensures err { OnErr result (out.new ≡ []) }
+    ensures { Puts out.old (field_text true (codes "before", terminal_value terminal.now)) out.new result }
 {
     put_name(out, "before")?;
     terminal.put(out)
 }
 
 fn put_breaker_view(out: &mut Text, view: &BusBreakerView) -> Result<(), Memory>
-    ensures ok { OnOk result (out.new ≡ out.old ++ compact_text (breaker_value view.now)) }
-    ensures err { OnErr result (out.new ≡ []) }
+    ensures { Puts out.old (compact_text (breaker_value view.now)) out.new result }
 {
     open_with(out, "answer", "bus_breaker_view")?;
     put_array_in(out, "buses", &view.level, view.buses.slice())?;
@@ -74,10 +69,10 @@ fn put_breaker_view(out: &mut Text, view: &BusBreakerView) -> Result<(), Memory>
 }
 
 fn put_bus_view(out: &mut Text, view: &BusView) -> Result<(), Memory>
-    ensures ok { OnOk result (out.new
-        ≡ out.old ++ compact_text (answer_of (codes "bus_view")
-        ((codes "buses", array_of (view_bus_value view.now.level) view.now.buses) ∷ []))) }
-    ensures err { OnErr result (out.new ≡ []) }
+    ensures { Puts out.old
+        (compact_text (answer_of (codes "bus_view")
+        ((codes "buses", array_of (view_bus_value view.now.level) view.now.buses) ∷ [])))
+        out.new result }
 {
     open_with(out, "answer", "bus_view")?;
     put_array_in(out, "buses", &view.level, view.buses.slice())?;
@@ -87,9 +82,7 @@ fn put_bus_view(out: &mut Text, view: &BusView) -> Result<(), Memory>
 /// Puts the buses of the level that was asked for.
 #[tactic(auto, unfolding(crate::specs::Replies::components_value))]
 fn put_asked(out: &mut Text, request: &Request, buses: &[BusComponent]) -> Result<(), Memory>
-    ensures ok { OnOk result (out.new
-        ≡ out.old ++ compact_text (components_value request.now buses.now)) }
-    ensures err { OnErr result (out.new ≡ []) }
+    ensures { Puts out.old (compact_text (components_value request.now buses.now)) out.new result }
 {
     match request {
         Request::Components { level } => put_items_in(out, level, buses),
@@ -103,19 +96,16 @@ fn put_components_of(
     request: &Request,
     buses: &[BusComponent],
 ) -> Result<(), Memory>
-    ensures ok { OnOk result (out.new
-        ≡ out.old ++ field_text true (codes "buses", components_value request.now buses.now)) }
-    ensures err { OnErr result (out.new ≡ []) }
+    ensures { Puts out.old (field_text true (codes "buses", components_value request.now buses.now)) out.new result }
 {
     put_name(out, "buses")?;
     put_asked(out, request, buses)
 }
 
 fn put_components(out: &mut Text, request: &Request, buses: &[BusComponent]) -> Result<(), Memory>
-    ensures ok { OnOk result (out.new
-        ≡ out.old ++ compact_text (answer_of (codes "components")
-        ((codes "buses", components_value request.now buses.now) ∷ []))) }
-    ensures err { OnErr result (out.new ≡ []) }
+    ensures { Puts out.old
+        (compact_text (answer_of (codes "components") ((codes "buses", components_value request.now buses.now) ∷ [])))
+        out.new result }
 {
     open_with(out, "answer", "components")?;
     put_components_of(out, request, buses)?;
@@ -123,9 +113,7 @@ fn put_components(out: &mut Text, request: &Request, buses: &[BusComponent]) -> 
 }
 
 fn put_totals(out: &mut Text, load: &i128, generation: &i128) -> Result<(), Memory>
-    ensures ok { OnOk result (out.new
-        ≡ out.old ++ compact_text (totals_value load.now generation.now)) }
-    ensures err { OnErr result (out.new ≡ []) }
+    ensures { Puts out.old (compact_text (totals_value load.now generation.now)) out.new result }
 {
     open_with(out, "answer", "totals")?;
     put_sum_of(out, "load", load)?;
@@ -159,9 +147,7 @@ fn taken_by(refusal: &Refusal) -> Option<&Terminal>
 
 /// Puts the reason that names the terminal at a node.
 fn put_taken(out: &mut Text, terminal: &Terminal) -> Result<(), Memory>
-    ensures ok { OnOk result (out.new
-        ≡ out.old ++ quoted (codes "node taken by " ++ terminal_text terminal.now)) }
-    ensures err { OnErr result (out.new ≡ []) }
+    ensures { Puts out.old (quoted (codes "node taken by " ++ terminal_text terminal.now)) out.new result }
 {
     put_escaped(out, "\"node taken by ", terminal.equipment.text(), ".")?;
     out.put_unsigned(u64::from(terminal.side))?;
@@ -170,8 +156,7 @@ fn put_taken(out: &mut Text, terminal: &Terminal) -> Result<(), Memory>
 
 /// Puts a reason as it stands, between quotes.
 fn put_plain(out: &mut Text, refusal: &Refusal) -> Result<(), Memory>
-    ensures ok { OnOk result (out.new ≡ out.old ++ 34 ∷ (reason_text refusal.now ++ 34 ∷ [])) }
-    ensures err { OnErr result (out.new ≡ []) }
+    ensures { Puts out.old (34 ∷ (reason_text refusal.now ++ 34 ∷ [])) out.new result }
 {
     out.put("\"")?;
     put_reason(out, refusal)?;
@@ -180,8 +165,7 @@ fn put_plain(out: &mut Text, refusal: &Refusal) -> Result<(), Memory>
 
 /// Puts the reason of a refusal. The id of a terminal is all that may have to be escaped in it.
 fn put_reason_text(out: &mut Text, refusal: &Refusal) -> Result<(), Memory>
-    ensures ok { OnOk result (out.new ≡ out.old ++ quoted (reason_text refusal.now)) }
-    ensures err { OnErr result (out.new ≡ []) }
+    ensures { Puts out.old (quoted (reason_text refusal.now)) out.new result }
 {
     match taken_by(refusal) {
         Some(terminal) => put_taken(out, terminal),
@@ -191,9 +175,7 @@ fn put_reason_text(out: &mut Text, refusal: &Refusal) -> Result<(), Memory>
 
 #[tactic(auto, unfolding(crate::specs::Trees::field_text))]
 fn put_why(out: &mut Text, refusal: &Refusal) -> Result<(), Memory>
-    ensures ok { OnOk result (out.new
-        ≡ out.old ++ field_text true (codes "reason", string (reason_text refusal.now))) }
-    ensures err { OnErr result (out.new ≡ []) }
+    ensures { Puts out.old (field_text true (codes "reason", string (reason_text refusal.now))) out.new result }
 {
     put_name(out, "reason")?;
     put_reason_text(out, refusal)
@@ -201,8 +183,7 @@ fn put_why(out: &mut Text, refusal: &Refusal) -> Result<(), Memory>
 
 /// Puts a refusal last, as an object. Where memory runs out, the text is empty.
 pub fn put_refused(out: &mut Text, refusal: &Refusal) -> Result<(), Memory>
-    ensures ok { OnOk result (out.new ≡ out.old ++ compact_text (refused_value refusal.now)) }
-    ensures err { OnErr result (out.new ≡ []) }
+    ensures { Puts out.old (compact_text (refused_value refusal.now)) out.new result }
 {
     open_with(out, "answer", "refused")?;
     put_number(out, "number", refusal_number(refusal))?;
@@ -215,9 +196,7 @@ pub fn put_refused(out: &mut Text, refusal: &Refusal) -> Result<(), Memory>
 /// Puts a reply to a request last, as an object. Where memory runs out, the text is empty.
 #[tactic(auto, unfolding(crate::specs::Replies::reply_value))]
 pub fn put_reply(out: &mut Text, request: &Request, reply: &Reply) -> Result<(), Memory>
-    ensures ok { OnOk result (out.new
-        ≡ out.old ++ compact_text (reply_value request.now reply.now)) }
-    ensures err { OnErr result (out.new ≡ []) }
+    ensures { Puts out.old (compact_text (reply_value request.now reply.now)) out.new result }
 {
     match reply {
         Reply::Done => put_word(out, "done"),

@@ -1,5 +1,5 @@
 // Steps, the line of kind `state`, and the warning.
-ghost use Rattle.std.specs.Prelude.{◌≡◌, ◌++◌, ◌==◌, length, OnOk, OnErr, [], true, false, codes, decimal};
+ghost use Rattle.std.specs.Prelude.{◌≡◌, ◌++◌, ◌==◌, length, true, false, codes, decimal};
 ghost use Rattle.std.specs.List.{count_by};
 ghost use Rattle.std.specs.Option.{option_map};
 ghost use Rattle.serde_json.specs.Written.{compact_text};
@@ -10,6 +10,7 @@ ghost use Rattle.grid_jsonl.specs.Replies.{reply_value};
 ghost use Rattle.grid_jsonl.specs.Borrowed.{step_in};
 ghost use Rattle.grid_jsonl.specs.Steps as steps;
 ghost use Rattle.grid_jsonl.specs.Steps.{asked_fields, state_line, step_fields, step_of, step_value, told_text, warning_text};
+ghost use Rattle.grid_report.specs.Puts.{Puts};
 
 use crate::command::put_command;
 use crate::member::{open_with, put_id, put_name, put_number};
@@ -30,8 +31,7 @@ pub(crate) struct Step<'a> {
 /// Puts the first member of an object, which is a number.
 #[tactic(auto, unfolding(crate::specs::Trees::field_text, crate::specs::Trees::name_text))]
 fn put_first_number(out: &mut Text, name: &str, number: u64) -> Result<(), Memory>
-    ensures ok { OnOk result (out.new ≡ out.old ++ field_text false (name.now, natural number)) }
-    ensures err { OnErr result (out.new ≡ []) }
+    ensures { Puts out.old (field_text false (name.now, natural number)) out.new result }
 {
     put_escaped(out, "\"", name, "\":")?;
     out.put_unsigned(number)
@@ -39,9 +39,7 @@ fn put_first_number(out: &mut Text, name: &str, number: u64) -> Result<(), Memor
 
 #[tactic(auto, unfolding(crate::specs::Trees::field_text))]
 fn put_asked(out: &mut Text, request: &Request) -> Result<(), Memory>
-    ensures ok { OnOk result (out.new
-        ≡ out.old ++ field_text true (codes "command", request_value request.now)) }
-    ensures err { OnErr result (out.new ≡ []) }
+    ensures { Puts out.old (field_text true (codes "command", request_value request.now)) out.new result }
 {
     put_name(out, "command")?;
     put_command(out, request)
@@ -49,9 +47,7 @@ fn put_asked(out: &mut Text, request: &Request) -> Result<(), Memory>
 
 #[tactic(auto, unfolding(crate::specs::Trees::field_text))]
 fn put_answered(out: &mut Text, request: &Request, reply: &Reply) -> Result<(), Memory>
-    ensures ok { OnOk result (out.new
-        ≡ out.old ++ field_text true (codes "reply", reply_value request.now reply.now)) }
-    ensures err { OnErr result (out.new ≡ []) }
+    ensures { Puts out.old (field_text true (codes "reply", reply_value request.now reply.now)) out.new result }
 {
     put_name(out, "reply")?;
     put_reply(out, request, reply)
@@ -61,10 +57,9 @@ fn put_answered(out: &mut Text, request: &Request, reply: &Reply) -> Result<(), 
 /// worker, its number among its worker's steps from 1, the working variant and the command. Where memory runs out,
 /// the text is empty.
 pub fn put_asked_step(out: &mut Text, place: u64, step: u64, entry: &Entry) -> Result<(), Memory>
-    ensures ok { OnOk result (out.new
-        ≡ out.old ++ fields_text (asked_fields place step entry.now.worker entry.now.variant
-        entry.now.request)) }
-    ensures err { OnErr result (out.new ≡ []) }
+    ensures { Puts out.old
+        (fields_text (asked_fields place step entry.now.worker entry.now.variant entry.now.request))
+        out.new result }
 {
     put_first_number(out, "place", place)?;
     put_number(out, "worker", u64::from(entry.worker))?;
@@ -76,9 +71,7 @@ pub fn put_asked_step(out: &mut Text, place: u64, step: u64, entry: &Entry) -> R
 /// Puts the members of a step last, without braces: its place in the order from 0, its number among its worker's steps
 /// from 1, and what came of it. Where memory runs out, the text is empty.
 pub fn put_step(out: &mut Text, place: u64, step: u64, entry: &Entry) -> Result<(), Memory>
-    ensures ok { OnOk result (out.new
-        ≡ out.old ++ fields_text (step_fields (step_of place step entry.now))) }
-    ensures err { OnErr result (out.new ≡ []) }
+    ensures { Puts out.old (fields_text (step_fields (step_of place step entry.now))) out.new result }
 {
     put_asked_step(out, place, step, entry)?;
     put_answered(out, &entry.request, &entry.reply)
@@ -140,8 +133,7 @@ fn first_refused<'a>(journal: &'a [Entry]) -> Option<Step<'a>>
 
 /// Puts a step between braces.
 fn put_step_object(out: &mut Text, step: &Step<'_>) -> Result<(), Memory>
-    ensures ok { OnOk result (out.new ≡ out.old ++ compact_text (step_value (step_in step.now))) }
-    ensures err { OnErr result (out.new ≡ []) }
+    ensures { Puts out.old (compact_text (step_value (step_in step.now))) out.new result }
 {
     out.put("{")?;
     put_step(out, step.place, step.number, step.entry)?;
@@ -151,9 +143,7 @@ fn put_step_object(out: &mut Text, step: &Step<'_>) -> Result<(), Memory>
 /// Puts a step that was found as a member.
 #[tactic(auto, unfolding(crate::specs::Trees::field_text))]
 fn put_found(out: &mut Text, step: &Step<'_>) -> Result<(), Memory>
-    ensures ok { OnOk result (out.new
-        ≡ out.old ++ field_text true (codes "first_refused", step_value (step_in step.now))) }
-    ensures err { OnErr result (out.new ≡ []) }
+    ensures { Puts out.old (field_text true (codes "first_refused", step_value (step_in step.now))) out.new result }
 {
     put_name(out, "first_refused")?;
     put_step_object(out, step)
@@ -161,10 +151,9 @@ fn put_found(out: &mut Text, step: &Step<'_>) -> Result<(), Memory>
 
 /// Puts the first refused step, where there is one, as a member.
 fn put_first_refused(out: &mut Text, journal: &[Entry]) -> Result<(), Memory>
-    ensures ok { OnOk result (out.new
-        ≡ out.old ++ more_text (given (codes "first_refused") step_value
-        (steps.first_refused journal.now))) }
-    ensures err { OnErr result (out.new ≡ []) }
+    ensures { Puts out.old
+        (more_text (given (codes "first_refused") step_value (steps.first_refused journal.now)))
+        out.new result }
 {
     match first_refused(journal) {
         Some(step) => put_found(out, &step),
@@ -175,8 +164,7 @@ fn put_first_refused(out: &mut Text, journal: &[Entry]) -> Result<(), Memory>
 /// Puts the line of kind `state` of a journal last: how many commands it has, how many were refused, and the first
 /// that was. Where memory runs out, the text is empty.
 pub fn put_state(out: &mut Text, journal: &[Entry]) -> Result<(), Memory>
-    ensures ok { OnOk result (out.new ≡ out.old ++ state_line journal.now) }
-    ensures err { OnErr result (out.new ≡ []) }
+    ensures { Puts out.old (state_line journal.now) out.new result }
 {
     open_with(out, "kind", "state")?;
     put_number(out, "commands", journal.len() as u64)?;
@@ -190,8 +178,7 @@ pub fn put_state(out: &mut Text, journal: &[Entry]) -> Result<(), Memory>
 /// Puts a step's worker and number, and the report's line of it without the number.
 #[tactic(auto, unfolding(crate::specs::Steps::told_text))]
 fn put_told(out: &mut Text, step: &Step<'_>) -> Result<(), Memory>
-    ensures ok { OnOk result (out.new ≡ out.old ++ told_text (step_in step.now)) }
-    ensures err { OnErr result (out.new ≡ []) }
+    ensures { Puts out.old (told_text (step_in step.now)) out.new result }
 {
     let entry = step.entry;
     out.put_unsigned(u64::from(entry.worker))?;
@@ -206,10 +193,10 @@ fn put_told(out: &mut Text, step: &Step<'_>) -> Result<(), Memory>
 
 /// Puts how many of a journal's steps were refused.
 fn put_counts(out: &mut Text, journal: &[Entry]) -> Result<(), Memory>
-    ensures ok { OnOk result (out.new
-        ≡ out.old ++ (codes "grid: warning: " ++ decimal (steps.refused_count journal.now)
-        ++ codes " of " ++ decimal (length journal.now) ++ codes " commands refused; the first: worker ")) }
-    ensures err { OnErr result (out.new ≡ []) }
+    ensures { Puts out.old
+        (codes "grid: warning: " ++ decimal (steps.refused_count journal.now) ++ codes " of "
+        ++ decimal (length journal.now) ++ codes " commands refused; the first: worker ")
+        out.new result }
 {
     out.put("grid: warning: ")?;
     out.put_unsigned(refused_count(journal))?;
@@ -221,8 +208,7 @@ fn put_counts(out: &mut Text, journal: &[Entry]) -> Result<(), Memory>
 /// Puts the line last that warns of a journal's refused commands, and nothing where none was refused. Where memory runs
 /// out, the text is empty.
 pub fn put_warning(out: &mut Text, journal: &[Entry]) -> Result<(), Memory>
-    ensures ok { OnOk result (out.new ≡ out.old ++ warning_text journal.now) }
-    ensures err { OnErr result (out.new ≡ []) }
+    ensures { Puts out.old (warning_text journal.now) out.new result }
 {
     match first_refused(journal) {
         Some(step) => {

@@ -1,7 +1,8 @@
 // Texts as JSON.
-ghost use Rattle.std.specs.Prelude.{◌≡◌, ◌≤◌, ◌<◌, ◌++◌, OnOk, OnErr, [], ◌∷◌, true, take};
+ghost use Rattle.std.specs.Prelude.{◌≡◌, ◌≤◌, ◌<◌, ◌++◌, [], ◌∷◌, true, take};
 ghost use Rattle.std.specs.Char.{digit_char};
 ghost use Rattle.json.specs.Print.{escape, escape_byte, escape_letter, quoted};
+ghost use Rattle.grid_report.specs.Puts.{Puts};
 
 use crate::scan::all_plain;
 use grid_ids::Memory;
@@ -60,8 +61,7 @@ fn is_plain(byte: u8) -> bool
 /// Puts the bytes of a text as they stand between quotes, where some have to be escaped.
 #[inline(never)]
 fn put_escapes(out: &mut Text, text: &str) -> Result<(), Memory>
-    ensures ok { OnOk result (out.new ≡ out.old ++ escape text.now) }
-    ensures err { OnErr result (out.new ≡ []) }
+    ensures { Puts out.old (escape text.now) out.new result }
 {
     let bytes = text.as_bytes();
     let mut start = 0;
@@ -84,8 +84,7 @@ pub(crate) fn put_escaped(
     text: &str,
     behind: &str,
 ) -> Result<(), Memory>
-    ensures ok { OnOk result (out.new ≡ out.old ++ (before.now ++ escape text.now ++ behind.now)) }
-    ensures err { OnErr result (out.new ≡ []) }
+    ensures { Puts out.old (before.now ++ escape text.now ++ behind.now) out.new result }
 {
     if all_plain(text.as_bytes()) {
         return out.put_between(before, text, behind);
@@ -98,8 +97,7 @@ pub(crate) fn put_escaped(
 /// Puts a text last, between quotes; a quote, a backslash and a byte below 32 in it are escaped. Where memory runs
 /// out, the text is empty.
 pub fn put_string(out: &mut Text, text: &str) -> Result<(), Memory>
-    ensures ok { OnOk result (out.new ≡ out.old ++ quoted text.now) }
-    ensures err { OnErr result (out.new ≡ []) }
+    ensures { Puts out.old (quoted text.now) out.new result }
 {
     put_escaped(out, "\"", text, "\"")
 }

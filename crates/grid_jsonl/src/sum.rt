@@ -1,9 +1,10 @@
 // Sums as JSON.
-ghost use Rattle.std.specs.Prelude.{◌≡◌, ◌++◌, OnOk, OnErr, [], ◌∷◌};
+ghost use Rattle.std.specs.Prelude.{◌≡◌, ◌++◌, [], ◌∷◌};
 ghost use Rattle.serde_json.specs.Written.{compact_text};
 ghost use Rattle.grid_report.specs.Words.{signed};
 ghost use Rattle.grid_jsonl.specs.Trees as trees;
 ghost use Rattle.grid_jsonl.specs.Trees.{sum_value};
+ghost use Rattle.grid_report.specs.Puts.{Puts};
 
 use grid_ids::Memory;
 use grid_report::Text;
@@ -18,8 +19,7 @@ fn has_64_bits(sum: i128) -> bool
 
 /// Puts the digits of a sum between quotes.
 fn put_digits(out: &mut Text, sum: &i128) -> Result<(), Memory>
-    ensures ok { OnOk result (out.new ≡ out.old ++ 34 ∷ (signed sum.now ++ 34 ∷ [])) }
-    ensures err { OnErr result (out.new ≡ []) }
+    ensures { Puts out.old (34 ∷ (signed sum.now ++ 34 ∷ [])) out.new result }
 {
     out.put("\"")?;
     out.put_signed(sum)?;
@@ -30,8 +30,7 @@ fn put_digits(out: &mut Text, sum: &i128) -> Result<(), Memory>
 /// text is empty.
 #[tactic(auto, using(crate::proofs::Plain::sum_number, crate::proofs::Plain::sum_digits))]
 pub fn put_sum(out: &mut Text, sum: i128) -> Result<(), Memory>
-    ensures ok { OnOk result (out.new ≡ out.old ++ compact_text (sum_value sum)) }
-    ensures err { OnErr result (out.new ≡ []) }
+    ensures { Puts out.old (compact_text (sum_value sum)) out.new result }
 {
     if has_64_bits(sum) {
         return out.put_signed(&sum);

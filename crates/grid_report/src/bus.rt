@@ -1,6 +1,6 @@
 // The lines of buses.
-ghost use Rattle.std.specs.Prelude.{◌≡◌, ◌++◌, OnOk, OnErr, []};
 ghost use Rattle.grid_report.specs.Lines.{bus_name, terminals_text, bus_text, flows_text, bus_line, bus_lines, count_text, level_text};
+ghost use Rattle.grid_report.specs.Puts.{Puts};
 
 use crate::text::{Shown, Text, put_numbers, put_spaced};
 use grid_busview::{BusView, ViewBus};
@@ -23,8 +23,7 @@ impl Shown for Terminal {
 /// Puts the name of a bus last: its level's id, an underscore and its least node. Where memory runs out, the text is
 /// empty.
 pub fn put_bus_name(out: &mut Text, level: &Id, least: u16) -> Result<(), Memory>
-    ensures ok { OnOk result (out.new ≡ out.old ++ bus_name level.now least) }
-    ensures err { OnErr result (out.new ≡ []) }
+    ensures { Puts out.old (bus_name level.now least) out.new result }
 {
     out.put(level.text())?;
     out.put("_")?;
@@ -33,8 +32,7 @@ pub fn put_bus_name(out: &mut Text, level: &Id, least: u16) -> Result<(), Memory
 
 /// Puts each terminal behind a space, or a dash where there is none. Where memory runs out, the text is empty.
 pub fn put_terminals(out: &mut Text, terminals: &[Terminal]) -> Result<(), Memory>
-    ensures ok { OnOk result (out.new ≡ out.old ++ terminals_text terminals.now) }
-    ensures err { OnErr result (out.new ≡ []) }
+    ensures { Puts out.old (terminals_text terminals.now) out.new result }
 {
     if terminals.is_empty() {
         out.put(" -")
@@ -45,8 +43,7 @@ pub fn put_terminals(out: &mut Text, terminals: &[Terminal]) -> Result<(), Memor
 
 /// Puts the load and the generation of a bus, in W, and ends the line. Where memory runs out, the text is empty.
 pub fn put_flows(out: &mut Text, load: &i128, generation: &i128) -> Result<(), Memory>
-    ensures ok { OnOk result (out.new ≡ out.old ++ flows_text load.now generation.now) }
-    ensures err { OnErr result (out.new ≡ []) }
+    ensures { Puts out.old (flows_text load.now generation.now) out.new result }
 {
     out.put(" | load ")?;
     out.put_signed(load)?;
@@ -64,9 +61,7 @@ pub(crate) fn put_bus(
     nodes: &[u16],
     terminals: &[Terminal],
 ) -> Result<(), Memory>
-    ensures ok { OnOk result (out.new
-        ≡ out.old ++ bus_text level.now least nodes.now terminals.now) }
-    ensures err { OnErr result (out.new ≡ []) }
+    ensures { Puts out.old (bus_text level.now least nodes.now terminals.now) out.new result }
 {
     out.put("  bus ")?;
     put_bus_name(out, level, least)?;
@@ -78,8 +73,7 @@ pub(crate) fn put_bus(
 
 /// Puts the line of a bus of a bus view.
 fn put_bus_line(out: &mut Text, level: &Id, bus: &ViewBus) -> Result<(), Memory>
-    ensures ok { OnOk result (out.new ≡ out.old ++ bus_line level.now bus.now) }
-    ensures err { OnErr result (out.new ≡ []) }
+    ensures { Puts out.old (bus_line level.now bus.now) out.new result }
 {
     put_bus(
         out,
@@ -94,8 +88,7 @@ fn put_bus_line(out: &mut Text, level: &Id, bus: &ViewBus) -> Result<(), Memory>
 /// Puts the line of each bus of a view.
 #[tactic(auto, unfolding(crate::specs::Lines::bus_lines))]
 pub(crate) fn put_buses(out: &mut Text, view: &BusView) -> Result<(), Memory>
-    ensures ok { OnOk result (out.new ≡ out.old ++ bus_lines view.now) }
-    ensures err { OnErr result (out.new ≡ []) }
+    ensures { Puts out.old (bus_lines view.now) out.new result }
 {
     for bus in view.buses.slice() {
         put_bus_line(out, &view.level, bus)?;
@@ -105,8 +98,7 @@ pub(crate) fn put_buses(out: &mut Text, view: &BusView) -> Result<(), Memory>
 
 /// Puts how many buses a view has.
 pub(crate) fn put_count(out: &mut Text, view: &BusView) -> Result<(), Memory>
-    ensures ok { OnOk result (out.new ≡ out.old ++ count_text view.now) }
-    ensures err { OnErr result (out.new ≡ []) }
+    ensures { Puts out.old (count_text view.now) out.new result }
 {
     out.put_unsigned(view.buses.len() as u64)?;
     out.put(" buses")
@@ -115,8 +107,7 @@ pub(crate) fn put_count(out: &mut Text, view: &BusView) -> Result<(), Memory>
 /// Puts a level's line with its buses.
 #[tactic(auto, unfolding(crate::specs::Lines::level_text))]
 pub(crate) fn put_level(out: &mut Text, view: &BusView) -> Result<(), Memory>
-    ensures ok { OnOk result (out.new ≡ out.old ++ level_text view.now) }
-    ensures err { OnErr result (out.new ≡ []) }
+    ensures { Puts out.old (level_text view.now) out.new result }
 {
     out.put("level ")?;
     out.put(view.level.text())?;

@@ -1,7 +1,8 @@
 // What was asked, by its words.
-ghost use Rattle.std.specs.Prelude.{◌≡◌, ◌++◌, OnOk, codes, OnErr, []};
+ghost use Rattle.std.specs.Prelude.{◌++◌, codes};
 ghost use Rattle.grid_report.specs.Words.{behind};
 ghost use Rattle.grid_report.specs.Commands.{edit_text, retained_text, overwrite_text, command_text};
+ghost use Rattle.grid_report.specs.Puts.{Puts};
 
 use crate::text::{Text, put_behind, put_named, put_pair};
 use grid_core::Request;
@@ -16,9 +17,7 @@ fn put_internal(
     node1: &i64,
     node2: &i64,
 ) -> Result<(), Memory>
-    ensures ok { OnOk result (out.new
-        ≡ out.old ++ (word.now ++ level.now ++ behind node1.now ++ behind node2.now)) }
-    ensures err { OnErr result (out.new ≡ []) }
+    ensures { Puts out.old (word.now ++ level.now ++ behind node1.now ++ behind node2.now) out.new result }
 {
     put_named(out, word, level)?;
     put_pair(out, node1, node2)
@@ -26,8 +25,7 @@ fn put_internal(
 
 #[tactic(auto, unfolding(crate::specs::Commands::edit_text))]
 fn put_edit(out: &mut Text, edit: &Edit) -> Result<(), Memory>
-    ensures ok { OnOk result (out.new ≡ out.old ++ edit_text edit.now) }
-    ensures err { OnErr result (out.new ≡ []) }
+    ensures { Puts out.old (edit_text edit.now) out.new result }
 {
     match edit {
         Edit::AddSubstation { id } => put_named(out, "add_substation ", id),
@@ -53,9 +51,7 @@ fn put_edit(out: &mut Text, edit: &Edit) -> Result<(), Memory>
 
 #[tactic(auto, unfolding(crate::specs::Commands::retained_text))]
 fn put_retained(out: &mut Text, id: &Id, retained: bool) -> Result<(), Memory>
-    ensures ok { OnOk result (out.new
-        ≡ out.old ++ (codes "retain " ++ id.now ++ retained_text retained)) }
-    ensures err { OnErr result (out.new ≡ []) }
+    ensures { Puts out.old (codes "retain " ++ id.now ++ retained_text retained) out.new result }
 {
     put_named(out, "retain ", id)?;
     if retained {
@@ -67,8 +63,7 @@ fn put_retained(out: &mut Text, id: &Id, retained: bool) -> Result<(), Memory>
 
 /// Puts the words of a command on an equipment with a number: its side, or its watts.
 fn put_numbered(out: &mut Text, word: &str, id: &Id, number: &i64) -> Result<(), Memory>
-    ensures ok { OnOk result (out.new ≡ out.old ++ (word.now ++ id.now ++ behind number.now)) }
-    ensures err { OnErr result (out.new ≡ []) }
+    ensures { Puts out.old (word.now ++ id.now ++ behind number.now) out.new result }
 {
     put_named(out, word, id)?;
     put_behind(out, number)
@@ -76,10 +71,9 @@ fn put_numbered(out: &mut Text, word: &str, id: &Id, number: &i64) -> Result<(),
 
 #[tactic(auto, unfolding(crate::specs::Commands::overwrite_text))]
 fn put_clone(out: &mut Text, from: &Id, to: &Id, overwrite: bool) -> Result<(), Memory>
-    ensures ok { OnOk result (out.new
-        ≡ out.old
-        ++ (codes "clone " ++ from.now ++ codes " " ++ to.now ++ overwrite_text overwrite)) }
-    ensures err { OnErr result (out.new ≡ []) }
+    ensures { Puts out.old
+        (codes "clone " ++ from.now ++ codes " " ++ to.now ++ overwrite_text overwrite)
+        out.new result }
 {
     put_named(out, "clone ", from)?;
     put_named(out, " ", to)?;
@@ -93,8 +87,7 @@ fn put_clone(out: &mut Text, from: &Id, to: &Id, overwrite: bool) -> Result<(), 
 /// Puts a command by its words. Where memory runs out, the text is empty.
 #[tactic(auto, unfolding(crate::specs::Commands::command_text))]
 pub fn put_command(out: &mut Text, request: &Request) -> Result<(), Memory>
-    ensures ok { OnOk result (out.new ≡ out.old ++ command_text request.now) }
-    ensures err { OnErr result (out.new ≡ []) }
+    ensures { Puts out.old (command_text request.now) out.new result }
 {
     match request {
         Request::UseVariant { name } => put_named(out, "use ", name),

@@ -1,6 +1,7 @@
 // What listeners were told.
-ghost use Rattle.std.specs.Prelude.{◌≡◌, ◌++◌, OnOk, codes, OnErr, []};
+ghost use Rattle.std.specs.Prelude.{◌++◌, codes};
 ghost use Rattle.grid_report.specs.Events.{moved_text, event_text, event_line};
+ghost use Rattle.grid_report.specs.Puts.{Puts};
 
 use crate::text::{Text, put_named};
 use grid_events::Event;
@@ -8,10 +9,9 @@ use grid_ids::{Id, Memory};
 
 #[tactic(auto, unfolding(crate::specs::Events::moved_text))]
 fn put_update(out: &mut Text, variant: &Id, switch: &Id, opened: bool) -> Result<(), Memory>
-    ensures ok { OnOk result (out.new
-        ≡ out.old
-        ++ (codes "updated " ++ variant.now ++ codes " " ++ switch.now ++ moved_text opened)) }
-    ensures err { OnErr result (out.new ≡ []) }
+    ensures { Puts out.old
+        (codes "updated " ++ variant.now ++ codes " " ++ switch.now ++ moved_text opened)
+        out.new result }
 {
     put_named(out, "updated ", variant)?;
     put_named(out, " ", switch)?;
@@ -24,9 +24,7 @@ fn put_update(out: &mut Text, variant: &Id, switch: &Id, opened: bool) -> Result
 
 /// Puts a word and two variants.
 fn put_made(out: &mut Text, word: &str, from: &Id, to: &Id) -> Result<(), Memory>
-    ensures ok { OnOk result (out.new
-        ≡ out.old ++ (word.now ++ from.now ++ codes " to " ++ to.now)) }
-    ensures err { OnErr result (out.new ≡ []) }
+    ensures { Puts out.old (word.now ++ from.now ++ codes " to " ++ to.now) out.new result }
 {
     put_named(out, word, from)?;
     put_named(out, " to ", to)
@@ -34,8 +32,7 @@ fn put_made(out: &mut Text, word: &str, from: &Id, to: &Id) -> Result<(), Memory
 
 #[tactic(auto, unfolding(crate::specs::Events::event_text))]
 fn put_event(out: &mut Text, event: &Event) -> Result<(), Memory>
-    ensures ok { OnOk result (out.new ≡ out.old ++ event_text event.now) }
-    ensures err { OnErr result (out.new ≡ []) }
+    ensures { Puts out.old (event_text event.now) out.new result }
 {
     match event {
         Event::Created { id } => put_named(out, "created ", id),
@@ -54,8 +51,7 @@ fn put_event(out: &mut Text, event: &Event) -> Result<(), Memory>
 /// Puts the line of an event.
 #[tactic(auto, unfolding(crate::specs::Events::event_line))]
 pub(crate) fn put_event_line(out: &mut Text, event: &Event) -> Result<(), Memory>
-    ensures ok { OnOk result (out.new ≡ out.old ++ event_line event.now) }
-    ensures err { OnErr result (out.new ≡ []) }
+    ensures { Puts out.old (event_line event.now) out.new result }
 {
     put_event(out, event)?;
     out.put("\n")

@@ -1,7 +1,8 @@
 // The parts of a report, in order.
-ghost use Rattle.std.specs.Prelude.{◌≡◌, ◌++◌, OnOk, codes, decimal, OnErr, []};
+ghost use Rattle.std.specs.Prelude.{◌++◌, codes, decimal};
 ghost use Rattle.std.specs.List.{flat_map};
 ghost use Rattle.grid_report.specs.Outcomes.{order_line, step_text, worker_line, variant_line, listener_line};
+ghost use Rattle.grid_report.specs.Puts.{Puts};
 
 use crate::bus::put_level;
 use crate::command::put_command;
@@ -83,9 +84,7 @@ impl Shown for Block<'_> {
 
 /// Puts the worker of each step, behind a space.
 fn put_workers(out: &mut Text, journal: &[Entry]) -> Result<(), Memory>
-    ensures ok { OnOk result (out.new
-        ≡ out.old ++ flat_map (λ e. codes " " ++ decimal e.worker) journal.now) }
-    ensures err { OnErr result (out.new ≡ []) }
+    ensures { Puts out.old (flat_map (λ e. codes " " ++ decimal e.worker) journal.now) out.new result }
 {
     for entry in journal {
         out.put(" ")?;
@@ -97,8 +96,7 @@ fn put_workers(out: &mut Text, journal: &[Entry]) -> Result<(), Memory>
 /// Puts the line with the worker of each step, in order. Where memory runs out, the text is empty.
 #[tactic(auto, unfolding(crate::specs::Outcomes::order_line))]
 pub fn put_order(out: &mut Text, journal: &[Entry]) -> Result<(), Memory>
-    ensures ok { OnOk result (out.new ≡ out.old ++ order_line journal.now) }
-    ensures err { OnErr result (out.new ≡ []) }
+    ensures { Puts out.old (order_line journal.now) out.new result }
 {
     out.put("order")?;
     put_workers(out, journal)?;
@@ -108,8 +106,7 @@ pub fn put_order(out: &mut Text, journal: &[Entry]) -> Result<(), Memory>
 /// Puts the line of a worker's number. Where memory runs out, the text is empty.
 #[tactic(auto, unfolding(crate::specs::Outcomes::worker_line))]
 pub fn put_worker(out: &mut Text, worker: u32) -> Result<(), Memory>
-    ensures ok { OnOk result (out.new ≡ out.old ++ worker_line worker) }
-    ensures err { OnErr result (out.new ≡ []) }
+    ensures { Puts out.old (worker_line worker) out.new result }
 {
     out.put("worker ")?;
     out.put_unsigned(u64::from(worker))?;
@@ -118,8 +115,7 @@ pub fn put_worker(out: &mut Text, worker: u32) -> Result<(), Memory>
 
 #[tactic(auto, unfolding(crate::specs::Outcomes::step_text))]
 fn put_step(out: &mut Text, number: u64, entry: &Entry) -> Result<(), Memory>
-    ensures ok { OnOk result (out.new ≡ out.old ++ step_text number entry.now) }
-    ensures err { OnErr result (out.new ≡ []) }
+    ensures { Puts out.old (step_text number entry.now) out.new result }
 {
     out.put_unsigned(number)?;
     put_named(out, " ", &entry.variant)?;
@@ -134,8 +130,7 @@ fn put_step(out: &mut Text, number: u64, entry: &Entry) -> Result<(), Memory>
 /// Puts the line of a variant's name. Where memory runs out, the text is empty.
 #[tactic(auto, unfolding(crate::specs::Outcomes::variant_line))]
 pub fn put_variant(out: &mut Text, name: &Id) -> Result<(), Memory>
-    ensures ok { OnOk result (out.new ≡ out.old ++ variant_line name.now) }
-    ensures err { OnErr result (out.new ≡ []) }
+    ensures { Puts out.old (variant_line name.now) out.new result }
 {
     put_named(out, "variant ", name)?;
     out.put("\n")
@@ -143,8 +138,7 @@ pub fn put_variant(out: &mut Text, name: &Id) -> Result<(), Memory>
 
 #[tactic(auto, unfolding(crate::specs::Outcomes::listener_line))]
 fn put_listener(out: &mut Text, number: u64) -> Result<(), Memory>
-    ensures ok { OnOk result (out.new ≡ out.old ++ listener_line number) }
-    ensures err { OnErr result (out.new ≡ []) }
+    ensures { Puts out.old (listener_line number) out.new result }
 {
     out.put("listener ")?;
     out.put_unsigned(number)?;

@@ -1,8 +1,9 @@
 // Why something was refused.
-ghost use Rattle.std.specs.Prelude.{◌≡◌, ◌++◌, OnOk, OnErr, []};
+ghost use Rattle.std.specs.Prelude.{◌≡◌, ◌++◌};
 ghost use Rattle.grid_report.specs.Words.{behind};
 ghost use Rattle.grid_report.specs.Refusals as refusals;
 ghost use Rattle.grid_report.specs.Refusals.{check_reason, fault_reason, reason_text, refusal_text};
+ghost use Rattle.grid_report.specs.Puts.{Puts};
 
 use crate::text::{Text, put_behind, put_named, put_pair};
 use grid_core::Refusal;
@@ -70,9 +71,7 @@ pub fn refusal_number(refusal: &Refusal) -> u64
 
 /// Puts a text, and two numbers behind it.
 fn put_bound(out: &mut Text, text: &str, found: &i64, bound: &i64) -> Result<(), Memory>
-    ensures ok { OnOk result (out.new
-        ≡ out.old ++ (text.now ++ behind found.now ++ behind bound.now)) }
-    ensures err { OnErr result (out.new ≡ []) }
+    ensures { Puts out.old (text.now ++ behind found.now ++ behind bound.now) out.new result }
 {
     out.put(text)?;
     put_pair(out, found, bound)
@@ -80,8 +79,7 @@ fn put_bound(out: &mut Text, text: &str, found: &i64, bound: &i64) -> Result<(),
 
 #[tactic(auto, unfolding(crate::specs::Refusals::check_reason))]
 fn put_check(out: &mut Text, fault: &CheckFault) -> Result<(), Memory>
-    ensures ok { OnOk result (out.new ≡ out.old ++ check_reason fault.now) }
-    ensures err { OnErr result (out.new ≡ []) }
+    ensures { Puts out.old (check_reason fault.now) out.new result }
 {
     match fault {
         CheckFault::NominalNotPositive { found, bound } => {
@@ -100,8 +98,7 @@ fn put_check(out: &mut Text, fault: &CheckFault) -> Result<(), Memory>
 
 /// Puts a text, and a number behind it.
 fn put_node(out: &mut Text, text: &str, node: &i64) -> Result<(), Memory>
-    ensures ok { OnOk result (out.new ≡ out.old ++ (text.now ++ behind node.now)) }
-    ensures err { OnErr result (out.new ≡ []) }
+    ensures { Puts out.old (text.now ++ behind node.now) out.new result }
 {
     out.put(text)?;
     put_behind(out, node)
@@ -109,8 +106,7 @@ fn put_node(out: &mut Text, text: &str, node: &i64) -> Result<(), Memory>
 
 #[tactic(auto, unfolding(crate::specs::Refusals::fault_reason))]
 fn put_fault(out: &mut Text, fault: &EditFault) -> Result<(), Memory>
-    ensures ok { OnOk result (out.new ≡ out.old ++ fault_reason fault.now) }
-    ensures err { OnErr result (out.new ≡ []) }
+    ensures { Puts out.old (fault_reason fault.now) out.new result }
 {
     match fault {
         EditFault::Check(fault) => put_check(out, fault),
@@ -133,8 +129,7 @@ fn put_fault(out: &mut Text, fault: &EditFault) -> Result<(), Memory>
 /// Puts the reason of a refusal: its words, and the values that it names. Where memory runs out, the text is empty.
 #[tactic(auto, unfolding(crate::specs::Refusals::reason_text))]
 pub fn put_reason(out: &mut Text, refusal: &Refusal) -> Result<(), Memory>
-    ensures ok { OnOk result (out.new ≡ out.old ++ reason_text refusal.now) }
-    ensures err { OnErr result (out.new ≡ []) }
+    ensures { Puts out.old (reason_text refusal.now) out.new result }
 {
     match refusal {
         Refusal::NoVariant => out.put("no variant"),
@@ -155,8 +150,7 @@ pub fn put_reason(out: &mut Text, refusal: &Refusal) -> Result<(), Memory>
 /// Puts a refusal: its number and its reason. Where memory runs out, the text is empty.
 #[tactic(auto, unfolding(crate::specs::Refusals::refusal_text))]
 pub fn put_refusal(out: &mut Text, refusal: &Refusal) -> Result<(), Memory>
-    ensures ok { OnOk result (out.new ≡ out.old ++ refusal_text refusal.now) }
-    ensures err { OnErr result (out.new ≡ []) }
+    ensures { Puts out.old (refusal_text refusal.now) out.new result }
 {
     out.put_unsigned(refusal_number(refusal))?;
     out.put(" ")?;

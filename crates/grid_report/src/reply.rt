@@ -1,11 +1,12 @@
 // What was answered, and the lines below it. The lines below components name the level that the request asked for: a
 // journal has no such reply to another request.
-ghost use Rattle.std.specs.Prelude.{◌≡◌, ◌++◌, OnOk, length, codes, decimal, OnErr, []};
+ghost use Rattle.std.specs.Prelude.{◌++◌, length, codes, decimal};
 ghost use Rattle.std.specs.List.{flat_map};
 ghost use Rattle.grid_report.specs.Lines.{bus_name};
 ghost use Rattle.grid_report.specs.Refusals.{refusal_text};
 ghost use Rattle.grid_report.specs.Words.{signed};
 ghost use Rattle.grid_report.specs.Replies.{ids_text, counts_text, answer_text, plain_line, position_text, switch_line, breaker_lines, component_line, component_lines, detail_lines};
+ghost use Rattle.grid_report.specs.Puts.{Puts};
 
 use crate::bus::{put_bus, put_bus_name, put_buses, put_count};
 use crate::refusal::put_refusal;
@@ -16,9 +17,7 @@ use grid_ids::{Id, Memory};
 
 /// Each id behind a comma and a space.
 fn put_others(out: &mut Text, ids: &[Id]) -> Result<(), Memory>
-    ensures ok { OnOk result (out.new
-        ≡ out.old ++ flat_map (λ other. codes ", " ++ other) ids.now) }
-    ensures err { OnErr result (out.new ≡ []) }
+    ensures { Puts out.old (flat_map (λ other. codes ", " ++ other) ids.now) out.new result }
 {
     for id in ids {
         put_named(out, ", ", id)?;
@@ -29,8 +28,7 @@ fn put_others(out: &mut Text, ids: &[Id]) -> Result<(), Memory>
 /// The ids with a comma and a space between them.
 #[tactic(auto, unfolding(crate::specs::Replies::ids_text))]
 fn put_ids(out: &mut Text, ids: &[Id]) -> Result<(), Memory>
-    ensures ok { OnOk result (out.new ≡ out.old ++ ids_text ids.now) }
-    ensures err { OnErr result (out.new ≡ []) }
+    ensures { Puts out.old (ids_text ids.now) out.new result }
 {
     match ids {
         [] => Ok(()),
@@ -43,8 +41,7 @@ fn put_ids(out: &mut Text, ids: &[Id]) -> Result<(), Memory>
 
 /// Puts a word and the ids of the switches that were operated.
 fn put_operated(out: &mut Text, word: &str, ids: &[Id]) -> Result<(), Memory>
-    ensures ok { OnOk result (out.new ≡ out.old ++ (word.now ++ ids_text ids.now)) }
-    ensures err { OnErr result (out.new ≡ []) }
+    ensures { Puts out.old (word.now ++ ids_text ids.now) out.new result }
 {
     out.put(word)?;
     put_ids(out, ids)
@@ -52,8 +49,7 @@ fn put_operated(out: &mut Text, word: &str, ids: &[Id]) -> Result<(), Memory>
 
 #[tactic(auto, unfolding(crate::specs::Replies::counts_text))]
 fn put_counts(out: &mut Text, view: &BusBreakerView) -> Result<(), Memory>
-    ensures ok { OnOk result (out.new ≡ out.old ++ counts_text view.now) }
-    ensures err { OnErr result (out.new ≡ []) }
+    ensures { Puts out.old (counts_text view.now) out.new result }
 {
     out.put_unsigned(view.buses.len() as u64)?;
     out.put(" buses, ")?;
@@ -62,27 +58,23 @@ fn put_counts(out: &mut Text, view: &BusBreakerView) -> Result<(), Memory>
 }
 
 fn put_bus_count(out: &mut Text, buses: &[BusComponent]) -> Result<(), Memory>
-    ensures ok { OnOk result (out.new ≡ out.old ++ (decimal (length buses.now) ++ codes " buses")) }
-    ensures err { OnErr result (out.new ≡ []) }
+    ensures { Puts out.old (decimal (length buses.now) ++ codes " buses") out.new result }
 {
     out.put_unsigned(buses.len() as u64)?;
     out.put(" buses")
 }
 
 fn put_refused(out: &mut Text, refusal: &Refusal) -> Result<(), Memory>
-    ensures ok { OnOk result (out.new ≡ out.old ++ (codes "refused " ++ refusal_text refusal.now)) }
-    ensures err { OnErr result (out.new ≡ []) }
+    ensures { Puts out.old (codes "refused " ++ refusal_text refusal.now) out.new result }
 {
     out.put("refused ")?;
     put_refusal(out, refusal)
 }
 
 fn put_totals(out: &mut Text, load: &i128, generation: &i128) -> Result<(), Memory>
-    ensures ok { OnOk result (out.new
-        ≡ out.old
-        ++ (codes "load " ++ signed load.now ++ codes " generation "
-        ++ signed generation.now)) }
-    ensures err { OnErr result (out.new ≡ []) }
+    ensures { Puts out.old
+        (codes "load " ++ signed load.now ++ codes " generation " ++ signed generation.now)
+        out.new result }
 {
     out.put("load ")?;
     out.put_signed(load)?;
@@ -93,8 +85,7 @@ fn put_totals(out: &mut Text, load: &i128, generation: &i128) -> Result<(), Memo
 /// Puts the answer on a command's line. Where memory runs out, the text is empty.
 #[tactic(auto, unfolding(crate::specs::Replies::answer_text))]
 pub fn put_answer(out: &mut Text, reply: &Reply) -> Result<(), Memory>
-    ensures ok { OnOk result (out.new ≡ out.old ++ answer_text reply.now) }
-    ensures err { OnErr result (out.new ≡ []) }
+    ensures { Puts out.old (answer_text reply.now) out.new result }
 {
     match reply {
         Reply::Done => out.put("done"),
@@ -120,8 +111,7 @@ pub fn put_answer(out: &mut Text, reply: &Reply) -> Result<(), Memory>
 /// Puts the line of a bus of a bus/breaker view.
 #[tactic(auto, unfolding(crate::specs::Replies::plain_line))]
 fn put_plain(out: &mut Text, level: &Id, bus: &Bus) -> Result<(), Memory>
-    ensures ok { OnOk result (out.new ≡ out.old ++ plain_line level.now bus.now) }
-    ensures err { OnErr result (out.new ≡ []) }
+    ensures { Puts out.old (plain_line level.now bus.now) out.new result }
 {
     put_bus(
         out,
@@ -134,8 +124,7 @@ fn put_plain(out: &mut Text, level: &Id, bus: &Bus) -> Result<(), Memory>
 }
 
 fn put_plains(out: &mut Text, level: &Id, buses: &[Bus]) -> Result<(), Memory>
-    ensures ok { OnOk result (out.new ≡ out.old ++ flat_map (plain_line level.now) buses.now) }
-    ensures err { OnErr result (out.new ≡ []) }
+    ensures { Puts out.old (flat_map (plain_line level.now) buses.now) out.new result }
 {
     for bus in buses {
         put_plain(out, level, bus)?;
@@ -145,8 +134,7 @@ fn put_plains(out: &mut Text, level: &Id, buses: &[Bus]) -> Result<(), Memory>
 
 #[tactic(auto, unfolding(crate::specs::Replies::position_text))]
 fn put_position(out: &mut Text, opened: bool) -> Result<(), Memory>
-    ensures ok { OnOk result (out.new ≡ out.old ++ position_text opened) }
-    ensures err { OnErr result (out.new ≡ []) }
+    ensures { Puts out.old (position_text opened) out.new result }
 {
     if opened {
         out.put(" open ")
@@ -157,10 +145,9 @@ fn put_position(out: &mut Text, opened: bool) -> Result<(), Memory>
 
 /// Puts the names of two buses of a level, and ends the line.
 fn put_ends(out: &mut Text, level: &Id, bus1: u16, bus2: u16) -> Result<(), Memory>
-    ensures ok { OnOk result (out.new
-        ≡ out.old
-        ++ (bus_name level.now bus1 ++ codes " " ++ bus_name level.now bus2 ++ codes "\n")) }
-    ensures err { OnErr result (out.new ≡ []) }
+    ensures { Puts out.old
+        (bus_name level.now bus1 ++ codes " " ++ bus_name level.now bus2 ++ codes "\n")
+        out.new result }
 {
     put_bus_name(out, level, bus1)?;
     out.put(" ")?;
@@ -171,8 +158,7 @@ fn put_ends(out: &mut Text, level: &Id, bus1: u16, bus2: u16) -> Result<(), Memo
 /// Puts the line of a retained switch.
 #[tactic(auto, unfolding(crate::specs::Replies::switch_line))]
 fn put_switch(out: &mut Text, level: &Id, switch: &ViewSwitch) -> Result<(), Memory>
-    ensures ok { OnOk result (out.new ≡ out.old ++ switch_line level.now switch.now) }
-    ensures err { OnErr result (out.new ≡ []) }
+    ensures { Puts out.old (switch_line level.now switch.now) out.new result }
 {
     put_named(out, "  switch ", &switch.id)?;
     put_position(out, switch.opened)?;
@@ -180,8 +166,7 @@ fn put_switch(out: &mut Text, level: &Id, switch: &ViewSwitch) -> Result<(), Mem
 }
 
 fn put_switches(out: &mut Text, level: &Id, switches: &[ViewSwitch]) -> Result<(), Memory>
-    ensures ok { OnOk result (out.new ≡ out.old ++ flat_map (switch_line level.now) switches.now) }
-    ensures err { OnErr result (out.new ≡ []) }
+    ensures { Puts out.old (flat_map (switch_line level.now) switches.now) out.new result }
 {
     for switch in switches {
         put_switch(out, level, switch)?;
@@ -191,8 +176,7 @@ fn put_switches(out: &mut Text, level: &Id, switches: &[ViewSwitch]) -> Result<(
 
 #[tactic(auto, unfolding(crate::specs::Replies::breaker_lines))]
 fn put_breaker_lines(out: &mut Text, view: &BusBreakerView) -> Result<(), Memory>
-    ensures ok { OnOk result (out.new ≡ out.old ++ breaker_lines view.now) }
-    ensures err { OnErr result (out.new ≡ []) }
+    ensures { Puts out.old (breaker_lines view.now) out.new result }
 {
     put_plains(out, &view.level, view.buses.slice())?;
     put_switches(out, &view.level, view.switches.slice())
@@ -201,8 +185,7 @@ fn put_breaker_lines(out: &mut Text, view: &BusBreakerView) -> Result<(), Memory
 /// Puts the line of a bus with its component.
 #[tactic(auto, unfolding(crate::specs::Replies::component_line))]
 fn put_component(out: &mut Text, level: &Id, bus: &BusComponent) -> Result<(), Memory>
-    ensures ok { OnOk result (out.new ≡ out.old ++ component_line level.now bus.now) }
-    ensures err { OnErr result (out.new ≡ []) }
+    ensures { Puts out.old (component_line level.now bus.now) out.new result }
 {
     out.put("  ")?;
     put_bus_name(out, level, bus.least)?;
@@ -214,8 +197,7 @@ fn put_component(out: &mut Text, level: &Id, bus: &BusComponent) -> Result<(), M
 }
 
 fn put_components(out: &mut Text, level: &Id, buses: &[BusComponent]) -> Result<(), Memory>
-    ensures ok { OnOk result (out.new ≡ out.old ++ flat_map (component_line level.now) buses.now) }
-    ensures err { OnErr result (out.new ≡ []) }
+    ensures { Puts out.old (flat_map (component_line level.now) buses.now) out.new result }
 {
     for bus in buses {
         put_component(out, level, bus)?;
@@ -226,8 +208,7 @@ fn put_components(out: &mut Text, level: &Id, buses: &[BusComponent]) -> Result<
 /// Puts the lines of the buses of the level that was asked for.
 #[tactic(auto, unfolding(crate::specs::Replies::component_lines))]
 fn put_asked(out: &mut Text, request: &Request, buses: &[BusComponent]) -> Result<(), Memory>
-    ensures ok { OnOk result (out.new ≡ out.old ++ component_lines request.now buses.now) }
-    ensures err { OnErr result (out.new ≡ []) }
+    ensures { Puts out.old (component_lines request.now buses.now) out.new result }
 {
     match request {
         Request::Components { level } => put_components(out, level, buses),
@@ -238,8 +219,7 @@ fn put_asked(out: &mut Text, request: &Request, buses: &[BusComponent]) -> Resul
 /// Puts the lines below a command's line.
 #[tactic(auto, unfolding(crate::specs::Replies::detail_lines))]
 pub(crate) fn put_details(out: &mut Text, request: &Request, reply: &Reply) -> Result<(), Memory>
-    ensures ok { OnOk result (out.new ≡ out.old ++ detail_lines request.now reply.now) }
-    ensures err { OnErr result (out.new ≡ []) }
+    ensures { Puts out.old (detail_lines request.now reply.now) out.new result }
 {
     match reply {
         Reply::BusBreaker(view) => put_breaker_lines(out, view.get()),

@@ -1,7 +1,8 @@
 // Text that grows, and what is shown of values.
-ghost use Rattle.std.specs.Prelude.{◌≡◌, [], ◌∷◌, ◌++◌, List as Seq, ℕ, OnOk, decimal, OnErr, ◌≤◌, length};
+ghost use Rattle.std.specs.Prelude.{◌≡◌, [], ◌∷◌, ◌++◌, List as Seq, ℕ, decimal, ◌≤◌, length};
 ghost use Rattle.std.specs.List.{flat_map};
 ghost use Rattle.grid_report.specs.Words.{signed, behind};
+ghost use Rattle.grid_report.specs.Puts.{Puts};
 
 use grid_ids::{Id, Memory};
 use itoa::{Buffer, write_digits};
@@ -46,16 +47,14 @@ impl Text {
 
     /// Puts a text last.
     pub fn put(&mut self, text: &str) -> Result<(), Memory>
-        ensures ok { OnOk result (self.new ≡ self.old ++ text.now) }
-        ensures err { OnErr result (self.new ≡ []) }
+        ensures { Puts self.old text.now self.new result }
     {
         self.put_bytes(text.as_bytes())
     }
 
     /// Puts bytes last.
     pub fn put_bytes(&mut self, bytes: &[u8]) -> Result<(), Memory>
-        ensures ok { OnOk result (self.new ≡ self.old ++ bytes.now) }
-        ensures err { OnErr result (self.new ≡ []) }
+        ensures { Puts self.old bytes.now self.new result }
     {
         match self.bytes.extend_from_slice(bytes) {
             Ok(()) => Ok(()),
@@ -69,8 +68,7 @@ impl Text {
     /// Puts a byte last.
     #[inline(always)]
     pub fn put_byte(&mut self, byte: u8) -> Result<(), Memory>
-        ensures ok { OnOk result (self.new ≡ self.old ++ byte ∷ []) }
-        ensures err { OnErr result (self.new ≡ []) }
+        ensures { Puts self.old (byte ∷ []) self.new result }
     {
         match self.bytes.push(byte) {
             Ok(()) => Ok(()),
@@ -84,8 +82,7 @@ impl Text {
     /// Puts a text last, between two others.
     #[inline(always)]
     pub fn put_between(&mut self, before: &str, text: &str, behind: &str) -> Result<(), Memory>
-        ensures ok { OnOk result (self.new ≡ self.old ++ (before.now ++ text.now ++ behind.now)) }
-        ensures err { OnErr result (self.new ≡ []) }
+        ensures { Puts self.old (before.now ++ text.now ++ behind.now) self.new result }
     {
         self.put(before)?;
         self.put(text)?;
@@ -95,8 +92,7 @@ impl Text {
     /// Puts a number last, in decimal digits without a leading zero.
     #[inline(always)]
     pub fn put_unsigned(&mut self, number: u64) -> Result<(), Memory>
-        ensures ok { OnOk result (self.new ≡ self.old ++ decimal number) }
-        ensures err { OnErr result (self.new ≡ []) }
+        ensures { Puts self.old (decimal number) self.new result }
     {
         if number < 10 {
             self.put_byte(b'0' + number as u8)
@@ -108,8 +104,7 @@ impl Text {
     // The same through a buffer, whatever the count of digits.
     #[inline(never)]
     fn put_digits(&mut self, number: u64) -> Result<(), Memory>
-        ensures ok { OnOk result (self.new ≡ self.old ++ decimal number) }
-        ensures err { OnErr result (self.new ≡ []) }
+        ensures { Puts self.old (decimal number) self.new result }
     {
         let mut bytes = [0; 20];
         let start = write_digits(number, &mut bytes, 20);
@@ -118,8 +113,7 @@ impl Text {
 
     /// Puts a total last, in decimal digits without a leading zero.
     pub fn put_total(&mut self, total: u128) -> Result<(), Memory>
-        ensures ok { OnOk result (self.new ≡ self.old ++ decimal total) }
-        ensures err { OnErr result (self.new ≡ []) }
+        ensures { Puts self.old (decimal total) self.new result }
     {
         self.put(Buffer::new().format(total))
     }
@@ -127,8 +121,7 @@ impl Text {
     /// Puts a whole number last, with a minus sign in front of its digits where it is below 0.
     #[tactic(auto, unfolding(crate::specs::Words::signed))]
     pub fn put_whole(&mut self, number: &i64) -> Result<(), Memory>
-        ensures ok { OnOk result (self.new ≡ self.old ++ signed number.now) }
-        ensures err { OnErr result (self.new ≡ []) }
+        ensures { Puts self.old (signed number.now) self.new result }
     {
         let number = *number;
         self.put(Buffer::new().format(number))
@@ -137,8 +130,7 @@ impl Text {
     /// Puts a number last, with a minus sign in front of its digits where it is below 0.
     #[tactic(auto, unfolding(crate::specs::Words::signed))]
     pub fn put_signed(&mut self, number: &i128) -> Result<(), Memory>
-        ensures ok { OnOk result (self.new ≡ self.old ++ signed number.now) }
-        ensures err { OnErr result (self.new ≡ []) }
+        ensures { Puts self.old (signed number.now) self.new result }
     {
         let number = *number;
         self.put(Buffer::new().format(number))
@@ -152,8 +144,7 @@ pub trait Shown {
 
     /// Puts what is written of the value last. Where memory runs out, no text is left.
     fn show(&self, out: &mut Text) -> Result<(), Memory>
-        ensures ok { OnOk result (out.new ≡ out.old ++ shown self.now) }
-        ensures err { OnErr result (out.new ≡ []) };
+        ensures { Puts out.old (shown self.now) out.new result };
 }
 
 impl Shown for u8 {
@@ -190,8 +181,7 @@ impl Shown for Id {
 
 /// Puts each item behind a space. Where memory runs out, the text is empty.
 pub fn put_spaced<T: Shown>(out: &mut Text, items: &[T]) -> Result<(), Memory>
-    ensures ok { OnOk result (out.new ≡ out.old ++ flat_map (λ x. 32 ∷ T.shown x) items.now) }
-    ensures err { OnErr result (out.new ≡ []) }
+    ensures { Puts out.old (flat_map (λ x. 32 ∷ T.shown x) items.now) out.new result }
 {
     for item in items {
         out.put(" ")?;
@@ -202,9 +192,7 @@ pub fn put_spaced<T: Shown>(out: &mut Text, items: &[T]) -> Result<(), Memory>
 
 /// Puts each number behind a separator. Where memory runs out, the text is empty.
 pub fn put_numbers(out: &mut Text, separator: u8, numbers: &[u16]) -> Result<(), Memory>
-    ensures ok { OnOk result (out.new
-        ≡ out.old ++ flat_map (λ n. separator ∷ decimal n) numbers.now) }
-    ensures err { OnErr result (out.new ≡ []) }
+    ensures { Puts out.old (flat_map (λ n. separator ∷ decimal n) numbers.now) out.new result }
 {
     for few in numbers.chunks(16) {
         put_few(out, separator, few)?;
@@ -216,8 +204,7 @@ pub fn put_numbers(out: &mut Text, separator: u8, numbers: &[u16]) -> Result<(),
 /// each, and put at once.
 fn put_few(out: &mut Text, separator: u8, few: &[u16]) -> Result<(), Memory>
     requires { length few.now ≤ 16 }
-    ensures ok { OnOk result (out.new ≡ out.old ++ flat_map (λ n. separator ∷ decimal n) few.now) }
-    ensures err { OnErr result (out.new ≡ []) }
+    ensures { Puts out.old (flat_map (λ n. separator ∷ decimal n) few.now) out.new result }
 {
     let mut bytes = [separator; 96];
     let mut start = bytes.len();
@@ -229,8 +216,7 @@ fn put_few(out: &mut Text, separator: u8, few: &[u16]) -> Result<(), Memory>
 
 /// Puts words and a value behind them. Where memory runs out, the text is empty.
 pub fn put_named<T: Shown>(out: &mut Text, words: &str, value: &T) -> Result<(), Memory>
-    ensures ok { OnOk result (out.new ≡ out.old ++ (words.now ++ T.shown value.now)) }
-    ensures err { OnErr result (out.new ≡ []) }
+    ensures { Puts out.old (words.now ++ T.shown value.now) out.new result }
 {
     out.put(words)?;
     value.show(out)
@@ -238,8 +224,7 @@ pub fn put_named<T: Shown>(out: &mut Text, words: &str, value: &T) -> Result<(),
 
 /// Puts a space and a number behind it.
 pub(crate) fn put_behind(out: &mut Text, number: &i64) -> Result<(), Memory>
-    ensures ok { OnOk result (out.new ≡ out.old ++ behind number.now) }
-    ensures err { OnErr result (out.new ≡ []) }
+    ensures { Puts out.old (behind number.now) out.new result }
 {
     out.put(" ")?;
     out.put_whole(number)
@@ -247,8 +232,7 @@ pub(crate) fn put_behind(out: &mut Text, number: &i64) -> Result<(), Memory>
 
 /// Puts two numbers, each behind a space.
 pub(crate) fn put_pair(out: &mut Text, first: &i64, second: &i64) -> Result<(), Memory>
-    ensures ok { OnOk result (out.new ≡ out.old ++ (behind first.now ++ behind second.now)) }
-    ensures err { OnErr result (out.new ≡ []) }
+    ensures { Puts out.old (behind first.now ++ behind second.now) out.new result }
 {
     put_behind(out, first)?;
     put_behind(out, second)

@@ -1,11 +1,12 @@
 // The line of a contingency.
-ghost use Rattle.std.specs.Prelude.{◌≡◌, ◌++◌, [], true, OnOk, OnErr, codes, flat_map};
+ghost use Rattle.std.specs.Prelude.{◌++◌, true, codes, flat_map};
 ghost use Rattle.serde_json.specs.Data.{string};
 ghost use Rattle.grid_print.specs.Objects.{array_of};
 ghost use Rattle.grid_print.specs.Job.{line_of};
 ghost use Rattle.grid_jsonl.specs.Trees.{field_text, more_text};
 ghost use Rattle.grid_screen.specs.Faults.{switch_ids};
 ghost use Rattle.grid_screen.specs.Lines.{contingency_object, effect_fields, unconnected_fields, tripped_fields, more_fields, finding_fields};
+ghost use Rattle.grid_report.specs.Puts.{Puts};
 
 use crate::faults::Breakers;
 use crate::write::put_switch_ids;
@@ -19,8 +20,7 @@ use grid_structure::{Structure, SwitchAt};
 // Puts the figures after the outage, and what was lost.
 #[tactic(auto, unfolding(crate::specs::Lines::effect_fields))]
 fn put_effect(out: &mut Text, after: &Figures, losses: &Losses) -> Result<(), Memory>
-    ensures ok { OnOk result (out.new ≡ out.old ++ more_text (effect_fields after.now losses.now)) }
-    ensures err { OnErr result (out.new ≡ []) }
+    ensures { Puts out.old (more_text (effect_fields after.now losses.now)) out.new result }
 {
     put_number(out, "buses", u64::from(after.buses))?;
     put_number(out, "components", u64::from(after.components))?;
@@ -32,8 +32,7 @@ fn put_effect(out: &mut Text, after: &Figures, losses: &Losses) -> Result<(), Me
 // Puts what became unconnected.
 #[tactic(auto, unfolding(crate::specs::Lines::unconnected_fields))]
 fn put_unconnected(out: &mut Text, losses: &Losses) -> Result<(), Memory>
-    ensures ok { OnOk result (out.new ≡ out.old ++ more_text (unconnected_fields losses.now)) }
-    ensures err { OnErr result (out.new ≡ []) }
+    ensures { Puts out.old (more_text (unconnected_fields losses.now)) out.new result }
 {
     put_sum_of(out, "unconnected_load", &losses.unconnected_load)?;
     put_sum_of(
@@ -51,9 +50,9 @@ fn put_ids_of(
     structure: &Structure,
     switches: &[SwitchAt],
 ) -> Result<(), Memory>
-    ensures ok { OnOk result (out.new ≡ out.old ++ field_text true
-        (name.now, array_of string (flat_map (switch_ids structure.now) switches.now))) }
-    ensures err { OnErr result (out.new ≡ []) }
+    ensures { Puts out.old
+        (field_text true (name.now, array_of string (flat_map (switch_ids structure.now) switches.now)))
+        out.new result }
 {
     put_name(out, name)?;
     put_switch_ids(out, structure, switches)
@@ -65,8 +64,7 @@ fn put_tripped(
     structure: &Structure,
     tripped: &Option<Breakers>,
 ) -> Result<(), Memory>
-    ensures ok { OnOk result (out.new ≡ out.old ++ more_text (tripped_fields structure.now tripped.now)) }
-    ensures err { OnErr result (out.new ≡ []) }
+    ensures { Puts out.old (more_text (tripped_fields structure.now tripped.now)) out.new result }
 {
     match tripped {
         Some(breakers) => put_ids_of(out, "tripped", structure, breakers.slice()),
@@ -81,9 +79,9 @@ fn put_second(
     losses: &Losses,
     tripped: &Option<Breakers>,
 ) -> Result<(), Memory>
-    ensures ok { OnOk result (out.new ≡ out.old
-        ++ more_text (unconnected_fields losses.now ++ tripped_fields structure.now tripped.now)) }
-    ensures err { OnErr result (out.new ≡ []) }
+    ensures { Puts out.old
+        (more_text (unconnected_fields losses.now ++ tripped_fields structure.now tripped.now))
+        out.new result }
 {
     put_unconnected(out, losses)?;
     put_tripped(out, structure, tripped)
@@ -96,9 +94,9 @@ fn put_more(
     losses: &Losses,
     tripped: &Option<Breakers>,
 ) -> Result<(), Memory>
-    ensures ok { OnOk result (out.new ≡ out.old ++ more_text (more_fields telling.now.format
-        telling.now.structure.now losses.now tripped.now)) }
-    ensures err { OnErr result (out.new ≡ []) }
+    ensures { Puts out.old
+        (more_text (more_fields telling.now.format telling.now.structure.now losses.now tripped.now))
+        out.new result }
 {
     match telling.format {
         Format::One => Ok(()),
@@ -112,9 +110,9 @@ fn put_more(
 // Puts the members of what is found.
 #[tactic(auto, unfolding(crate::specs::Lines::finding_fields))]
 fn put_found(out: &mut Text, telling: &Telling<'_>, finding: &Finding) -> Result<(), Memory>
-    ensures ok { OnOk result (out.new ≡ out.old ++ more_text (finding_fields telling.now.format
-        telling.now.structure.now finding.now)) }
-    ensures err { OnErr result (out.new ≡ []) }
+    ensures { Puts out.old
+        (more_text (finding_fields telling.now.format telling.now.structure.now finding.now))
+        out.new result }
 {
     match finding {
         Finding::UnknownId(id) => put_id(out, "unknown", id),
@@ -139,9 +137,9 @@ pub fn put_finding_line(
     name: &Id,
     finding: &Finding,
 ) -> Result<(), Memory>
-    ensures ok { OnOk result (out.new ≡ out.old ++ line_of (contingency_object telling.now.format
-        telling.now.structure.now place name.now finding.now)) }
-    ensures err { OnErr result (out.new ≡ []) }
+    ensures { Puts out.old
+        (line_of (contingency_object telling.now.format telling.now.structure.now place name.now finding.now))
+        out.new result }
 {
     open_with(out, "kind", "contingency")?;
     put_number(out, "place", place)?;

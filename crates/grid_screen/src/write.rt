@@ -1,9 +1,10 @@
 // What is written of a contingency.
-ghost use Rattle.std.specs.Prelude.{◌≡◌, ◌++◌, [], ◌∷◌, Option, OnOk, OnErr, flat_map};
+ghost use Rattle.std.specs.Prelude.{◌≡◌, Option, flat_map};
 ghost use Rattle.std.specs.Option.{option_map, option_to_list};
 ghost use Rattle.grid_screen.specs.Faults.{switch_ids};
 ghost use Rattle.grid_screen.specs.Texts as texts;
 ghost use Rattle.grid_screen.specs.Texts.{next_text, counts_text, losses_text, unconnected_text, ids_text, first_text, second_text, finding_text, screen_line};
+ghost use Rattle.grid_report.specs.Puts.{Puts};
 
 use crate::faults::Breakers;
 use crate::{Figures, Finding, Losses, Telling};
@@ -16,8 +17,7 @@ use grid_structure::{Structure, SwitchAt};
 // Puts how many buses and components there are, and how many buses the main one has.
 #[tactic(auto, unfolding(crate::specs::Texts::counts_text))]
 fn put_counts(out: &mut Text, figures: &Figures) -> Result<(), Memory>
-    ensures ok { OnOk result (out.new ≡ out.old ++ counts_text figures.now) }
-    ensures err { OnErr result (out.new ≡ []) }
+    ensures { Puts out.old (counts_text figures.now) out.new result }
 {
     out.put_unsigned(u64::from(figures.buses))?;
     out.put(" buses, ")?;
@@ -29,8 +29,7 @@ fn put_counts(out: &mut Text, figures: &Figures) -> Result<(), Memory>
 // Puts what the main component lost.
 #[tactic(auto, unfolding(crate::specs::Texts::losses_text))]
 fn put_losses(out: &mut Text, losses: &Losses) -> Result<(), Memory>
-    ensures ok { OnOk result (out.new ≡ out.old ++ losses_text losses.now) }
-    ensures err { OnErr result (out.new ≡ []) }
+    ensures { Puts out.old (losses_text losses.now) out.new result }
 {
     out.put(", lost load ")?;
     out.put_signed(&losses.load)?;
@@ -41,8 +40,7 @@ fn put_losses(out: &mut Text, losses: &Losses) -> Result<(), Memory>
 // Puts what all buses lost.
 #[tactic(auto, unfolding(crate::specs::Texts::unconnected_text))]
 fn put_unconnected(out: &mut Text, losses: &Losses) -> Result<(), Memory>
-    ensures ok { OnOk result (out.new ≡ out.old ++ unconnected_text losses.now) }
-    ensures err { OnErr result (out.new ≡ []) }
+    ensures { Puts out.old (unconnected_text losses.now) out.new result }
 {
     out.put(", unconnected load ")?;
     out.put_signed(&losses.unconnected_load)?;
@@ -66,8 +64,7 @@ fn id_at<'a>(structure: &'a Structure, at: &SwitchAt) -> Option<&'a Id>
 
 // Puts an id, behind a comma where another one stands before it.
 fn put_next(out: &mut Text, id: &Id, later: bool) -> Result<(), Memory>
-    ensures ok { OnOk result (out.new ≡ out.old ++ next_text later id.now) }
-    ensures err { OnErr result (out.new ≡ []) }
+    ensures { Puts out.old (next_text later id.now) out.new result }
 {
     if later {
         out.put(",")?;
@@ -81,9 +78,7 @@ pub(crate) fn put_switch_ids(
     structure: &Structure,
     switches: &[SwitchAt],
 ) -> Result<(), Memory>
-    ensures ok { OnOk result (out.new
-        ≡ out.old ++ ids_text (flat_map (switch_ids structure.now) switches.now)) }
-    ensures err { OnErr result (out.new ≡ []) }
+    ensures { Puts out.old (ids_text (flat_map (switch_ids structure.now) switches.now)) out.new result }
 {
     out.put("[")?;
     let mut later = false;
@@ -103,8 +98,7 @@ fn put_tripped(
     structure: &Structure,
     tripped: &Option<Breakers>,
 ) -> Result<(), Memory>
-    ensures ok { OnOk result (out.new ≡ out.old ++ texts.tripped_text structure.now tripped.now) }
-    ensures err { OnErr result (out.new ≡ []) }
+    ensures { Puts out.old (texts.tripped_text structure.now tripped.now) out.new result }
 {
     let Some(breakers) = tripped else {
         return Ok(());
@@ -118,8 +112,7 @@ fn put_tripped(
 // Puts what is found as the first format has it.
 #[tactic(auto, unfolding(crate::specs::Texts::first_text))]
 fn put_first(out: &mut Text, finding: &Finding) -> Result<(), Memory>
-    ensures ok { OnOk result (out.new ≡ out.old ++ first_text finding.now) }
-    ensures err { OnErr result (out.new ≡ []) }
+    ensures { Puts out.old (first_text finding.now) out.new result }
 {
     match finding {
         Finding::UnknownId(id) => {
@@ -140,8 +133,7 @@ fn put_first(out: &mut Text, finding: &Finding) -> Result<(), Memory>
 // Puts what is found as the second format has it.
 #[tactic(auto, unfolding(crate::specs::Texts::second_text))]
 fn put_second(out: &mut Text, structure: &Structure, finding: &Finding) -> Result<(), Memory>
-    ensures ok { OnOk result (out.new ≡ out.old ++ second_text structure.now finding.now) }
-    ensures err { OnErr result (out.new ≡ []) }
+    ensures { Puts out.old (second_text structure.now finding.now) out.new result }
 {
     match finding {
         Finding::UnknownId(id) => {
@@ -167,9 +159,7 @@ fn put_second(out: &mut Text, structure: &Structure, finding: &Finding) -> Resul
 
 // Puts what is found.
 fn put_found(out: &mut Text, telling: &Telling<'_>, finding: &Finding) -> Result<(), Memory>
-    ensures ok { OnOk result (out.new
-        ≡ out.old ++ finding_text telling.now.format telling.now.structure.now finding.now) }
-    ensures err { OnErr result (out.new ≡ []) }
+    ensures { Puts out.old (finding_text telling.now.format telling.now.structure.now finding.now) out.new result }
 {
     match telling.format {
         Format::One => put_first(out, finding),
@@ -192,9 +182,9 @@ pub fn put_finding(
     name: &Id,
     finding: &Finding,
 ) -> Result<(), Memory>
-    ensures ok { OnOk result (out.new ≡ out.old
-        ++ screen_line telling.now.format telling.now.structure.now name.now finding.now) }
-    ensures err { OnErr result (out.new ≡ []) }
+    ensures { Puts out.old
+        (screen_line telling.now.format telling.now.structure.now name.now finding.now)
+        out.new result }
 {
     out.put("contingency ")?;
     out.put(name.text())?;

@@ -1,6 +1,6 @@
 -- A branch more in a structure.
-use Rattle.std.proofs.Common.{◌≡◌, refl, sym, ap, ◌∙◌, subst, ℕ, zero, suc, ◌+◌, ◌<◌, ◌≤◌, ◌^◌, true, false, cond, List, [], ◌∷◌, ◌++◌, length, arith, Option, Some, None, take, drop, append_assoc}
-use Rattle.std.specs.Prelude.{map, position, slice_get, slice_set, insert, nat_lt, All, ⊤, Result, Ok, Err, IfErr, IsErrAnd}
+use Rattle.std.proofs.Common.{◌≡◌, refl, sym, ap, ◌∙◌, subst, ℕ, zero, suc, ◌+◌, ◌<◌, ◌≤◌, ◌^◌, Bool, true, false, cond, List, [], ◌∷◌, ◌++◌, length, arith, Option, Some, None, take, drop, append_assoc}
+use Rattle.std.specs.Prelude.{map, position, slice_get, slice_set, insert, nat_lt, is_some, All, ⊤, Result, Ok, Err, IfErr, IsErrAnd}
 use Rattle.std.specs.Str.{bytes_eq}
 use Rattle.std.specs.List.{slice_index_or, list_all}
 use Rattle.std.proofs.lemmas.Bool.{ltb-true, and_parts}
@@ -35,7 +35,7 @@ use Rattle.grid_structure.proofs.Substations.{sub_ids_once}
 use Rattle.grid_structure.proofs.Soundly.{apply_sound}
 use Rattle.grid_structure.proofs.Places.{length-slice_set, position_found}
 use Rattle.grid_structure.proofs.FlatNetworks.{kept_levels, levels-network_of, joined, length-cut}
-use Rattle.grid_structure.proofs.Found.{substation_below}
+use Rattle.grid_structure.proofs.Found.{substation_below, taken_by}
 use Rattle.grid_structure.proofs.Flat.{IsFlat, from_flat}
 use Rattle.grid_structure.proofs.LevelChanges.{kept_flat}
 use Rattle.grid_structure.proofs.SwitchAdditions.{finds_nothing}
@@ -111,10 +111,25 @@ module _ {id : List ℕ} {heads : List Head} {ls : List VoltageLevel} {ts lines 
   placed : (e : List ℕ) (shape : Branch) (l : Landings) → Joins e shape l → place_ends (home_of shape) e 1 (branch_ends shape) net ≡ lift (over id heads ts lines) (landed e (landing_list l) ls)
   placed e shape l j = lifted id heads ts lines (home_of shape) e look places ls (branch_ends shape) (landing_list l) 1 ls [] stage finds j.are
 
-  pub branch_told : (e : List ℕ) (shape : Branch) (l : Landings) (fault : ApplyFault) → Joins e shape l → IsLandFault (landed e (landing_list l) ls) fault → IsTold (apply net (AddBranch e shape)) fault
+  ends_told : (e : List ℕ) (shape : Branch) (l : Landings) (fault : ApplyFault) → Joins e shape l → IsLandFault (landed e (landing_list l) ls) fault → IsTold (apply net (AddBranch e shape)) fault
   unfolding apply
-  branch_told e shape l Memory j h = tt
-  branch_told e shape l (Refused fault) j h = rw (j.free, j.fine, placed e shape l j, h) refl
+  ends_told e shape l Memory j h = tt
+  ends_told e shape l (Refused fault) j h = rw (j.free, j.fine, placed e shape l j, h) refl
+
+  taken_told : (e : List ℕ) (shape : Branch) (fault : ApplyFault) → taken net e ≡ true → IsLandFault (Err faults.IdTaken) fault → IsTold (apply net (AddBranch e shape)) fault
+  taken_told e shape Memory had h = tt
+  taken_told e shape (Refused fault) had h =
+      let same : faults.IdTaken ≡ fault = cc in
+      branch_taken e shape had ∙ ap {B = Result Network EditFault} (λ z. Err z) same
+
+  -- that the id is taken is told first
+  pub branch_told : (e : List ℕ) (shape : Branch) (l : Landings) (fault : ApplyFault) → refuse_home net shape ≡ Ok tt → AreLandings heads places look (home_of shape) 1 (branch_ends shape) (landing_list l)
+      → IsLandFault (cond (is_some (look e)) (Err faults.IdTaken) (landed e (landing_list l) ls)) fault → IsTold (apply net (AddBranch e shape)) fault
+  branch_told e shape l fault fine are h = by (is_some (look e)) (taken_by look places net e kept.indexed) h
+    where
+      by : (t : Bool) → taken net e ≡ t → IsLandFault (cond t (Err faults.IdTaken) (landed e (landing_list l) ls)) fault → IsTold (apply net (AddBranch e shape)) fault
+      by true had h = taken_told e shape fault had h
+      by false free h = ends_told e shape l fault (record { free = free; fine = fine; are = are }) h
 
   -- the network with the ends placed, and the branch still to be put
   branch_put : (e : List ℕ) (shape : Branch) (l : Landings) (after : List VoltageLevel) → Joins e shape l → landed e (landing_list l) ls ≡ Ok after

@@ -1,4 +1,4 @@
--- A level is found by its id wherever it stands.
+-- A level or a substation is found by its id wherever it stands.
 use Rattle.std.proofs.Common.{◌≡◌, refl, ap, ◌∙◌, ℕ, ◌≤◌, Bool, true, false, cond, List, ◌++◌, Option, Some, None, arith}
 use Rattle.std.specs.Prelude.{map, slice_get, position, is_some, Result, Err}
 use Rattle.std.specs.Option.{option_map}
@@ -12,13 +12,14 @@ use Rattle.grid_structure.specs.declared.structure.Head.{Head}
 use Rattle.grid_structure.specs.declared.structure.IdOwner.{IdOwner}
 use Rattle.grid_structure.specs.Network.{Network, Substation}
 use Rattle.grid_structure.specs.Sites.{levels, level_ids, switch_ids, equipment_ids, all_ids, taken, find_level}
-use Rattle.grid_structure.specs.Indexed.{level_at}
+use Rattle.grid_structure.specs.Indexed.{level_at, find_substation}
 use Rattle.grid_structure.specs.Cutting.{network_of}
 use Rattle.grid_structure.specs.Editing.{IsTold}
 use Rattle.grid_structure.specs.Kept.{IsKept}
 use Rattle.grid_structure.proofs.Found.{taken_by}
 use Rattle.grid_structure.proofs.FlatNetworks.{kept_levels}
 use Rattle.grid_structure.proofs.Counts.{times, times-append, differ-times, times-differ}
+use Rattle.grid_structure.proofs.Substations.{sub_ids_once}
 use Rattle.grid_structure.proofs.BranchRemovals.{place_sure}
 
 -- no two levels have one id
@@ -32,6 +33,16 @@ level_once net q differ =
 pub level_sure : (net : Network) (q : List ℕ) (k : ℕ) → ids_differ (all_ids net) ≡ true → option_map (λ (l : VoltageLevel). same_id q l.id) (slice_get (levels net) k) ≡ Some true → find_level net q ≡ Some k
 unfolding find_level level_ids
 level_sure net q k differ named = place_sure (λ (l : VoltageLevel). l.id) q (levels net) k (level_once net q differ) named
+
+named_so : (name : List ℕ) (q : List ℕ) (o : Option Substation) → option_map (λ (s : Substation). s.id) o ≡ Some name → same_id q name ≡ true → option_map (λ (s : Substation). same_id q s.id) o ≡ Some true
+named_so name q (Some s) e h = let same : s.id ≡ name = cc in ap (λ t. Some t) (ap (same_id q) same ∙ h)
+named_so name q None e h = cc
+
+pub substation_sure : (net : Network) (q name : List ℕ) (k : ℕ) → ids_differ (all_ids net) ≡ true → option_map (λ (s : Substation). s.id) (slice_get net.substations k) ≡ Some name → same_id q name ≡ true
+    → find_substation net q ≡ Some k
+unfolding find_substation
+substation_sure net q name k differ named same =
+    place_sure (λ (s : Substation). s.id) q net.substations k (sub_ids_once net (differ-times (all_ids net) differ) q) (named_so name q (slice_get net.substations k) named same)
 
 -- ---- what the flat list of levels keeps: their ids differ, and the table finds each
 

@@ -2,8 +2,6 @@
 use Rattle.std.proofs.Common.{◌≡◌, refl, sym, ap, ◌∙◌, ℕ, Bool, true, false, cond, List, Option, None, Some}
 use Rattle.std.specs.Str.{bytes_eq}
 use Rattle.std.specs.HashMap.{HashMap, UpdatesBy}
-use Rattle.std.specs.Prelude.{is_some}
-use Rattle.std.proofs.lemmas.Bool.{false≢true}
 use Rattle.grid_structure.specs.declared.structure.IdOwner.{IdOwner}
 use Rattle.grid_structure.specs.Table.{entry_at, slot_at}
 use Rattle.std.proofs.lemmas.Slice.Eq.{bytes_eq-Decides}
@@ -25,7 +23,3 @@ kept_there {X = X} id q old new entry had put = by (bytes_eq id q) refl
     by : (t : Bool) → bytes_eq id q ≡ t → new ≡ old q
     by true e = put ∙ ap (λ t. cond t (Some entry) (old q)) e ∙ sym had ∙ ap old ((bytes_eq-Decides id q).0 e)
     by false e = put ∙ ap (λ t. cond t (Some entry) (old q)) e
-
-pub nothing_there : {X : Type 0} (found : Option X) → is_some found ≡ false → found ≡ None
-nothing_there None e = refl
-nothing_there (Some x) e = absurd (false≢true (sym e))

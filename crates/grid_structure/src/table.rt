@@ -2,7 +2,7 @@
 // branch the number that it was counted by. A new id is put in before what may fail, and taken out again without
 // memory where that fails, since the table makes no room ahead. Whoever writes a job chooses its ids, so they are
 // hashed by a seed that he cannot know; no answer hangs on it.
-ghost use Rattle.std.specs.Prelude.{◌≡◌, ℕ, List, if◌then◌else◌, [], Some, None, IfOk, IsTrue, IsFalse, is_some, OnOk, OnErr, true};
+ghost use Rattle.std.specs.Prelude.{◌≡◌, ℕ, List, if◌then◌else◌, [], Some, None, IfOk, IsTrue, IsFalse, is_some, OnErr, true};
 ghost use Rattle.std.specs.Str.{bytes_eq};
 ghost use Rattle.std.proofs.Common.{rules};
 ghost use Rattle.grid_structure.specs.Table.{entry_at, slot_at};
@@ -135,21 +135,6 @@ impl Table {
         ensures same { OnErr result ((q : List ℕ) → entry_at self.new q ≡ entry_at self.old q) }
     {
         claim_slot(&mut self.slots, id, entry, clue)
-    }
-
-    /// Puts an entry where none is known to be.
-    pub(crate) fn put(&mut self, id: &Id, entry: IdOwner, clue: Clue) -> Result<(), Memory>
-        requires { entry_at self.old id.now ≡ None }
-        ensures put { OnOk result ((q : List ℕ) → entry_at self.new q
-            ≡ (if bytes_eq id.now q then Some entry else entry_at self.old q)) }
-        ensures undone { OnOk result ((q : List ℕ) → (if bytes_eq id.now q then None else entry_at
-            self.new q) ≡ entry_at self.old q) }
-        ensures same { OnErr result ((q : List ℕ) → entry_at self.new q ≡ entry_at self.old q) }
-    {
-        match self.claim(id, entry, clue) {
-            Ok(_) => Ok(()),
-            Err(fault) => Err(fault),
-        }
     }
 
     /// Takes the entry of an id out, without memory.

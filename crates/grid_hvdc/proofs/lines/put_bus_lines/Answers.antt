@@ -31,9 +31,9 @@ loop-name-preserved c =
     ∙ ap (λ z. start ++ z) (gathered_next line pairs n pair (flat_map line (take n pairs)) (omega (arith, turn.0, turn.1, length-zip names numbers)) at refl)
     ∙ ap (λ z. start ++ flat_map line (take z pairs)) (sym longer)
 
-pub returns-clause-ok : goal.returns-clause-ok
-returns-clause-ok c =
+pub returns : goal.returns
+returns c =
     let names = c.args.names.now in
     let numbers = c.args.numbers.now in
     let end = zip_end names numbers c.loop-name.yielded _ c.loop-name.name-iterator c.next.new.self c.next.result (search rules) (search rules) c.loop-name.yielded_by c.in-None.is c.next.ensures.steps in
-    c.loop-name.invariant ∙ ap (λ z. c.args.out.now ++ flat_map (named_bus_line c.args.variant.now c.args.structure.now) z) (take_all (length c.loop-name.yielded) (zip names numbers) (omega (arith, end, length-zip names numbers)))
+    record { ok = c.loop-name.invariant ∙ ap (λ z. c.args.out.now ++ flat_map (named_bus_line c.args.variant.now c.args.structure.now) z) (take_all (length c.loop-name.yielded) (zip names numbers) (omega (arith, end, length-zip names numbers))); err = tt }

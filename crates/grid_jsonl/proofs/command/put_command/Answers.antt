@@ -3,58 +3,58 @@ use Rattle.grid_print.specs.Command.{request_value}
 use Rattle.grid_jsonl.specs.Trees.{ordered}
 use Rattle.grid_jsonl.proofs.command.put_command.Goals as goal
 
-pub returns-in-UseVariant-clause-ok : goal.returns-in-UseVariant-clause-ok
+pub returns-in-UseVariant : goal.returns-in-UseVariant
 unfolding request_value members_from ordered
-returns-in-UseVariant-clause-ok c = rw c.in-UseVariant.is c.put_one.ensures.ok
+returns-in-UseVariant c = rw c.in-UseVariant.is c.put_one.ensures
 
-pub returns-in-OpenSwitch-clause-ok : goal.returns-in-OpenSwitch-clause-ok
+pub returns-in-OpenSwitch : goal.returns-in-OpenSwitch
 unfolding request_value members_from ordered
-returns-in-OpenSwitch-clause-ok c = rw c.in-OpenSwitch.is c.put_one-in-OpenSwitch.ensures.ok
+returns-in-OpenSwitch c = rw c.in-OpenSwitch.is c.put_one-in-OpenSwitch.ensures
 
-pub returns-in-CloseSwitch-clause-ok : goal.returns-in-CloseSwitch-clause-ok
+pub returns-in-CloseSwitch : goal.returns-in-CloseSwitch
 unfolding request_value members_from ordered
-returns-in-CloseSwitch-clause-ok c = rw c.in-CloseSwitch.is c.put_one-in-CloseSwitch.ensures.ok
+returns-in-CloseSwitch c = rw c.in-CloseSwitch.is c.put_one-in-CloseSwitch.ensures
 
-pub returns-in-RetainSwitch-clause-ok : goal.returns-in-RetainSwitch-clause-ok
+pub returns-in-RetainSwitch : goal.returns-in-RetainSwitch
 unfolding request_value members_from ordered
-returns-in-RetainSwitch-clause-ok c = rw c.in-RetainSwitch.is c.put_retain.ensures.ok
+returns-in-RetainSwitch c = rw c.in-RetainSwitch.is c.put_retain.ensures
 
-pub returns-in-SetPower-clause-ok : goal.returns-in-SetPower-clause-ok
+pub returns-in-SetPower : goal.returns-in-SetPower
 unfolding request_value members_from ordered
-returns-in-SetPower-clause-ok c = rw c.in-SetPower.is c.put_power.ensures.ok
+returns-in-SetPower c = rw c.in-SetPower.is c.put_power.ensures
 
-pub returns-in-Totals-clause-ok : goal.returns-in-Totals-clause-ok
+pub returns-in-Totals : goal.returns-in-Totals
 unfolding request_value members_from ordered
-returns-in-Totals-clause-ok c = rw c.in-Totals.is c.put_totals.ensures.ok
+returns-in-Totals c = rw c.in-Totals.is c.put_totals.ensures
 
-pub returns-in-Connect-clause-ok : goal.returns-in-Connect-clause-ok
+pub returns-in-Connect : goal.returns-in-Connect
 unfolding request_value members_from ordered
-returns-in-Connect-clause-ok c = rw c.in-Connect.is c.put_sided.ensures.ok
+returns-in-Connect c = rw c.in-Connect.is c.put_sided.ensures
 
-pub returns-in-Disconnect-clause-ok : goal.returns-in-Disconnect-clause-ok
+pub returns-in-Disconnect : goal.returns-in-Disconnect
 unfolding request_value members_from ordered
-returns-in-Disconnect-clause-ok c = rw c.in-Disconnect.is c.put_sided-in-Disconnect.ensures.ok
+returns-in-Disconnect c = rw c.in-Disconnect.is c.put_sided-in-Disconnect.ensures
 
-pub returns-in-BusBreakerView-clause-ok : goal.returns-in-BusBreakerView-clause-ok
+pub returns-in-BusBreakerView : goal.returns-in-BusBreakerView
 unfolding request_value members_from ordered
-returns-in-BusBreakerView-clause-ok c = rw c.in-BusBreakerView.is c.put_one-in-BusBreakerView.ensures.ok
+returns-in-BusBreakerView c = rw c.in-BusBreakerView.is c.put_one-in-BusBreakerView.ensures
 
-pub returns-in-BusView-clause-ok : goal.returns-in-BusView-clause-ok
+pub returns-in-BusView : goal.returns-in-BusView
 unfolding request_value members_from ordered
-returns-in-BusView-clause-ok c = rw c.in-BusView.is c.put_one-in-BusView.ensures.ok
+returns-in-BusView c = rw c.in-BusView.is c.put_one-in-BusView.ensures
 
-pub returns-in-Components-clause-ok : goal.returns-in-Components-clause-ok
+pub returns-in-Components : goal.returns-in-Components
 unfolding request_value members_from ordered
-returns-in-Components-clause-ok c = rw c.in-Components.is c.put_one-in-Components.ensures.ok
+returns-in-Components c = rw c.in-Components.is c.put_one-in-Components.ensures
 
-pub returns-in-CloneVariant-clause-ok : goal.returns-in-CloneVariant-clause-ok
+pub returns-in-CloneVariant : goal.returns-in-CloneVariant
 unfolding request_value members_from ordered
-returns-in-CloneVariant-clause-ok c = rw c.in-CloneVariant.is c.put_clone.ensures.ok
+returns-in-CloneVariant c = rw c.in-CloneVariant.is c.put_clone.ensures
 
-pub returns-in-RemoveVariant-clause-ok : goal.returns-in-RemoveVariant-clause-ok
+pub returns-in-RemoveVariant : goal.returns-in-RemoveVariant
 unfolding request_value members_from ordered
-returns-in-RemoveVariant-clause-ok c = rw c.in-RemoveVariant.is c.put_one-in-RemoveVariant.ensures.ok
+returns-in-RemoveVariant c = rw c.in-RemoveVariant.is c.put_one-in-RemoveVariant.ensures
 
-pub returns-in-Change-clause-ok : goal.returns-in-Change-clause-ok
+pub returns-in-Change : goal.returns-in-Change
 unfolding request_value members_from ordered
-returns-in-Change-clause-ok c = rw c.in-Change.is c.put_edit.ensures.ok
+returns-in-Change c = rw c.in-Change.is c.put_edit.ensures

@@ -3,6 +3,6 @@ use Rattle.json.specs.Print.{escape_byte}
 use Rattle.grid_jsonl.specs.Trees.{field_text, name_text}
 use Rattle.grid_jsonl.proofs.part.open_bus.Goals as goal
 
-pub returns-clause-ok : goal.returns-clause-ok
+pub returns : goal.returns
 unfolding field_text name_text escape_byte
-returns-clause-ok c = let a = c.in_ok-put.ensures.ok in let f = c.put_bus_id.ensures.ok in simp append_assoc (simp (a, append_assoc) at f)
+returns c = let a = c.in_ok-put.ensures.ok in let f = c.put_bus_id.ensures in record { ok = simp append_assoc (simp (a, append_assoc) at f.ok); err = f.err }

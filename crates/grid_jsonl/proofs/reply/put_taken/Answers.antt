@@ -5,8 +5,8 @@ use Rattle.grid_jsonl.proofs.Plain.{quoted_ends}
 use Rattle.grid_jsonl.proofs.Reasons.{taken_escaped}
 use Rattle.grid_jsonl.proofs.reply.put_taken.Goals as goal
 
-pub returns-clause-ok : goal.returns-clause-ok
-returns-clause-ok c =
+pub returns : goal.returns
+returns c =
     let terminal = c.args.terminal.now in
-    quoted_ends c.put.result (codes "\"node taken by ") terminal.equipment (codes ".") (decimal terminal.side) (codes "node taken by " ++ terminal_text terminal) c.args.out.now c.put_escaped.new.out c.put_unsigned.new.self c.put.new.self
-    (ap (λ l. 34 ∷ l) (taken_escaped terminal)) (rw (c.text.ensures.text) at c.in_ok-put_escaped.ensures.ok) (rw (c.from.ensures) at c.in_ok-put_unsigned.ensures.ok) c.put.ensures.ok
+    quoted_ends (codes "\"node taken by ") terminal.equipment (codes ".") (decimal terminal.side) (codes "node taken by " ++ terminal_text terminal) c.args.out.now c.put_escaped.new.out
+    (ap (λ l. 34 ∷ l) (taken_escaped terminal)) (rw (c.text.ensures.text) at c.in_ok-put_escaped.ensures.ok) (rw (c.from.ensures) at c.in_ok-put_unsigned.ensures.ok) c.put.ensures

@@ -7,9 +7,9 @@ use Rattle.grid_jsonl.specs.Steps.{step_fields}
 use Rattle.grid_jsonl.proofs.Objects.{last_member, members}
 use Rattle.grid_jsonl.proofs.step.put_step.Goals as goal
 
-pub returns-clause-ok : goal.returns-clause-ok
+pub returns : goal.returns
 unfolding step_fields
-returns-clause-ok c =
+returns c =
     let e = c.args.entry.now in
     last_member {fields = (codes "worker", natural e.worker) ∷ (codes "step", natural c.args.step) ∷ (codes "variant", string e.variant) ∷ (codes "command", request_value e.request) ∷ []}
-    c.put_answered.result _ _ (members _ _ _ c.in_ok-put_asked_step.ensures.ok) c.put_answered.ensures.ok
+    _ (members _ _ _ c.in_ok-put_asked_step.ensures.ok) c.put_answered.ensures

@@ -1,5 +1,5 @@
 use Rattle.std.proofs.Common.{arith}
-use Rattle.std.proofs.lemmas.Result.{on_ok_weaker}
+use Rattle.grid_jsonl.proofs.Puts.{put_with}
 use Rattle.grid_jsonl.proofs.TextEscapes.{plain_more, escaped_more, all_put}
 use Rattle.grid_jsonl.proofs.string.put_escapes.Goals as goal
 use Rattle.grid_jsonl.proofs.string.put_escapes.Goals.{then-not-is_plain+in_ok-put_bytes+in_ok-put_bytes-2, else-not-is_plain}
@@ -22,8 +22,8 @@ loop-at-preserved c =
           })
     ]
 
-pub returns-clause-ok : goal.returns-clause-ok
-returns-clause-ok c =
+pub returns : goal.returns
+returns c =
     let l = c.loop-at in
-    on_ok_weaker c.put_bytes-2.result
-    (all_put c.as_bytes-bytes.result.now c.args.text.now l.at l.start c.args.out.now l.out c.put_bytes-2.new.self c.as_bytes-bytes.ensures.value c.loop-at-test.false l.invariant.so_far) c.put_bytes-2.ensures.ok
+    put_with
+    (all_put c.as_bytes-bytes.result.now c.args.text.now l.at l.start c.args.out.now l.out c.put_bytes-2.new.self c.as_bytes-bytes.ensures.value c.loop-at-test.false l.invariant.so_far) c.put_bytes-2.ensures

@@ -1,14 +1,14 @@
 use Rattle.grid_report.specs.Events.{event_text}
 use Rattle.grid_report.proofs.event.put_event.Goals as goal
 
-pub returns-in-VariantCreated-clause-ok : goal.returns-in-VariantCreated-clause-ok
+pub returns-in-VariantCreated : goal.returns-in-VariantCreated
 unfolding event_text
-returns-in-VariantCreated-clause-ok c = rw c.in-VariantCreated.is c.put_made.ensures.ok
+returns-in-VariantCreated c = rw c.in-VariantCreated.is c.put_made.ensures
 
-pub returns-in-VariantOverwritten-clause-ok : goal.returns-in-VariantOverwritten-clause-ok
+pub returns-in-VariantOverwritten : goal.returns-in-VariantOverwritten
 unfolding event_text
-returns-in-VariantOverwritten-clause-ok c = rw c.in-VariantOverwritten.is c.put_made-in-VariantOverwritten.ensures.ok
+returns-in-VariantOverwritten c = rw c.in-VariantOverwritten.is c.put_made-in-VariantOverwritten.ensures
 
-pub returns-in-VariantRemoved-clause-ok : goal.returns-in-VariantRemoved-clause-ok
+pub returns-in-VariantRemoved : goal.returns-in-VariantRemoved
 unfolding event_text
-returns-in-VariantRemoved-clause-ok c = rw c.in-VariantRemoved.is c.put_named-in-VariantRemoved.ensures.ok
+returns-in-VariantRemoved c = rw c.in-VariantRemoved.is c.put_named-in-VariantRemoved.ensures

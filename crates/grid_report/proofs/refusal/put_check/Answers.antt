@@ -1,22 +1,22 @@
 use Rattle.grid_report.specs.Refusals.{check_reason}
 use Rattle.grid_report.proofs.refusal.put_check.Goals as goal
 
-pub returns-in-NominalNotPositive-clause-ok : goal.returns-in-NominalNotPositive-clause-ok
+pub returns-in-NominalNotPositive : goal.returns-in-NominalNotPositive
 unfolding check_reason
-returns-in-NominalNotPositive-clause-ok c = rw c.in-NominalNotPositive.is c.put_bound.ensures.ok
+returns-in-NominalNotPositive c = rw c.in-NominalNotPositive.is c.put_bound.ensures
 
-pub returns-in-VoltageLimits-clause-ok : goal.returns-in-VoltageLimits-clause-ok
+pub returns-in-VoltageLimits : goal.returns-in-VoltageLimits
 unfolding check_reason
-returns-in-VoltageLimits-clause-ok c = rw c.in-VoltageLimits.is c.put_bound-in-VoltageLimits.ensures.ok
+returns-in-VoltageLimits c = rw c.in-VoltageLimits.is c.put_bound-in-VoltageLimits.ensures
 
-pub returns-in-PowerLimits-clause-ok : goal.returns-in-PowerLimits-clause-ok
+pub returns-in-PowerLimits : goal.returns-in-PowerLimits
 unfolding check_reason
-returns-in-PowerLimits-clause-ok c = rw c.in-PowerLimits.is c.put_bound-in-PowerLimits.ensures.ok
+returns-in-PowerLimits c = rw c.in-PowerLimits.is c.put_bound-in-PowerLimits.ensures
 
-pub returns-in-Sections-clause-ok : goal.returns-in-Sections-clause-ok
+pub returns-in-Sections : goal.returns-in-Sections
 unfolding check_reason
-returns-in-Sections-clause-ok c = rw c.in-Sections.is c.put_bound-in-Sections.ensures.ok
+returns-in-Sections c = rw c.in-Sections.is c.put_bound-in-Sections.ensures
 
-pub returns-in-RatedNotPositive-clause-ok : goal.returns-in-RatedNotPositive-clause-ok
+pub returns-in-RatedNotPositive : goal.returns-in-RatedNotPositive
 unfolding check_reason
-returns-in-RatedNotPositive-clause-ok c = rw c.in-RatedNotPositive.is c.put_bound-in-RatedNotPositive.ensures.ok
+returns-in-RatedNotPositive c = rw c.in-RatedNotPositive.is c.put_bound-in-RatedNotPositive.ensures

@@ -1,6 +1,6 @@
 use Rattle.std.proofs.Common.{sym, ap, ◌∙◌, ◌++◌, ◌∷◌, [], append_assoc, false}
 use Rattle.std.specs.Prelude.{flat_map}
-use Rattle.std.proofs.lemmas.Result.{on_ok_weaker}
+use Rattle.grid_jsonl.proofs.Puts.{put_with}
 use Rattle.grid_screen.specs.Faults.{switch_ids}
 use Rattle.grid_screen.specs.Texts.{ids_text}
 use Rattle.grid_screen.proofs.Written.{rest_text, rest_skipped, rest_more, rest_none}
@@ -14,9 +14,9 @@ pub loop-at-preserved : goal.loop-at-preserved
 loop-at-preserved c =
     rest_more (switch_ids c.args.structure.now) c.args.switches.now c.loop-at.at-index _ c.loop-at-test.true c.loop-at.out _ c.loop-at.later c.in-Some.id.now c.put_next.new.out (sym (rw c.in-Some.is at c.id_at.ensures)) c.in_ok-put_next.ensures.ok c.loop-at.invariant
 
-pub returns-clause-ok : goal.returns-clause-ok
+pub returns : goal.returns
 unfolding ids_text
-returns-clause-ok c =
+returns c =
     let all = flat_map (switch_ids c.args.structure.now) c.args.switches.now in
     let done = rest_none (switch_ids c.args.structure.now) c.args.switches.now c.loop-at.at-index c.loop-at.out _ c.loop-at.later c.loop-at-test.false c.loop-at.invariant in
-    on_ok_weaker c.put-2.result (λ e. e ∙ done ∙ ap (λ z. z ++ rest_text false all) c.in_ok-put.ensures.ok ∙ append_assoc c.args.out.now (91 ∷ []) (rest_text false all)) c.put-2.ensures.ok
+    put_with (λ e. e ∙ done ∙ ap (λ z. z ++ rest_text false all) c.in_ok-put.ensures.ok ∙ append_assoc c.args.out.now (91 ∷ []) (rest_text false all)) c.put-2.ensures

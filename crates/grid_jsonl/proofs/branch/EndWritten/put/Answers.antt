@@ -2,5 +2,5 @@ use Rattle.grid_jsonl.proofs.Objects.{begun, ends, more}
 use Rattle.grid_jsonl.proofs.Commands.{end_is}
 use Rattle.grid_jsonl.proofs.branch.EndWritten.put.Goals as goal
 
-pub returns-clause-ok : goal.returns-clause-ok
-returns-clause-ok c = rw (end_is c.args.self.now) (ends c.put.result _ (more _ _ (begun _ _ _ c.in_ok-open_id.ensures.ok) c.in_ok-put_whole.ensures.ok) c.put.ensures.ok)
+pub returns : goal.returns
+returns c = rw (end_is c.args.self.now) (ends (more _ _ (begun _ _ _ c.in_ok-open_id.ensures.ok) c.in_ok-put_whole.ensures.ok) c.put.ensures)

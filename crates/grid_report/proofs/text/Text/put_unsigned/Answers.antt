@@ -1,5 +1,5 @@
 use Rattle.std.proofs.lemmas.Fmt.{decimal_digit}
 use Rattle.grid_report.proofs.text.Text.put_unsigned.Goals as goal
 
-pub returns-then-number-lt10-clause-ok : goal.returns-then-number-lt10-clause-ok
-returns-then-number-lt10-clause-ok c = rw (decimal_digit c.args.number c.if-number-lt10.true) c.put_byte.ensures.ok
+pub returns-then-number-lt10 : goal.returns-then-number-lt10
+returns-then-number-lt10 c = rw (decimal_digit c.args.number c.if-number-lt10.true) c.put_byte.ensures

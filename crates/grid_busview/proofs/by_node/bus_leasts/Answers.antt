@@ -1,0 +1,36 @@
+use Rattle.std.proofs.Common.{◌≡◌, sym, ap, ◌∙◌, ℕ, true, false, length, map, get_or, arith}
+use Rattle.std.specs.Prelude.{filter}
+use Rattle.std.proofs.lemmas.Option.{get_or_from_slice_get}
+use Rattle.grid_graph.specs.Components.{places}
+use Rattle.grid_level.specs.Passing.{nodes}
+use Rattle.grid_groups.proofs.Steps.{mapped_place, unmapped_place}
+use Rattle.grid_busview.specs.Labelled.{leads_bus, bus_leaders}
+use Rattle.grid_busview.proofs.by_node.bus_leasts.Goals as goal
+use Rattle.grid_busview.proofs.by_node.bus_leasts.Goals.{then-leads_bus+in_ok-push, else-leads_bus}
+
+pub loop-index-init : goal.loop-index-init
+unfolding places
+loop-index-init c = c.empty-leasts.ensures
+
+pub loop-index-preserved : goal.loop-index-preserved
+loop-index-preserved c =
+    let level = c.args.level.now in
+    let labels = c.args.labels.now in
+    let counts = c.args.counts.now in
+    let i = c.loop-index.index in
+    let at : ℕ → ℕ = λ k. get_or (nodes level) k 0 in
+    elim c.if-leads_bus.branch [
+      | then-leads_bus+in_ok-push w ↦
+          let leads : leads_bus labels counts i ≡ true = sym c.leads_bus.ensures ∙ w.if-leads_bus.true in
+          w.leasts-is ∙ w.in_ok-push.ensures.ok
+          ∙ mapped_place at (leads_bus labels counts) i c.loop-index.leasts w.node_at.result leads c.loop-index.invariant (sym (get_or_from_slice_get (nodes level) i w.node_at.result 0 w.node_at.ensures))
+      | else-leads_bus w ↦
+          let other : leads_bus labels counts i ≡ false = sym c.leads_bus.ensures ∙ w.if-leads_bus.false in
+          w.leasts-is ∙ unmapped_place at (leads_bus labels counts) i c.loop-index.leasts other c.loop-index.invariant
+    ]
+
+pub returns : goal.returns
+unfolding bus_leaders
+returns c =
+    let all : c.loop-index.index ≡ length c.args.labels.now = omega (arith, c.loop-index-test.false, c.loop-index.auto.index-end, c.node_count-index-end.ensures, c.requires.labels) in
+    c.loop-index.invariant ∙ ap (λ n. map (λ k. get_or (nodes c.args.level.now) k 0) (filter (leads_bus c.args.labels.now c.args.counts.now) (places n))) all
