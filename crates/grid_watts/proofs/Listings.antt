@@ -127,44 +127,19 @@ injection_there net new id level node item q listed s h k none = by (same_id q i
 
 edit_ordered : (edit : Edit) (listed : Listed) → IsByOrder listed → IsByOrder (listed_after edit listed)
 unfolding listed_after
-edit_ordered (edits.AddSubstation id) listed o = o
-edit_ordered (edits.AddLevel id substation nominal_v low_v high_v) listed o = o
-edit_ordered (edits.AddBusbar id level node) listed o = o
-edit_ordered (edits.AddSwitch id level kind node1 node2 opened retained fictitious) listed o = o
-edit_ordered (edits.RemoveSwitch id) listed o = o
-edit_ordered (edits.AddInternal level node1 node2) listed o = o
-edit_ordered (edits.RemoveInternal level node1 node2) listed o = o
-edit_ordered (edits.AddInjection id level node item) listed o = o
-edit_ordered (edits.AddBranch id shape) listed o = o
 edit_ordered (edits.RemoveEquipment id) listed o = without_order id listed o
+edit_ordered other listed o = o
 
 edit_there : (net new : Network) (edit : Edit) (listed : Listed) → IsSound net → apply net edit ≡ Ok new → IsListing net listed → AllThere new (listed_after edit listed)
 unfolding listed_after leaves_rows
-edit_there net new (edits.AddSubstation id) listed s h k q none = k.there q (sym (by_readings net new q (edit_alike (find (powered_by q)) (found_reads q) net new (edits.AddSubstation id) s h refl)) ∙ none)
 edit_there net new (edits.AddLevel id substation nominal_v low_v high_v) listed s h k q none = k.there q (sym (level_finds net new id substation nominal_v low_v high_v q s h) ∙ none)
-edit_there net new (edits.AddBusbar id level node) listed s h k q none = k.there q (sym (by_readings net new q (edit_alike (find (powered_by q)) (found_reads q) net new (edits.AddBusbar id level node) s h refl)) ∙ none)
-edit_there net new (edits.AddSwitch id level kind node1 node2 opened retained fictitious) listed s h k q none =
-    k.there q (sym (by_readings net new q (edit_alike (find (powered_by q)) (found_reads q) net new (edits.AddSwitch id level kind node1 node2 opened retained fictitious) s h refl)) ∙ none)
-edit_there net new (edits.RemoveSwitch id) listed s h k q none = k.there q (sym (by_readings net new q (edit_alike (find (powered_by q)) (found_reads q) net new (edits.RemoveSwitch id) s h refl)) ∙ none)
-edit_there net new (edits.AddInternal level node1 node2) listed s h k q none =
-    k.there q (sym (by_readings net new q (edit_alike (find (powered_by q)) (found_reads q) net new (edits.AddInternal level node1 node2) s h refl)) ∙ none)
-edit_there net new (edits.RemoveInternal level node1 node2) listed s h k q none =
-    k.there q (sym (by_readings net new q (edit_alike (find (powered_by q)) (found_reads q) net new (edits.RemoveInternal level node1 node2) s h refl)) ∙ none)
 edit_there net new (edits.AddInjection id level node item) listed s h k q none = injection_there net new id level node item q listed s h k none
-edit_there net new (edits.AddBranch id shape) listed s h k q none = k.there q (sym (by_readings net new q (edit_alike (find (powered_by q)) (found_reads q) net new (edits.AddBranch id shape) s h refl)) ∙ none)
 edit_there net new (edits.RemoveEquipment id) listed s h k q none = removal_there net new id q listed h k none
+edit_there net new other listed s h k q none = k.there q (sym (by_readings net new q (edit_alike (find (powered_by q)) (found_reads q) net new other s h refl)) ∙ none)
 
 brings_narrow : (net new : Network) (edit : Edit) (listed : Listed) → apply net edit ≡ Ok new → IsListing net listed → HasNarrowRecord edit → BringsNarrow edit listed
-brings_narrow net new (edits.AddSubstation id) listed h k n = tt
-brings_narrow net new (edits.AddLevel id substation nominal_v low_v high_v) listed h k n = tt
-brings_narrow net new (edits.AddBusbar id level node) listed h k n = tt
-brings_narrow net new (edits.AddSwitch id level kind node1 node2 opened retained fictitious) listed h k n = tt
-brings_narrow net new (edits.RemoveSwitch id) listed h k n = tt
-brings_narrow net new (edits.AddInternal level node1 node2) listed h k n = tt
-brings_narrow net new (edits.RemoveInternal level node1 node2) listed h k n = tt
 brings_narrow net new (edits.AddInjection id level node item) listed h k n = ap is_narrow (unlisted_watts listed id (Feeder item) (k.there id (injection_new net new id level node item h))) ∙ n
-brings_narrow net new (edits.AddBranch id shape) listed h k n = tt
-brings_narrow net new (edits.RemoveEquipment id) listed h k n = tt
+brings_narrow net new other listed h k n = tt
 
 listing_summed : (net : Network) (listed : Listed) → IsListing net listed → IsSummed net (powers_under net listed)
 listing_summed net listed k = record { load = refl; generation = refl; narrow = k.narrow }

@@ -24,9 +24,7 @@ unpowered_record Busbar none = refl
 unpowered_record (Feeder (Load p0 q0)) none = absurd (false≢true (sym none))
 unpowered_record (Feeder (Generator target_p target_v min_p max_p)) none = absurd (false≢true (sym none))
 unpowered_record (Feeder (Battery target_p target_q min_p max_p)) none = absurd (false≢true (sym none))
-unpowered_record (Feeder (ShuntCompensator section_count max_sections)) none = refl
-unpowered_record (Feeder (StaticVarCompensator target_q)) none = refl
-unpowered_record (Feeder (ConverterStation target_q)) none = refl
+unpowered_record (Feeder other) none = refl
 unpowered_record BranchEnd none = refl
 
 -- a row that has ended

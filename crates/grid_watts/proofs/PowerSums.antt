@@ -80,18 +80,11 @@ own_outside listed (Some p) = outside_low p.stand (watts_at listed p)
 none_outside : (net new : Network) (edit : Edit) (listed : Listed) → BringsNarrow edit listed → whole outside net listed ≡ pos 0
     → whole outside new (listed_after edit listed) ≡ whole outside net listed +ℤ edit_part outside net listed edit → whole outside new (listed_after edit listed) ≡ pos 0
 unfolding edit_part listed_after
-none_outside net new (edits.AddSubstation id) listed n z e = omega (arith, ints, z, e)
-none_outside net new (edits.AddLevel id substation nominal_v low_v high_v) listed n z e = omega (arith, ints, z, e)
-none_outside net new (edits.AddBusbar id level node) listed n z e = omega (arith, ints, z, e)
-none_outside net new (edits.AddSwitch id level kind node1 node2 opened retained fictitious) listed n z e = omega (arith, ints, z, e)
-none_outside net new (edits.RemoveSwitch id) listed n z e = omega (arith, ints, z, e)
-none_outside net new (edits.AddInternal level node1 node2) listed n z e = omega (arith, ints, z, e)
-none_outside net new (edits.RemoveInternal level node1 node2) listed n z e = omega (arith, ints, z, e)
 none_outside net new (edits.AddInjection id level node item) listed n z e = omega (arith, ints, z, e, outside_narrow (Feeder item) (watts_for listed id (Feeder item)) n)
-none_outside net new (edits.AddBranch id shape) listed n z e = omega (arith, ints, z, e)
 none_outside net new (edits.RemoveEquipment id) listed n z e =
     let less = listed_after (edits.RemoveEquipment id) listed in
     omega (arith, ints, z, e, own_outside listed (powered net id), sum_outside less (all_placed (levels new)))
+none_outside net new other listed n z e = omega (arith, ints, z, e)
 
 pub edit_summed : (net new : Network) (edit : Edit) (powers : PowerList) → IsSound net → apply net edit ≡ Ok new → BringsNarrow edit powers.listed → IsSummed net powers → IsSummed new (edit_moved net edit powers)
 unfolding edit_moved load_total generation_total terminals
@@ -138,26 +131,12 @@ stays_moved net edit powers a b c = rw (a, b, c, plus_nothing powers.load, plus_
 
 pub leaving_moved : (net : Network) (edit : Edit) (powers : PowerList) → leaves_powers edit ≡ true → edit_moved net edit powers ≡ powers
 unfolding leaves_powers edit_part listed_after
-leaving_moved net (edits.AddSubstation id) powers h = stays_moved net (edits.AddSubstation id) powers refl refl refl
-leaving_moved net (edits.AddLevel id substation nominal_v low_v high_v) powers h = stays_moved net (edits.AddLevel id substation nominal_v low_v high_v) powers refl refl refl
-leaving_moved net (edits.AddBusbar id level node) powers h = stays_moved net (edits.AddBusbar id level node) powers refl refl refl
-leaving_moved net (edits.AddSwitch id level kind node1 node2 opened retained fictitious) powers h = stays_moved net (edits.AddSwitch id level kind node1 node2 opened retained fictitious) powers refl refl refl
-leaving_moved net (edits.RemoveSwitch id) powers h = stays_moved net (edits.RemoveSwitch id) powers refl refl refl
-leaving_moved net (edits.AddInternal level node1 node2) powers h = stays_moved net (edits.AddInternal level node1 node2) powers refl refl refl
-leaving_moved net (edits.RemoveInternal level node1 node2) powers h = stays_moved net (edits.RemoveInternal level node1 node2) powers refl refl refl
 leaving_moved net (edits.AddInjection id level node item) powers h = absurd (false≢true h)
-leaving_moved net (edits.AddBranch id shape) powers h = stays_moved net (edits.AddBranch id shape) powers refl refl refl
 leaving_moved net (edits.RemoveEquipment id) powers h = absurd (false≢true h)
+leaving_moved net other powers h = stays_moved net other powers refl refl refl
 
 pub leaving_narrow : (edit : Edit) (listed : Listed) → leaves_powers edit ≡ true → BringsNarrow edit listed
 unfolding leaves_powers
-leaving_narrow (edits.AddSubstation id) listed h = tt
-leaving_narrow (edits.AddLevel id substation nominal_v low_v high_v) listed h = tt
-leaving_narrow (edits.AddBusbar id level node) listed h = tt
-leaving_narrow (edits.AddSwitch id level kind node1 node2 opened retained fictitious) listed h = tt
-leaving_narrow (edits.RemoveSwitch id) listed h = tt
-leaving_narrow (edits.AddInternal level node1 node2) listed h = tt
-leaving_narrow (edits.RemoveInternal level node1 node2) listed h = tt
 leaving_narrow (edits.AddInjection id level node item) listed h = absurd (false≢true h)
-leaving_narrow (edits.AddBranch id shape) listed h = tt
 leaving_narrow (edits.RemoveEquipment id) listed h = absurd (false≢true h)
+leaving_narrow other listed h = tt

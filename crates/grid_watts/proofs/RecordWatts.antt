@@ -18,11 +18,7 @@ pub of_record : (id : List ℕ) (s : Stand) → watts_for [] id s ≡ stand_watt
 unfolding watts_for is_powered is_load is_generation is_load_item is_generation_item stand_watts item_watts
 of_record id Busbar = refl
 of_record id (Feeder (Load p0 q0)) = refl
-of_record id (Feeder (Generator target_p target_v min_p max_p)) = refl
-of_record id (Feeder (Battery target_p target_q min_p max_p)) = refl
-of_record id (Feeder (ShuntCompensator section_count max_sections)) = refl
-of_record id (Feeder (StaticVarCompensator target_q)) = refl
-of_record id (Feeder (ConverterStation target_q)) = refl
+of_record id (Feeder other) = refl
 of_record id BranchEnd = refl
 
 each_of_record : (ps : List Placed) → map (λ (p : Placed). stand_watts p.stand) ps ≡ map (watts_at []) ps

@@ -94,16 +94,9 @@ sums_stay net new edit listed s h leaves =
 
 rows_powers : (edit : Edit) → leaves_rows edit ≡ true → leaves_powers edit ≡ true
 unfolding leaves_rows leaves_powers
-rows_powers (edits.AddSubstation id) l = refl
-rows_powers (edits.AddLevel id substation nominal_v low_v high_v) l = refl
-rows_powers (edits.AddBusbar id level node) l = refl
-rows_powers (edits.AddSwitch id level kind node1 node2 opened retained fictitious) l = refl
-rows_powers (edits.RemoveSwitch id) l = refl
-rows_powers (edits.AddInternal level node1 node2) l = refl
-rows_powers (edits.RemoveInternal level node1 node2) l = refl
 rows_powers (edits.AddInjection id level node item) l = absurd (false≢true l)
-rows_powers (edits.AddBranch id shape) l = refl
 rows_powers (edits.RemoveEquipment id) l = absurd (false≢true l)
+rows_powers other l = refl
 
 level_leaves : (id substation : List ℕ) (nominal_v : ℤ) (low_v high_v : Option ℤ) → leaves_powers (edits.AddLevel id substation nominal_v low_v high_v) ≡ true
 unfolding leaves_powers
@@ -268,12 +261,9 @@ removals_leave net new id opened retained listed s h none =
 load_only : (s : Stand) → is_load s ≡ true → is_generation s ≡ false
 unfolding is_load is_load_item is_generation is_generation_item
 load_only Busbar h = refl
-load_only (Feeder (Load p0 q0)) h = refl
 load_only (Feeder (Generator target_p target_v min_p max_p)) h = absurd (false≢true h)
 load_only (Feeder (Battery target_p target_q min_p max_p)) h = absurd (false≢true h)
-load_only (Feeder (ShuntCompensator section_count max_sections)) h = refl
-load_only (Feeder (StaticVarCompensator target_q)) h = refl
-load_only (Feeder (ConverterStation target_q)) h = refl
+load_only (Feeder other) h = refl
 load_only BranchEnd h = refl
 
 -- what is counted is taken from the sum that it is part of
