@@ -1,9 +1,10 @@
 // The form `check`: what a job has, counted.
-ghost use Rattle.std.specs.Prelude.{◌≡◌, ◌≢◌, ◌≤◌, ◌++◌, OnOk, OnErr, Err, decimal, []};
+ghost use Rattle.std.specs.Prelude.{◌≡◌, ◌≢◌, ◌≤◌, ◌++◌, Err, decimal};
 ghost use Rattle.std.specs.Io.KnownBytes.{Appends};
 ghost use Rattle.grid_source.specs.Causes.{Rose};
 ghost use Rattle.grid_source.specs.Whole.{IsBegun};
 ghost use Rattle.grid_json.specs.Job.{command_total};
+ghost use Rattle.grid_report.specs.Puts.{Puts};
 ghost use Rattle.grid_cli.specs.Counts.{counts_of, check_text};
 
 use crate::serving::JobForm;
@@ -41,8 +42,7 @@ impl Shown for Counts {
 
 /// Puts a number and the word for what it counts.
 pub(crate) fn put_counted(out: &mut Text, number: u128, word: &str) -> Result<(), Memory>
-    ensures ok { OnOk result (out.new ≡ out.old ++ decimal number ++ word.now) }
-    ensures err { OnErr result (out.new ≡ []) }
+    ensures { Puts out.old (decimal number ++ word.now) out.new result }
 {
     out.put_total(number)?;
     out.put(word)

@@ -6,6 +6,7 @@ ghost use Rattle.std.specs.Io.KnownBytes.{Appends};
 ghost use Rattle.grid_source.specs.Causes.{Rose};
 ghost use Rattle.grid_source.specs.Whole.{IsBegun};
 ghost use Rattle.grid_print.specs.Job.{line_of};
+ghost use Rattle.grid_report.specs.Puts.{Puts};
 ghost use Rattle.grid_jsonl.specs.Trees.{more_text};
 ghost use Rattle.grid_jsonl.specs.Outcomes.{lines};
 ghost use Rattle.grid_screen.specs.Found.{AreFindings, finding_of};
@@ -105,8 +106,7 @@ impl Lined for Part<'_> {
 /// Puts that no live variant has the name.
 #[tactic(auto, unfolding(crate::specs::Findings::absent_text))]
 fn put_absent(out: &mut Text, name: &Id) -> Result<(), Memory>
-    ensures ok { OnOk result (out.new ≡ out.old ++ absent_text name.now) }
-    ensures err { OnErr result (out.new ≡ []) }
+    ensures { Puts out.old (absent_text name.now) out.new result }
 {
     out.put("variant ")?;
     out.put(name.text())?;
@@ -117,8 +117,7 @@ fn put_absent(out: &mut Text, name: &Id) -> Result<(), Memory>
 
 /// Puts the line of it.
 fn put_absent_line(out: &mut Text, name: &Id) -> Result<(), Memory>
-    ensures ok { OnOk result (out.new ≡ out.old ++ line_of (absent_object name.now)) }
-    ensures err { OnErr result (out.new ≡ []) }
+    ensures { Puts out.old (line_of (absent_object name.now)) out.new result }
 {
     open_with(out, "kind", "no_variant")?;
     put_id(out, "variant", name)?;
@@ -127,8 +126,7 @@ fn put_absent_line(out: &mut Text, name: &Id) -> Result<(), Memory>
 
 /// Puts the last line of the text.
 fn put_end(out: &mut Text, only: Told, left_out: u64) -> Result<(), Memory>
-    ensures ok { OnOk result (out.new ≡ out.old ++ end_text only left_out) }
-    ensures err { OnErr result (out.new ≡ []) }
+    ensures { Puts out.old (end_text only left_out) out.new result }
 {
     match only {
         Told::All => out.put("end\n"),
@@ -142,8 +140,7 @@ fn put_end(out: &mut Text, only: Told, left_out: u64) -> Result<(), Memory>
 
 /// Puts how many are left out, where only losses are told.
 fn put_left_out(out: &mut Text, only: Told, left_out: u64) -> Result<(), Memory>
-    ensures ok { OnOk result (out.new ≡ out.old ++ more_text (left_fields only left_out)) }
-    ensures err { OnErr result (out.new ≡ []) }
+    ensures { Puts out.old (more_text (left_fields only left_out)) out.new result }
 {
     match only {
         Told::All => Ok(()),
@@ -153,8 +150,7 @@ fn put_left_out(out: &mut Text, only: Told, left_out: u64) -> Result<(), Memory>
 
 /// Puts the last line.
 fn put_end_line(out: &mut Text, only: Told, told: u64, left_out: u64) -> Result<(), Memory>
-    ensures ok { OnOk result (out.new ≡ out.old ++ line_of (end_object only told left_out)) }
-    ensures err { OnErr result (out.new ≡ []) }
+    ensures { Puts out.old (line_of (end_object only told left_out)) out.new result }
 {
     open_with(out, "kind", "end")?;
     put_number(out, "contingencies", told)?;

@@ -1,12 +1,13 @@
 // The form `hvdc`: the components of each live variant's buses, over the branches alone and over HVDC lines too. Each
 // variant is read where it stands in the world, and no case of it is copied.
-ghost use Rattle.std.specs.Prelude.{◌≡◌, ◌≢◌, ◌≤◌, ◌++◌, [], Err, IfOk, OnOk, OnErr, sum_by};
+ghost use Rattle.std.specs.Prelude.{◌≡◌, ◌≢◌, ◌≤◌, Err, IfOk, OnOk, OnErr, sum_by};
 ghost use Rattle.std.specs.List.{flat_map};
 ghost use Rattle.std.specs.Io.KnownBytes.{Appends};
 ghost use Rattle.grid_source.specs.Causes.{Rose};
 ghost use Rattle.grid_source.specs.Whole.{IsBegun};
 ghost use Rattle.grid_core.specs.History.{live};
 ghost use Rattle.grid_print.specs.Job.{line_of};
+ghost use Rattle.grid_report.specs.Puts.{Puts};
 ghost use Rattle.grid_jsonl.specs.Outcomes.{lines};
 ghost use Rattle.grid_cli.specs.Hvdc.{end_object, named_count, named_objects, named_text, numbers_in, numbers_objects};
 ghost use Rattle.grid_cli.specs.Hvdc.{numbers_text, part_lines, part_text};
@@ -66,8 +67,7 @@ impl Lined for Part<'_> {
 /// Puts the buses of the variant of a name last, where it is live.
 #[tactic(auto, unfolding(crate::specs::Hvdc::named_text, crate::specs::Hvdc::state_text))]
 fn put_named(out: &mut Text, world: &World, name: &Id, lines: &[HvdcLine]) -> Result<(), Memory>
-    ensures ok { OnOk result (out.new ≡ out.old ++ named_text world.now lines.now name.now) }
-    ensures err { OnErr result (out.new ≡ []) }
+    ensures { Puts out.old (named_text world.now lines.now name.now) out.new result }
 {
     if !world.is_live(name) {
         return Ok(());
@@ -90,9 +90,7 @@ fn put_named_lines(
     name: &Id,
     hvdc: &[HvdcLine],
 ) -> Result<(), Memory>
-    ensures ok { OnOk result (out.new
-        ≡ out.old ++ lines (named_objects world.now hvdc.now name.now)) }
-    ensures err { OnErr result (out.new ≡ []) }
+    ensures { Puts out.old (lines (named_objects world.now hvdc.now name.now)) out.new result }
 {
     if !world.is_live(name) {
         return Ok(());
@@ -109,8 +107,7 @@ fn put_named_lines(
 
 /// Puts the last line.
 fn put_end_line(out: &mut Text, variants: u64, buses: u64) -> Result<(), Memory>
-    ensures ok { OnOk result (out.new ≡ out.old ++ line_of (end_object variants buses)) }
-    ensures err { OnErr result (out.new ≡ []) }
+    ensures { Puts out.old (line_of (end_object variants buses)) out.new result }
 {
     open_with(out, "kind", "end")?;
     put_number(out, "variants", variants)?;

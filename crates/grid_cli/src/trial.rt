@@ -1,10 +1,11 @@
 // A trial: the made job, run in its order, and counted.
-ghost use Rattle.std.specs.Prelude.{◌≡◌, ◌≢◌, ◌++◌, ◌≤◌, ◌<◌, ◌^◌, ◌*◌, All, length, sum_by, count_by, IfOk, OnOk};
-ghost use Rattle.std.specs.Prelude.{OnErr, Err, []};
+ghost use Rattle.std.specs.Prelude.{◌≡◌, ◌≢◌, ◌≤◌, ◌<◌, ◌^◌, ◌*◌, All, length, sum_by, count_by, IfOk, OnOk};
+ghost use Rattle.std.specs.Prelude.{OnErr, Err};
 ghost use Rattle.std.specs.Io.KnownBytes.{Appends};
 ghost use Rattle.grid_source.specs.Causes.{Rose};
 ghost use Rattle.grid_source.specs.Whole.{IsBegun};
 ghost use Rattle.grid_make.specs.MadeJob.{made_job};
+ghost use Rattle.grid_report.specs.Puts.{Puts};
 ghost use Rattle.grid_forms.specs.declared.words.TheConstants.{MOST_SEED, MOST_SIZE};
 ghost use Rattle.grid_cli.specs.Trials.{is_updated, trial_head, trial_of, trial_text};
 
@@ -49,8 +50,7 @@ impl Shown for Trial {
 
 /// Puts which trial it is.
 fn put_head(out: &mut Text, seed: u32, size: u32) -> Result<(), Memory>
-    ensures ok { OnOk result (out.new ≡ out.old ++ trial_head seed size) }
-    ensures err { OnErr result (out.new ≡ []) }
+    ensures { Puts out.old (trial_head seed size) out.new result }
 {
     out.put("trial ")?;
     put_counted(out, u128::from(seed), " ")?;

@@ -1,7 +1,8 @@
 // The lines of a report's parts.
-ghost use Rattle.std.specs.Prelude.{◌≡◌, ◌++◌, ◌∷◌, [], OnOk, OnErr, true, codes};
+ghost use Rattle.std.specs.Prelude.{◌∷◌, [], true, codes};
 ghost use Rattle.serde_json.specs.Written.{compact_text};
 ghost use Rattle.grid_print.specs.Job.{line_of};
+ghost use Rattle.grid_report.specs.Puts.{Puts};
 ghost use Rattle.grid_jsonl.specs.Trees.{field_text};
 ghost use Rattle.grid_jsonl.specs.Replies.{answer_of};
 ghost use Rattle.grid_configured.specs.Outcomes.{told_entry};
@@ -31,10 +32,9 @@ impl WrittenIn for ConfiguredBus {
 }
 
 fn put_view(out: &mut Text, view: &ConfiguredView) -> Result<(), Memory>
-    ensures ok { OnOk result (out.new
-        ≡ out.old ++ compact_text (answer_of (codes "bus_view")
-        ((codes "buses", buses_value view.now) ∷ []))) }
-    ensures err { OnErr result (out.new ≡ []) }
+    ensures { Puts out.old
+        (compact_text (answer_of (codes "bus_view") ((codes "buses", buses_value view.now) ∷ [])))
+        out.new result }
 {
     open_with(out, "answer", "bus_view")?;
     put_array_in(out, "buses", &view.level, view.buses.slice())?;
@@ -44,8 +44,7 @@ fn put_view(out: &mut Text, view: &ConfiguredView) -> Result<(), Memory>
 // Puts a reply, as an object.
 #[tactic(auto, unfolding(crate::specs::Lines::reply_value))]
 fn put_reply(out: &mut Text, reply: &ConfiguredReply) -> Result<(), Memory>
-    ensures ok { OnOk result (out.new ≡ out.old ++ compact_text (reply_value reply.now)) }
-    ensures err { OnErr result (out.new ≡ []) }
+    ensures { Puts out.old (compact_text (reply_value reply.now)) out.new result }
 {
     match reply {
         ConfiguredReply::Done => put_word(out, "done"),
@@ -61,19 +60,17 @@ fn put_reply(out: &mut Text, reply: &ConfiguredReply) -> Result<(), Memory>
 
 #[tactic(auto, unfolding(grid_jsonl::specs::Trees::field_text))]
 fn put_answered(out: &mut Text, reply: &ConfiguredReply) -> Result<(), Memory>
-    ensures ok { OnOk result (out.new
-        ≡ out.old ++ field_text true (codes "reply", reply_value reply.now)) }
-    ensures err { OnErr result (out.new ≡ []) }
+    ensures { Puts out.old (field_text true (codes "reply", reply_value reply.now)) out.new result }
 {
     put_name(out, "reply")?;
     put_reply(out, reply)
 }
 
 fn put_step_line(out: &mut Text, step: &Step<'_>) -> Result<(), Memory>
-    ensures ok { OnOk result (out.new
-        ≡ out.old ++ line_of (command_object (placed step.now.place step.now.number
-        (told_entry step.now.entry.now step.now.reply.now)))) }
-    ensures err { OnErr result (out.new ≡ []) }
+    ensures { Puts out.old
+        (line_of (command_object (placed step.now.place step.now.number
+        (told_entry step.now.entry.now step.now.reply.now))))
+        out.new result }
 {
     open_with(out, "kind", "command")?;
     out.put(",")?;
@@ -83,8 +80,7 @@ fn put_step_line(out: &mut Text, step: &Step<'_>) -> Result<(), Memory>
 }
 
 fn put_level_line(out: &mut Text, name: &Id, view: &ConfiguredView) -> Result<(), Memory>
-    ensures ok { OnOk result (out.new ≡ out.old ++ line_of (level_object name.now view.now)) }
-    ensures err { OnErr result (out.new ≡ []) }
+    ensures { Puts out.old (line_of (level_object name.now view.now)) out.new result }
 {
     open_with(out, "kind", "level")?;
     put_id(out, "variant", name)?;

@@ -1,7 +1,8 @@
 // The parts of a report, in order.
-ghost use Rattle.std.specs.Prelude.{◌≡◌, ◌++◌, [], OnOk, OnErr, IfOk, length, map};
+ghost use Rattle.std.specs.Prelude.{◌≡◌, ◌++◌, OnOk, IfOk, length, map};
 ghost use Rattle.std.specs.List.{count_by, flat_map, range_with_len};
 ghost use Rattle.grid_report.specs.Outcomes.{numbered};
+ghost use Rattle.grid_report.specs.Puts.{Puts};
 ghost use Rattle.grid_configured.specs.Texts.{step_text, steps_by, worker_text, level_text, variant_text, report_of};
 ghost use Rattle.grid_configured.specs.Outcomes.{told_entry, told_of};
 ghost use Rattle.grid_configured.specs.Blocks.{block_objects, block_text};
@@ -61,9 +62,9 @@ impl Shown for Block<'_> {
 
 #[tactic(auto, unfolding(crate::specs::Texts::step_text))]
 fn put_step(out: &mut Text, step: &Step<'_>) -> Result<(), Memory>
-    ensures ok { OnOk result (out.new
-        ≡ out.old ++ step_text step.now.number (told_entry step.now.entry.now step.now.reply.now)) }
-    ensures err { OnErr result (out.new ≡ []) }
+    ensures { Puts out.old
+        (step_text step.now.number (told_entry step.now.entry.now step.now.reply.now))
+        out.new result }
 {
     out.put_unsigned(step.number)?;
     put_named(out, " ", &step.entry.variant)?;

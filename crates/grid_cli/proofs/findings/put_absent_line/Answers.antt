@@ -2,6 +2,6 @@ use Rattle.grid_jsonl.proofs.Objects.{begun, line_ends, more}
 use Rattle.grid_cli.specs.Findings.{absent_object}
 use Rattle.grid_cli.proofs.findings.put_absent_line.Goals as goal
 
-pub returns-clause-ok : goal.returns-clause-ok
+pub returns : goal.returns
 unfolding absent_object
-returns-clause-ok c = line_ends c.put.result _ (more _ _ (begun _ _ _ c.in_ok-open_with.ensures.ok) c.in_ok-put_id.ensures.ok) c.put.ensures.ok
+returns c = line_ends (more _ _ (begun _ _ _ c.in_ok-open_with.ensures.ok) c.in_ok-put_id.ensures.ok) c.put.ensures

@@ -2,6 +2,6 @@ use Rattle.grid_jsonl.proofs.Objects.{begun, line_ends, more}
 use Rattle.grid_cli.specs.Hvdc.{end_object}
 use Rattle.grid_cli.proofs.hvdc.put_end_line.Goals as goal
 
-pub returns-clause-ok : goal.returns-clause-ok
+pub returns : goal.returns
 unfolding end_object
-returns-clause-ok c = line_ends c.put.result _ (more _ _ (more _ _ (begun _ _ _ c.in_ok-open_with.ensures.ok) c.in_ok-put_number.ensures.ok) c.in_ok-put_number-2.ensures.ok) c.put.ensures.ok
+returns c = line_ends (more _ _ (more _ _ (begun _ _ _ c.in_ok-open_with.ensures.ok) c.in_ok-put_number.ensures.ok) c.in_ok-put_number-2.ensures.ok) c.put.ensures

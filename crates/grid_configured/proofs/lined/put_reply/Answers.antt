@@ -1,14 +1,14 @@
 use Rattle.grid_configured.specs.Lines.{reply_value}
 use Rattle.grid_configured.proofs.lined.put_reply.Goals as goal
 
-pub returns-in-AlreadyConnected-clause-ok : goal.returns-in-AlreadyConnected-clause-ok
+pub returns-in-AlreadyConnected : goal.returns-in-AlreadyConnected
 unfolding reply_value
-returns-in-AlreadyConnected-clause-ok c = rw c.in-AlreadyConnected.is c.put_word-in-AlreadyConnected.ensures.ok
+returns-in-AlreadyConnected c = rw c.in-AlreadyConnected.is c.put_word-in-AlreadyConnected.ensures
 
-pub returns-in-AlreadyDisconnected-clause-ok : goal.returns-in-AlreadyDisconnected-clause-ok
+pub returns-in-AlreadyDisconnected : goal.returns-in-AlreadyDisconnected
 unfolding reply_value
-returns-in-AlreadyDisconnected-clause-ok c = rw c.in-AlreadyDisconnected.is c.put_word-in-AlreadyDisconnected.ensures.ok
+returns-in-AlreadyDisconnected c = rw c.in-AlreadyDisconnected.is c.put_word-in-AlreadyDisconnected.ensures
 
-pub returns-in-Overwritten-clause-ok : goal.returns-in-Overwritten-clause-ok
+pub returns-in-Overwritten : goal.returns-in-Overwritten
 unfolding reply_value
-returns-in-Overwritten-clause-ok c = rw c.in-Overwritten.is c.put_word-in-Overwritten.ensures.ok
+returns-in-Overwritten c = rw c.in-Overwritten.is c.put_word-in-Overwritten.ensures

@@ -7,10 +7,10 @@ use Rattle.grid_jsonl.proofs.Objects.{begun, line_ends, more, more_in}
 use Rattle.grid_configured.specs.Lines.{command_object}
 use Rattle.grid_configured.proofs.lined.put_step_line.Goals as goal
 
-pub returns-clause-ok : goal.returns-clause-ok
+pub returns : goal.returns
 unfolding command_object
-returns-clause-ok c =
+returns c =
     let s = c.args.step.now in
     let e = s.entry.now in
     let rest = (codes "worker", natural e.worker) ∷ (codes "step", natural s.number) ∷ (codes "variant", string e.variant) ∷ (codes "command", request_value e.request) ∷ [] in
-    line_ends c.put-2.result _ (more _ _ (more_in _ _ (codes "place", natural s.place) rest (begun _ _ _ c.in_ok-open_with.ensures.ok) c.in_ok-put.ensures.ok c.in_ok-put_asked_step.ensures.ok) c.in_ok-put_answered.ensures.ok) c.put-2.ensures.ok
+    line_ends (more _ _ (more_in _ _ (codes "place", natural s.place) rest (begun _ _ _ c.in_ok-open_with.ensures.ok) c.in_ok-put.ensures.ok c.in_ok-put_asked_step.ensures.ok) c.in_ok-put_answered.ensures.ok) c.put-2.ensures

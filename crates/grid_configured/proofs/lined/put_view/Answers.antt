@@ -1,5 +1,5 @@
 use Rattle.grid_jsonl.proofs.Objects.{begun, ends, more}
 use Rattle.grid_configured.proofs.lined.put_view.Goals as goal
 
-pub returns-clause-ok : goal.returns-clause-ok
-returns-clause-ok c = rw (c.slice.ensures) at (ends c.put.result _ (more _ _ (begun _ _ _ c.in_ok-open_with.ensures.ok) c.in_ok-put_array_in.ensures.ok) c.put.ensures.ok)
+pub returns : goal.returns
+returns c = rw (c.slice.ensures) at (ends (more _ _ (begun _ _ _ c.in_ok-open_with.ensures.ok) c.in_ok-put_array_in.ensures.ok) c.put.ensures)
