@@ -46,17 +46,12 @@ unfoldable pub request_plain : Request → Bool
 request_plain (requests.UseVariant name) = is_plain name
 request_plain (requests.OpenSwitch id) = is_plain id
 request_plain (requests.CloseSwitch id) = is_plain id
-request_plain (requests.RetainSwitch id retained) = false
-request_plain (requests.SetPower id watts) = false
-request_plain requests.Totals = false
 request_plain (requests.Connect id side) = is_plain id
 request_plain (requests.Disconnect id side) = is_plain id
-request_plain (requests.BusBreakerView level) = false
 request_plain (requests.BusView level) = is_plain level
-request_plain (requests.Components level) = false
 request_plain (requests.CloneVariant from to overwrite) = is_plain from && is_plain to
 request_plain (requests.RemoveVariant name) = is_plain name
-request_plain (requests.Change edit) = false
+request_plain other = false
 
 abbrev pub IsConfiguredRequest : Request → Type 0
 IsConfiguredRequest request = IsTrue (request_plain request)

@@ -227,17 +227,7 @@ impl ConfiguredWorld {
             Request::Connect { id, .. } | Request::Disconnect { id, .. } => {
                 self.plug(worker, request, id)
             }
-            Request::UseVariant { .. }
-            | Request::OpenSwitch { .. }
-            | Request::CloseSwitch { .. }
-            | Request::RetainSwitch { .. }
-            | Request::SetPower { .. }
-            | Request::Totals
-            | Request::BusBreakerView { .. }
-            | Request::Components { .. }
-            | Request::CloneVariant { .. }
-            | Request::RemoveVariant { .. }
-            | Request::Change { .. } => self.pass(worker, request),
+            _ => self.pass(worker, request),
         }
     }
 
