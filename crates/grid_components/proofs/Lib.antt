@@ -3,3 +3,4 @@ pub mod OrderRanks
 pub mod Sizes
 pub mod Tallies
 pub mod LabelSizes
+pub mod TouchedNodes

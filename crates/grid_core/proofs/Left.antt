@@ -97,10 +97,12 @@ module _ (a b : Network) (same : SameLists a b) where
         counts = n.numbered.counts ∙ ap (λ (ls : List VoltageLevel). counts_before n.opened ls (length ls)) (sym same.levels_are);
         few = n.numbered.few;
         components = rw (same.levels_are, pairs_same n.opened) n.numbered.components;
+        ranked = n.numbered.ranked;
         below = n.numbered.below;
         sizes = n.numbered.sizes;
       };
       ended = n.ended ∙ ap (map (buses_of_spots numbers.counts.firsts kept.levels)) (sym spots_same);
+      labelled = n.labelled;
     }
 
     but_same : (opened : List (List Bool)) (place : ℕ) → AreKeptBut a opened place kept → AreKeptBut b opened place kept
@@ -115,7 +117,7 @@ module _ (a b : Network) (same : SameLists a b) where
     buses_same : AreBusesOf a kept → AreBusesOf b kept
     buses_same k = record {
       made = subst (λ (ls : List VoltageLevel). (place : ℕ) (level : VoltageLevel) (own : KeptLevel) → slice_get ls place ≡ Some level → IsKeptAt kept place own → IsMadeOf level own) (sym same.levels_are) k.made;
-      spotted = λ h. k.spotted h ∙ sym spots_same;
+      spotted = λ h. (let was = k.spotted h in record { branches = was.branches ∙ sym spots_same; index = was.index; long = was.long ∙ ap length (sym same.levels_are) });
       numbered = some_too kept.numbers k.numbered numbers_same;
     }
 

@@ -185,13 +185,7 @@ fn leaves(request: &Request) -> bool
         | Request::BusView { .. }
         | Request::Components { .. } => true,
         Request::Change { edit } => edit_leaves(edit),
-        Request::OpenSwitch { .. }
-        | Request::CloseSwitch { .. }
-        | Request::RetainSwitch { .. }
-        | Request::Connect { .. }
-        | Request::Disconnect { .. }
-        | Request::CloneVariant { .. }
-        | Request::RemoveVariant { .. } => false,
+        _ => false,
     }
 }
 
@@ -202,15 +196,7 @@ fn edit_leaves(edit: &Edit) -> bool
 {
     match edit {
         Edit::AddSubstation { .. } => true,
-        Edit::AddLevel { .. }
-        | Edit::AddBusbar { .. }
-        | Edit::AddSwitch { .. }
-        | Edit::AddInjection { .. }
-        | Edit::AddBranch { .. }
-        | Edit::AddInternal { .. }
-        | Edit::RemoveSwitch { .. }
-        | Edit::RemoveEquipment { .. }
-        | Edit::RemoveInternal { .. } => false,
+        _ => false,
     }
 }
 

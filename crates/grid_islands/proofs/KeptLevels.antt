@@ -11,10 +11,11 @@ use Rattle.grid_busview.specs.Views.{bus_leasts, node_buses_of}
 use Rattle.grid_states.specs.Rows.{row_at}
 use Rattle.grid_islands.specs.declared.kept.KeptLevel.{KeptLevel}
 use Rattle.grid_islands.specs.declared.kept.KeptBuses.{KeptBuses}
+use Rattle.grid_islands.specs.declared.spots.IndexedSpots.{IndexedSpots}
 use Rattle.grid_islands.specs.Numbering.{standing, counts_before, with_count, IsOwn, AreNumbers}
 use Rattle.grid_islands.proofs.LevelComponents.{level_exists}
 use Rattle.grid_islands.specs.declared.components.Numbers.{Numbers}
-use Rattle.grid_islands.specs.Kept.{kept_of, IsKeptAt, IsLeftOrNone, AreBusesOf, AreNumbersOf, AreKept, AreKeptBefore, AreKeptBut, IsFollowedBy}
+use Rattle.grid_islands.specs.Kept.{kept_of, IsKeptAt, IsLeftOrNone, AreBusesOf, AreNumbersOf, AreKept, AreKeptBefore, AreKeptBut, IsFollowedBy, IsSpotted}
 use Rattle.grid_islands.proofs.LevelNumbers.{counts_none, counts_more}
 
 module _ (net : Network) (old new : KeptBuses) (place : ℕ) (level : VoltageLevel) (row : List Bool) (at : slice_get (levels net) place ≡ Some level) (own : IsKeptAt new place (kept_of level row))
@@ -31,7 +32,7 @@ module _ (net : Network) (old new : KeptBuses) (place : ℕ) (level : VoltageLev
               same ∙ ap (kept_of level) (sym (ap (λ (z : KeptLevel). z.opened) same)) ∙ ap (λ z. kept_of z kept.opened) (sym (level_there k l e.1 there)))
           | inr n ↦ is.made k l kept there (sym (others k n.1) ∙ at_new) valid
         ];
-    spotted = λ some. spots ∙ is.spotted (omega (arith, some, ap length spots));
+    spotted = subst (λ (z : IndexedSpots). 0 < length z.branches → IsSpotted net z) (sym spots) is.spotted;
     numbered = subst (λ (z : Option Numbers). IfSome z (AreNumbersOf net new)) (sym none) tt;
   }
 
@@ -75,7 +76,7 @@ but_long net opened (suc k) kept inside but =
 pub numbers_gone : (net : Network) (old new : KeptBuses) → new.levels ≡ old.levels → new.spots ≡ old.spots → new.numbers ≡ None → AreBusesOf net old → AreBusesOf net new
 numbers_gone net old new same spots none is = record {
   made = λ k level own at there. is.made k level own at (ap (λ (z : List KeptLevel). slice_get z k) (sym same) ∙ there);
-  spotted = λ some. spots ∙ is.spotted (omega (arith, some, ap length spots));
+  spotted = subst (λ (z : IndexedSpots). 0 < length z.branches → IsSpotted net z) (sym spots) is.spotted;
   numbered = subst (λ (z : Option Numbers). IfSome z (AreNumbersOf net new)) (sym none) tt;
 }
 

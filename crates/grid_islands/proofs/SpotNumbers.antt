@@ -24,9 +24,10 @@ use Rattle.grid_islands.specs.declared.spots.BranchBuses.{BranchBuses}
 use Rattle.grid_islands.specs.declared.numbering.Counts.{Counts}
 use Rattle.grid_islands.specs.declared.components.Numbers.{Numbers}
 use Rattle.grid_islands.specs.Numbering.{standing, buses_before, counted_from, node_numbers, numbered, number_of_node, number_of_end, pairs_of_branch, counts_before, numbered_pairs, IsCounted}
-use Rattle.grid_islands.specs.Kept.{kept_of, AreKeptBefore, AreKept, IsFollowedBy}
-use Rattle.grid_islands.specs.Spots.{node_index, spot_at, spot_of_end, spots_of_branch, network_spots, number_of_spot, buses_of_spots, pairs_of_buses, NumbersFit, SameElsewhere}
-use Rattle.grid_islands.proofs.LevelComponents.{level_exists, level_inside}
+use Rattle.grid_islands.specs.Kept.{kept_of, AreKeptBefore, AreKept, IsFollowedBy, IsSpotted, IsMovedAt}
+use Rattle.grid_islands.specs.Spots.{node_index, spot_at, spot_of_end, spots_of_branch, network_spots, number_of_spot, buses_of_spots, pairs_of_buses, NumbersFit}
+use Rattle.grid_islands.proofs.LevelComponents.{level_exists, level_inside, ends_counted}
+use Rattle.grid_islands.proofs.KeptLevels.{counts_stay}
 use Rattle.grid_islands.proofs.LevelNumbers.{places_fit}
 use Rattle.grid_islands.proofs.BusPlaces.{all_rows, all_long, row_read}
 use Rattle.grid_islands.proofs.Nodes.{number_by_index}
@@ -132,23 +133,24 @@ module _ (net : Network) (opened : List (List Bool)) (kept : KeptBuses) (every :
       omega (arith, same_first, fits, level_inside net opened opened k level.0 level.1, all_long net opened opened, is, few)
 
 -- where all levels are kept, the buses at the spots make the network's pairs
-pub ends_counted_so : (net : Network) (opened : List (List Bool)) (kept : KeptBuses) (counts : Counts) (ends : List BranchBuses) (firsts : List ℕ) → AreKept net opened kept → kept.spots ≡ network_spots net
-    → counts ≡ counts_before opened (levels net) (length (levels net)) → firsts ≡ counts.firsts → ends ≡ map (buses_of_spots firsts kept.levels) kept.spots → IsCounted net opened counts (flat_map pairs_of_buses ends)
+pub ends_counted_so : (net : Network) (opened : List (List Bool)) (kept : KeptBuses) (counts : Counts) (ends : List BranchBuses) (firsts : List ℕ) → AreKept net opened kept → kept.spots.branches ≡ network_spots net
+    → counts ≡ counts_before opened (levels net) (length (levels net)) → firsts ≡ counts.firsts → ends ≡ map (buses_of_spots firsts kept.levels) kept.spots.branches → IsCounted net opened counts (flat_map pairs_of_buses ends)
 unfolding counts_before numbered_pairs
 ends_counted_so net opened kept counts ends firsts every spots is at made = record {
   counted = is;
   paired = ap (flat_map pairs_of_buses) (made ∙ ap (map (buses_of_spots firsts kept.levels)) spots) ∙ pairs_as net opened kept every firsts (at ∙ ap (λ (z : Counts). z.firsts) is);
 }
 
--- where the ends at one level were written anew, they are those at the spots
-pub followed_ends : (net : Network) (place : ℕ) (numbers : Numbers) (kept : KeptBuses) (firsts : List ℕ) (levels_now : List KeptLevel) (spots_now : List BranchSpots) (ends new : List BranchBuses) → IsFollowedBy net place numbers kept
-    → kept.spots ≡ network_spots net → firsts ≡ numbers.counts.firsts → ends ≡ numbers.ends → levels_now ≡ kept.levels → spots_now ≡ kept.spots
-    → ((before : List KeptLevel) → SameElsewhere place before levels_now → ends ≡ map (buses_of_spots firsts before) spots_now → new ≡ map (buses_of_spots firsts levels_now) spots_now)
-    → new ≡ map (buses_of_spots firsts kept.levels) kept.spots
-followed_ends net place numbers kept firsts levels_now spots_now ends new is spots counted were there at follows =
-    follows is.before.levels (λ other ne. ap (λ (z : List KeptLevel). slice_get z other) there ∙ is.others other ne)
-    (were ∙ is.were.ended ∙ ap (λ z. map (buses_of_spots z is.before.levels) (network_spots net)) (sym counted) ∙ ap (map (buses_of_spots firsts is.before.levels)) (sym (at ∙ spots)))
-    ∙ ap (λ z. map (buses_of_spots firsts z) spots_now) there ∙ ap (map (buses_of_spots firsts kept.levels)) at
+-- where one level has other buses, the ends stand where they did by what was kept before
+pub moved_at : (net : Network) (place : ℕ) (numbers : Numbers) (kept : KeptBuses) (opened : List (List Bool)) (firsts : List ℕ) (count : ℕ) (ends : List BranchBuses) (is : IsFollowedBy net place numbers kept) → AreKept net opened kept
+    → IsSpotted net kept.spots → firsts ≡ numbers.counts.firsts → ends ≡ numbers.ends → count ≡ numbers.counts.count → IsMovedAt place is.before.levels kept firsts count ends
+moved_at net place numbers kept opened firsts count ends is every spots at same counted = record {
+  others = is.others;
+  were = same ∙ is.were.ended ∙ ap (λ z. map (buses_of_spots z is.before.levels) (network_spots net)) (sym at) ∙ ap (map (buses_of_spots firsts is.before.levels)) (sym spots.branches);
+  below = rw counted
+      (ends_counted net opened opened numbers.counts (flat_map pairs_of_buses (map (buses_of_spots firsts kept.levels) kept.spots.branches))
+      (ends_counted_so net opened kept numbers.counts (map (buses_of_spots firsts kept.levels) kept.spots.branches) firsts every spots.branches (counts_stay net place numbers kept opened is every) at refl));
+}
 
 -- ---- the spots of one branch more
 

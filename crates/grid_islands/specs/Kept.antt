@@ -1,5 +1,7 @@
 -- The buses of levels, kept with the flags that they were made of, and the spots of branches.
-use Rattle.std.specs.Prelude.{◌≡◌, ◌≢◌, ◌⊎◌, ℕ, ◌<◌, Bool, true, IsTrue, Some, None, IfSome, List, length, map, slice_get}
+use Rattle.std.specs.Prelude.{◌≡◌, ◌≢◌, ◌⊎◌, ℕ, ◌<◌, Bool, true, IsTrue, Some, None, IfSome, List, length, map, flat_map, slice_get}
+use Rattle.grid_graph.specs.Graph.{graph, EndsBelow}
+use Rattle.grid_queue.specs.Parents.{AreLabelsOf}
 use Rattle.grid_level.specs.VoltageLevel.{VoltageLevel}
 use Rattle.grid_level.specs.Passing.{positioned}
 use Rattle.grid_structure.specs.Network.{Network}
@@ -10,7 +12,10 @@ use Rattle.grid_islands.specs.declared.kept.KeptLevel.{KeptLevel}
 use Rattle.grid_islands.specs.declared.kept.KeptBuses.{KeptBuses}
 use Rattle.grid_islands.specs.declared.components.Numbers.{Numbers}
 use Rattle.grid_islands.specs.Numbering.{AreNumbers}
-use Rattle.grid_islands.specs.Spots.{network_spots, buses_of_spots, SameElsewhere}
+use Rattle.grid_islands.specs.declared.spots.BranchBuses.{BranchBuses}
+use Rattle.grid_islands.specs.declared.spots.IndexedSpots.{IndexedSpots}
+use Rattle.grid_islands.specs.LevelEnds.{IsIndexOf}
+use Rattle.grid_islands.specs.Spots.{network_spots, buses_of_spots, pairs_of_buses, SameElsewhere}
 
 -- what is kept of a level under these flags
 unfoldable pub kept_of : VoltageLevel → List Bool → KeptLevel
@@ -44,6 +49,12 @@ AreKept net opened kept = AreKeptBefore net opened (length (levels net)) kept
 abbrev pub AreKeptBut : Network → List (List Bool) → ℕ → KeptBuses → Type 0
 AreKeptBut net opened but kept = (place : ℕ) (level : VoltageLevel) → place ≢ but → slice_get (levels net) place ≡ Some level → IsKeptAt kept place (kept_of level (row_at opened place))
 
+-- the spots are those of the network's branches, with the levels in which these have an end
+pub record IsSpotted (net : Network) (spots : IndexedSpots) : Type 0 where
+  pub branches : spots.branches ≡ network_spots net
+  pub index : IsIndexOf spots.branches spots.index
+  pub long : length spots.index.lasts ≡ length (levels net)
+
 -- the numbers are those under the flags of all levels, with which the levels are kept; so are the buses in which branches end
 pub record AreNumbersOf (net : Network) (kept : KeptBuses) (numbers : Numbers) : Type 0 where
   pub opened : List (List Bool)
@@ -51,6 +62,7 @@ pub record AreNumbersOf (net : Network) (kept : KeptBuses) (numbers : Numbers) :
   pub every : AreKept net opened kept
   pub numbered : AreNumbers net opened numbers
   pub ended : numbers.ends ≡ map (buses_of_spots numbers.counts.firsts kept.levels) (network_spots net)
+  pub labelled : AreLabelsOf (graph numbers.counts.count (flat_map pairs_of_buses numbers.ends)) numbers.labels
 
 -- the numbers are those of levels that were kept before, of which the one at a place alone has other buses by now, but as many
 pub record IsFollowedBy (net : Network) (place : ℕ) (numbers : Numbers) (kept : KeptBuses) : Type 0 where
@@ -63,5 +75,12 @@ pub record IsFollowedBy (net : Network) (place : ℕ) (numbers : Numbers) (kept 
 -- kept, are those of the network's branches; and so are the numbers, where they are kept
 pub record AreBusesOf (net : Network) (kept : KeptBuses) : Type 0 where
   pub made : (place : ℕ) (level : VoltageLevel) (own : KeptLevel) → slice_get (levels net) place ≡ Some level → IsKeptAt kept place own → IsMadeOf level own
-  pub spotted : 0 < length kept.spots → kept.spots ≡ network_spots net
+  pub spotted : 0 < length kept.spots.branches → IsSpotted net kept.spots
   pub numbered : IfSome kept.numbers (AreNumbersOf net kept)
+
+-- what is kept of the level at a place alone is another than before, when the ends of the branches stood in these buses; the pairs
+-- that the branches make now are of buses below a count
+pub record IsMovedAt (level : ℕ) (before : List KeptLevel) (kept : KeptBuses) (firsts : List ℕ) (count : ℕ) (ends : List BranchBuses) : Type 0 where
+  pub others : SameElsewhere level before kept.levels
+  pub were : ends ≡ map (buses_of_spots firsts before) kept.spots.branches
+  pub below : EndsBelow (flat_map pairs_of_buses (map (buses_of_spots firsts kept.levels) kept.spots.branches)) count

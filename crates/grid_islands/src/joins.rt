@@ -23,16 +23,22 @@ fn join_between(joiner: &mut Joiner, first: Option<u32>, second: Option<u32>)
     }
 }
 
-// Joins the buses in which the ends of a branch stand.
-fn join_branch(joiner: &mut Joiner, branch: &BranchBuses)
+/// Joins the buses in which the ends of a branch stand.
+pub(crate) fn join_branch(joiner: &mut Joiner, branch: &BranchBuses)
     requires { EndsBelow (pairs_of_buses branch.now) (length joiner.old) }
     ensures long { length joiner.new ≡ length joiner.old }
     ensures labels { (net : Graph) → AreLabelsOf net joiner.old
         → AreLabelsOf (with_pairs net (pairs_of_buses branch.now)) joiner.new }
 {
     join_between(joiner, branch.first, branch.second);
-    join_between(joiner, branch.first, branch.third);
-    join_between(joiner, branch.second, branch.third);
+    // Few branches have a third end.
+    match branch.third {
+        Some(third) => {
+            join_between(joiner, branch.first, Some(third));
+            join_between(joiner, branch.second, Some(third));
+        }
+        None => {}
+    }
 }
 
 /// For each bus below a count the least one that is joined to it by the branches whose ends stand in these buses.

@@ -1,18 +1,24 @@
 // The buses of levels, kept for the next call with the flags that they were made of, and the spots of branches.
-ghost use Rattle.std.specs.Prelude.{◌≡◌, ◌≢◌, ℕ, ◌<◌, ◌≤◌, ◌^◌, Bool, IsTrue, IsFalse, IsSome, IfOk, OnOk, OnErr, List, length, map, slice_get};
+ghost use Rattle.std.specs.Prelude.{◌≡◌, ◌≢◌, ℕ, ◌<◌, ◌≤◌, ◌^◌, Bool, IsTrue, IsFalse, IsSome, IfOk, OnOk, OnErr, List, length, map, flat_map, slice_get};
 ghost use Rattle.grid_structure.specs.Network.{Network};
 ghost use Rattle.grid_structure.specs.Sites.{levels};
 ghost use Rattle.grid_islands.specs.declared.kept.KeptLevel.{KeptLevel};
 ghost use Rattle.grid_islands.specs.Numbering.{FlagsFit, counts_before};
 ghost use Rattle.grid_islands.specs.Islands as islands;
-ghost use Rattle.grid_islands.specs.Kept.{kept_of, IsKeptAt, IsMadeOf, IsLeftOrNone, LeavesOthers, AreBusesOf, AreKept, AreKeptBut, IsFollowedBy};
+ghost use Rattle.grid_graph.specs.Graph.{graph};
+ghost use Rattle.grid_queue.specs.Parents.{AreLabelsOf};
+ghost use Rattle.grid_islands.specs.Kept.{kept_of, IsKeptAt, IsMadeOf, IsLeftOrNone, LeavesOthers, AreBusesOf, AreKept, AreKeptBut, IsFollowedBy, IsSpotted, IsMovedAt};
+ghost use Rattle.grid_islands.specs.LevelEnds.{IsIndexOf};
 ghost use Rattle.grid_islands.specs.Spots as spots;
-ghost use Rattle.grid_islands.specs.Spots.{NumbersFit};
+ghost use Rattle.grid_islands.specs.Spots.{NumbersFit, pairs_of_buses};
 
 use crate::BusComponents;
 use crate::components::Numbers;
+use crate::following::{follow_level, mark_level};
+use crate::joins::join_ends;
 use crate::numbering::Counts;
-use crate::spots::{Ends, Spots, follow_level, network_spots, spot_buses};
+use crate::rejoining::{no_marks, rejoin};
+use crate::spots::{Ends, IndexedSpots, spot_buses};
 use grid_busview::{NodeBuses, node_buses};
 use grid_ids::{Memory, Seq, same_items};
 use grid_level::Level;
@@ -64,7 +70,7 @@ impl KeptLevel {
 pub struct KeptBuses {
     levels: Seq<KeptLevel>,
     // The spots of all branches; of none before they are found.
-    spots: Spots,
+    spots: IndexedSpots,
     // The components of the buses of these levels, once they are found.
     numbers: Option<Numbers>,
 }
@@ -76,7 +82,7 @@ impl KeptBuses {
     {
         KeptBuses {
             levels: Seq::empty(alloc),
-            spots: Spots::empty(alloc),
+            spots: IndexedSpots::empty(alloc),
             numbers: None,
         }
     }
@@ -98,7 +104,7 @@ impl KeptBuses {
         ensures { (net next : Network) → LeavesOthers net next place → AreBusesOf net self.old
             → AreBusesOf next self.new }
     {
-        self.spots = Spots::empty(alloc);
+        self.spots = IndexedSpots::empty(alloc);
         self.numbers = None;
         if (place as usize) < self.levels.len() {
             self.levels.set(place as usize, KeptLevel::gone(alloc));
@@ -206,12 +212,12 @@ impl KeptBuses {
     // Finds the spots of all branches, where they are not kept.
     fn find_spots(&mut self, alloc: Global, structure: &Structure) -> Result<(), Memory>
         requires { AreBusesOf structure.now self.old }
-        ensures found { OnOk result (self.new.spots ≡ spots.network_spots structure.now) }
+        ensures found { OnOk result (IsSpotted structure.now self.new.spots) }
         ensures levels { self.new.levels ≡ self.old.levels }
         ensures kept { AreBusesOf structure.now self.new }
     {
-        if self.spots.len() == 0 {
-            self.spots = network_spots(alloc, structure)?;
+        if self.spots.branches.len() == 0 {
+            self.spots = IndexedSpots::of(alloc, structure)?;
         }
         Ok(())
     }
@@ -221,9 +227,14 @@ impl KeptBuses {
     fn ends(&self, alloc: Global, firsts: &[u32]) -> Result<Ends, Memory>
         requires { NumbersFit firsts.now self.now.levels }
         ensures { IfOk result (λ ends. ends
-            ≡ map (spots.buses_of_spots firsts.now self.now.levels) self.now.spots) }
+            ≡ map (spots.buses_of_spots firsts.now self.now.levels) self.now.spots.branches) }
     {
-        spot_buses(alloc, firsts, self.levels.slice(), self.spots.slice())
+        spot_buses(
+            alloc,
+            firsts,
+            self.levels.slice(),
+            self.spots.branches.slice(),
+        )
     }
 
     // Finds the components, where they are not kept. The levels are kept under these flags.
@@ -246,7 +257,8 @@ impl KeptBuses {
         self.find_spots(alloc, structure)?;
         let counts = self.count(alloc, structure, states)?;
         let ends = self.ends(alloc, counts.firsts.slice())?;
-        self.numbers = Some(Numbers::make(alloc, counts, ends)?);
+        let labels = join_ends(alloc, counts.count, ends.slice())?;
+        self.numbers = Some(Numbers::make(alloc, counts, ends, labels)?);
         Ok(())
     }
 
@@ -261,6 +273,37 @@ impl KeptBuses {
         }
     }
 
+    // Writes the buses anew in which the ends of the branches of a level stand, and gives the labels that all buses
+    // have then, by those that they had.
+    fn follow(
+        &self,
+        alloc: Global,
+        labels: Vec<u32>,
+        ends: &mut Ends,
+        firsts: &[u32],
+        level: u32,
+    ) -> Result<Vec<u32>, Memory>
+        requires fit { NumbersFit firsts.now self.now.levels }
+        requires spots { IsIndexOf self.now.spots.branches self.now.spots.index }
+        requires inside { level < length self.now.spots.index.lasts }
+        requires few { length labels.items < 2 ^ 32 }
+        requires before { (before : List KeptLevel)
+            × IsMovedAt level before self.now firsts.now (length labels.items) ends.old }
+        requires labels { AreLabelsOf (graph (length labels.items) (flat_map pairs_of_buses ends.old))
+            labels.items }
+        ensures ends { OnOk result (ends.new
+            ≡ map (spots.buses_of_spots firsts.now self.now.levels) self.now.spots.branches) }
+        ensures labels { IfOk result (λ new. AreLabelsOf (graph (length labels.items)
+            (flat_map pairs_of_buses ends.new)) new.items) }
+    {
+        let mut marks = no_marks(alloc, labels.len())?;
+        let index = &self.spots.index;
+        mark_level(&mut marks, &labels, ends.slice(), index, level);
+        follow_level(ends, firsts, self.levels.slice(), &self.spots, level);
+        mark_level(&mut marks, &labels, ends.slice(), index, level);
+        Ok(rejoin(labels, marks, ends.slice()))
+    }
+
     // Finds the components anew from these, where the level at a place alone has other buses than when they were found,
     // but as many.
     fn follow_numbers(
@@ -273,21 +316,22 @@ impl KeptBuses {
     ) -> Result<(), Memory>
         requires rows { length states.now.opened ≡ length (levels structure.now) }
         requires kept { AreBusesOf structure.now self.old }
-        requires spots { self.old.spots ≡ spots.network_spots structure.now }
+        requires spots { IsSpotted structure.now self.old.spots }
+        requires inside { place < length (levels structure.now) }
         requires every { AreKept structure.now states.now.opened self.old }
         requires numbers { IsFollowedBy structure.now place numbers self.old }
         ensures levels { self.new.levels ≡ self.old.levels }
         ensures kept { AreBusesOf structure.now self.new }
     {
-        let (counts, mut ends) = numbers.into_parts();
-        follow_level(
+        let (counts, mut ends, labels) = numbers.into_parts();
+        let labels = self.follow(
+            alloc,
+            labels.into_vec(),
             &mut ends,
             counts.firsts.slice(),
-            self.levels.slice(),
-            self.spots.slice(),
             place,
-        );
-        self.numbers = Some(Numbers::make(alloc, counts, ends)?);
+        )?;
+        self.numbers = Some(Numbers::make(alloc, counts, ends, labels)?);
         Ok(())
     }
 

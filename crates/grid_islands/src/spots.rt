@@ -1,10 +1,11 @@
 // Where the ends of branches stand, and the buses there.
-ghost use Rattle.std.specs.Prelude.{◌≡◌, IfOk, List, length, map, option_and_then};
+ghost use Rattle.std.specs.Prelude.{◌≡◌, IfOk, length, map, option_and_then};
 ghost use Rattle.grid_islands.specs.Spots as spots;
-ghost use Rattle.grid_islands.specs.Spots.{NumbersFit, SameElsewhere};
-ghost use Rattle.grid_islands.specs.declared.kept.KeptLevel.{KeptLevel};
+ghost use Rattle.grid_islands.specs.Kept.{IsSpotted};
+ghost use Rattle.grid_islands.specs.Spots.{NumbersFit};
 
 use crate::kept::KeptLevel;
+use crate::level_ends::LevelEnds;
 use crate::pairs::node_index;
 use grid_ids::{Memory, Seq};
 use grid_structure::{Branch, BranchEnds, End, Structure};
@@ -30,6 +31,34 @@ pub(crate) struct BranchSpots {
 
 /// The spots of branches, in their order.
 pub(crate) type Spots = Seq<BranchSpots>;
+
+/// The spots of branches, with the levels in which these have an end.
+#[derive(Drop)]
+pub(crate) struct IndexedSpots {
+    pub(crate) branches: Spots,
+    pub(crate) index: LevelEnds,
+}
+
+impl IndexedSpots {
+    /// The spots of no branch. It takes no memory.
+    pub(crate) fn empty(alloc: Global) -> IndexedSpots
+        ensures { length result.branches ≡ 0 }
+    {
+        IndexedSpots {
+            branches: Spots::empty(alloc),
+            index: LevelEnds::empty(alloc),
+        }
+    }
+
+    /// The spots of all branches of a network.
+    pub(crate) fn of(alloc: Global, structure: &Structure) -> Result<IndexedSpots, Memory>
+        ensures { IfOk result (IsSpotted structure.now) }
+    {
+        let branches = network_spots(alloc, structure)?;
+        let index = LevelEnds::of(alloc, structure.level_count(), branches.slice())?;
+        Ok(IndexedSpots { branches, index })
+    }
+}
 
 /// The numbers of the buses in which the ends of a branch stand: none for an end that stands in none, or for a third
 /// end that there is not.
@@ -126,9 +155,9 @@ fn number_of_spot(firsts: &[u32], kept: &[KeptLevel], spot: Option<Spot>) -> Opt
     }
 }
 
-// The numbers of the buses at a branch's spots.
+/// The numbers of the buses at a branch's spots.
 #[tactic(auto, unfolding(crate::specs::Spots::buses_of_spots))]
-fn buses_at(firsts: &[u32], kept: &[KeptLevel], branch: &BranchSpots) -> BranchBuses
+pub(crate) fn buses_at(firsts: &[u32], kept: &[KeptLevel], branch: &BranchSpots) -> BranchBuses
     requires { NumbersFit firsts.now kept.now }
     ensures { result ≡ spots.buses_of_spots firsts.now kept.now branch.now }
 {
@@ -156,45 +185,4 @@ pub(crate) fn spot_buses(
         ends.push(buses_at(firsts, kept, branch))?;
     }
     Ok(ends)
-}
-
-// Whether a spot is in a level.
-#[tactic(auto, unfolding(crate::specs::Spots::is_in))]
-fn is_in(spot: Option<Spot>, level: u32) -> bool
-    ensures { result ≡ spots.is_in level spot }
-{
-    match spot {
-        Some(spot) => spot.level == level,
-        None => false,
-    }
-}
-
-// Whether an end of a branch stands in a level.
-#[tactic(auto, unfolding(crate::specs::Spots::touches))]
-fn touches(branch: &BranchSpots, level: u32) -> bool
-    ensures { result ≡ spots.touches level branch.now }
-{
-    is_in(branch.first, level) || is_in(branch.second, level) || is_in(branch.third, level)
-}
-
-/// Writes the numbers of the buses at the spots of the branches that stand in a level anew, where what is kept of that
-/// level alone is another than when they were found.
-pub(crate) fn follow_level(
-    ends: &mut Ends,
-    firsts: &[u32],
-    kept: &[KeptLevel],
-    branches: &[BranchSpots],
-    level: u32,
-)
-    requires fit { NumbersFit firsts.now kept.now }
-    requires long { length ends.old ≡ length branches.now }
-    ensures { (before : List KeptLevel) → SameElsewhere level before kept.now
-        → ends.old ≡ map (spots.buses_of_spots firsts.now before) branches.now
-        → ends.new ≡ map (spots.buses_of_spots firsts.now kept.now) branches.now }
-{
-    for (place, branch) in branches.iter().enumerate() {
-        if touches(branch, level) {
-            ends.set(place, buses_at(firsts, kept, branch));
-        }
-    }
 }

@@ -1,10 +1,12 @@
-use Rattle.std.proofs.Common.{◌≡◌, refl, sym, ap, ◌∙◌, subst, ℕ, List, ◌++◌, length, append_assoc}
+use Rattle.std.proofs.Common.{◌≡◌, refl, sym, ap, ◌∙◌, subst, ℕ, List, ◌++◌, length, append_assoc, Option, Some}
+use Rattle.std.proofs.lemmas.List.{append-nil}
+use Rattle.std.specs.Prelude.{None}
 use Rattle.grid_graph.specs.Graph.{graph, EndsBelow}
 use Rattle.grid_queue.specs.Parents.{AreLabelsOf}
 use Rattle.grid_islands.specs.declared.spots.BranchBuses.{BranchBuses}
 use Rattle.grid_islands.specs.Islands.{pair_between}
 use Rattle.grid_islands.specs.Spots.{pairs_of_buses, with_pairs}
-use Rattle.grid_islands.proofs.BranchPairs.{three_among}
+use Rattle.grid_islands.proofs.BranchPairs.{three_among, none_between}
 use Rattle.grid_islands.proofs.PairEnds.{ends_front, ends_back}
 use Rattle.grid_islands.proofs.joins.join_branch.Goals as goal
 
@@ -31,23 +33,43 @@ module _ (b : BranchBuses) (count now : ℕ) (all : EndsBelow (pairs_of_buses b)
 pub join_between-requires : goal.join_between-requires
 join_between-requires c = first_below c.args.branch.now (length c.args.joiner.now) (length c.args.joiner.now) c.requires refl
 
-pub join_between-requires-2 : goal.join_between-requires-2
-join_between-requires-2 c = second_below c.args.branch.now (length c.args.joiner.now) (length c.join_between.new.joiner) c.requires c.join_between.ensures.long
+-- with the third end as it was read
+at_third : (o : Option ℕ) (third count : ℕ) (first : Option ℕ) → o ≡ Some third → EndsBelow (pair_between first o) count → EndsBelow (pair_between first (Some third)) count
+at_third o third count first e below = let P : Option ℕ → Type 0 = λ z. EndsBelow (pair_between first z) count in subst P e below
 
-pub join_between-requires-3 : goal.join_between-requires-3
-join_between-requires-3 c =
-    third_below c.args.branch.now (length c.args.joiner.now) (length c.join_between-2.new.joiner) c.requires (c.join_between-2.ensures.long ∙ c.join_between.ensures.long)
-
-pub returns-clause-labels : goal.returns-clause-labels
-returns-clause-labels c net is =
+pub join_between-requires-in-Some : goal.join_between-requires-in-Some
+join_between-requires-in-Some c =
     let b = c.args.branch.now in
-    let first = pair_between b.first b.second in
-    let second = pair_between b.first b.third in
-    let third = pair_between b.second b.third in
-    let once = with_pairs net first in
-    let twice = with_pairs once second in
-    let made = c.join_between-3.ensures.labels twice (c.join_between-2.ensures.labels once (c.join_between.ensures.labels net is)) in
-    let same : ((net.pairs ++ first) ++ second) ++ third ≡ net.pairs ++ pairs_of_buses b =
-    append_assoc (net.pairs ++ first) second third ∙ append_assoc net.pairs first (second ++ third) ∙ ap (λ z. net.pairs ++ z) (sym (three b)) in
-    let P : List (ℕ × ℕ) → Type 0 = λ ps. AreLabelsOf (graph net.nodes ps) c.join_between-3.new.joiner in
+    let n = length c.join_between.new.joiner in
+    at_third b.third c.in-Some.third n b.first c.in-Some.is (second_below b (length c.args.joiner.now) n c.requires c.join_between.ensures.long)
+
+pub join_between-requires-in-Some-2 : goal.join_between-requires-in-Some-2
+join_between-requires-in-Some-2 c =
+    let b = c.args.branch.now in
+    let n = length c.join_between-in-Some.new.joiner in
+    at_third b.third c.in-Some.third n b.second c.in-Some.is (third_below b (length c.args.joiner.now) n c.requires (c.join_between-in-Some.ensures.long ∙ c.join_between.ensures.long))
+
+-- a third end that there is not is in no pair
+no_third : (b : BranchBuses) → b.third ≡ None → pairs_of_buses b ≡ pair_between b.first b.second
+no_third b e = three b ∙ rw (e, none_between b.first, none_between b.second) (append-nil (pair_between b.first b.second))
+
+pub returns-in-Some-clause-labels : goal.returns-in-Some-clause-labels
+returns-in-Some-clause-labels c net is =
+    let b = c.args.branch.now in
+    let third = c.in-Some.third in
+    let one = pair_between b.first b.second in
+    let two = pair_between b.first (Some third) in
+    let three_more = pair_between b.second (Some third) in
+    let once = with_pairs net one in
+    let twice = with_pairs once two in
+    let made = c.join_between-in-Some-2.ensures.labels twice (c.join_between-in-Some.ensures.labels once (c.join_between.ensures.labels net is)) in
+    let parts : pairs_of_buses b ≡ one ++ (two ++ three_more) = three b ∙ ap (λ z. one ++ (pair_between b.first z ++ pair_between b.second z)) c.in-Some.is in
+    let same : ((net.pairs ++ one) ++ two) ++ three_more ≡ net.pairs ++ pairs_of_buses b =
+    append_assoc (net.pairs ++ one) two three_more ∙ append_assoc net.pairs one (two ++ three_more) ∙ ap (λ z. net.pairs ++ z) (sym parts) in
+    let P : List (ℕ × ℕ) → Type 0 = λ ps. AreLabelsOf (graph net.nodes ps) c.join_between-in-Some-2.new.joiner in
     subst P same made
+
+pub returns-in-None-clause-labels : goal.returns-in-None-clause-labels
+returns-in-None-clause-labels c net is =
+    let P : List (ℕ × ℕ) → Type 0 = λ ps. AreLabelsOf (graph net.nodes ps) c.join_between.new.joiner in
+    subst P (ap (λ z. net.pairs ++ z) (sym (no_third c.args.branch.now c.in-None.is))) (c.join_between.ensures.labels net is)

@@ -61,3 +61,9 @@ follow_numbers-requires-clause-numbers c =
       others = c.in_ok-keep.ensures.others;
       as_many = λ one other at_one at_other. omega (arith, c.bus_count-count.ensures one at_one, c.bus_count.ensures other at_other, c.if-bus_count-count.false);
     }
+
+pub follow_numbers-requires-clause-spots : goal.follow_numbers-requires-clause-spots
+follow_numbers-requires-clause-spots c = rw c.in_ok-keep.ensures.spots c.in_ok-find_spots.ensures.found
+
+pub follow_numbers-requires-clause-inside : goal.follow_numbers-requires-clause-inside
+follow_numbers-requires-clause-inside c = omega (arith, c.if-place-level_count.false, c.level_count.ensures)
