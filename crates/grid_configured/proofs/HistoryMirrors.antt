@@ -1,6 +1,7 @@
 -- The machines of the two forms side by side: of one request, of a lineage, and of a history.
 use Rattle.std.proofs.Common.{◌≡◌, refl, sym, ap, ◌∙◌, subst, ℕ, ℤ, Bool, true, false, cond, not, ◌&&◌, ◌||◌, List, [], ◌∷◌, length, inl, inr}
 use Rattle.std.specs.Prelude.{nat_le, All, IsTrue}
+use Rattle.std.specs.List.{list_all}
 use Rattle.std.proofs.lemmas.Bool.{cases_Bool, false≢true, true≢false, and_parts, not-true}
 use Rattle.std.proofs.lemmas.List.Elements.{All-head, All-tail, All-cons, All-nil}
 use Rattle.grid_ids.specs.Name.{same_id, has_id}
@@ -31,9 +32,9 @@ use Rattle.grid_configured.proofs.Mirrors.{NetworkFits, Mirrors, opening_mirrors
 use Rattle.grid_configured.proofs.TerminalMirrors.{plug_mirrors}
 use Rattle.grid_configured.proofs.Buses.{bus_stays}
 
-plain_unmarked : (id : List ℕ) → IsTrue (is_plain id) → is_marked id ≡ false
+plain_unmarked : (id : List ℕ) → IsTrue (list_all is_plain (id ∷ [])) → is_marked id ≡ false
 unfolding is_plain
-plain_unmarked id h = not-true (is_marked id) (and_parts (not (is_marked id)) _ h).0
+plain_unmarked id h = not-true (is_marked id) (and_parts (not (is_marked id)) _ (and_parts (is_plain id) _ h).0).0
 
 -- ---- one request
 

@@ -1,5 +1,5 @@
 -- What was read: plain ids, known commands, and a network that is right.
-use Rattle.std.proofs.Common.{◌≡◌, refl, sym, ap, ◌∙◌, ℕ, ℤ, pos, suc, Bool, true, false, cond, List, [], ◌∷◌, length, map, subst, inl, inr, Option, Some, None, Result, Ok, Err}
+use Rattle.std.proofs.Common.{◌≡◌, refl, sym, ap, ◌∙◌, ℕ, ℤ, pos, suc, Bool, true, false, cond, ◌&&◌, List, [], ◌∷◌, length, map, subst, inl, inr, Option, Some, None, Result, Ok, Err}
 use Rattle.std.specs.Prelude.{All, codes, decimal, nat_lt, if◌then◌else◌, slice_index_or}
 use Rattle.std.specs.List.{list_all}
 use Rattle.std.proofs.lemmas.List.Sums.{AllPass-from_list_all}
@@ -183,20 +183,20 @@ translatable d n is right = (member_keeps network_at network_plain network_read 
 
 -- ---- commands
 
-named_read : (name : List ℕ) (made : List ℕ → Request) → ((id : List ℕ) → request_plain (made id) ≡ is_plain id) → (d : Data) (r : Request) → named_at name made d ≡ Ok r → request_plain r ≡ true
+named_read : (name : List ℕ) (made : List ℕ → Request) → ((id : List ℕ) → request_plain (made id) ≡ list_all is_plain (id ∷ [])) → (d : Data) (r : Request) → named_at name made d ≡ Ok r → request_plain r ≡ true
 unfolding named_at
 named_read name made plain d r is =
     let id = bound (member_at plain_at name d) _ r is in
     let same : made id.0 ≡ r = cc in
-    ap request_plain (sym same) ∙ plain id.0 ∙ plain_member name d id.0 id.1
+    ap request_plain (sym same) ∙ plain id.0 ∙ ap (λ t. t && true) (plain_member name d id.0 id.1)
 
-sided_read : (made : List ℕ → ℤ → Request) → ((id : List ℕ) (side : ℤ) → request_plain (made id side) ≡ is_plain id) → (d : Data) (r : Request) → sided_at made d ≡ Ok r → request_plain r ≡ true
+sided_read : (made : List ℕ → ℤ → Request) → ((id : List ℕ) (side : ℤ) → request_plain (made id side) ≡ list_all is_plain (id ∷ [])) → (d : Data) (r : Request) → sided_at made d ≡ Ok r → request_plain r ≡ true
 unfolding sided_at
 sided_read made plain d r is =
     let id = bound (member_at plain_at (codes "equipment") d) _ r is in
     let side = bound (member_or (pos 1) whole_at (codes "side") d) _ r id.2 in
     let same : made id.0 side.0 ≡ r = cc in
-    ap request_plain (sym same) ∙ plain id.0 side.0 ∙ plain_member (codes "equipment") d id.0 id.1
+    ap request_plain (sym same) ∙ plain id.0 side.0 ∙ ap (λ t. t && true) (plain_member (codes "equipment") d id.0 id.1)
 
 clone_read : (d : Data) (r : Request) → clone_at d ≡ Ok r → request_plain r ≡ true
 unfolding clone_at request_plain

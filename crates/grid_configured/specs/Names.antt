@@ -1,8 +1,9 @@
 -- Plain ids: those that a job with configured buses may have. Ids of other forms are kept for what its translation adds.
-use Rattle.std.specs.Prelude.{ℕ, Bool, false, ◌&&◌, ◌==◌, not, nat_le, List, length, IsTrue}
+use Rattle.std.specs.Prelude.{ℕ, Bool, true, false, ◌&&◌, ◌==◌, not, nat_le, List, length, IsTrue}
 use Rattle.std.specs.List.{list_any, list_all}
 use Rattle.grid_requests.specs.declared.request.Request.{Request}
 use Rattle.grid_requests.specs.declared.request.Request.TheVariants as requests
+use Rattle.grid_requests.specs.RequestParts.{request_ids}
 use Rattle.grid_json.specs.declared.buses.BusSwitch.{BusSwitch}
 use Rattle.grid_json.specs.declared.buses.BusInjection.{BusInjection}
 use Rattle.grid_json.specs.declared.buses.BusEnd.{BusEnd}
@@ -41,17 +42,21 @@ network_plain n = is_plain n.id && list_all level_plain n.levels && list_all lin
 
 -- ---- the ids of commands
 
--- one of the eight commands of a network with configured buses, and its ids are plain
+-- one of the eight commands of a network with configured buses
+abbrev pub is_configured : Request → Bool
+is_configured (requests.UseVariant name) = true
+is_configured (requests.OpenSwitch id) = true
+is_configured (requests.CloseSwitch id) = true
+is_configured (requests.Connect id side) = true
+is_configured (requests.Disconnect id side) = true
+is_configured (requests.BusView level) = true
+is_configured (requests.CloneVariant from to overwrite) = true
+is_configured (requests.RemoveVariant name) = true
+is_configured other = false
+
+-- and its ids are plain
 unfoldable pub request_plain : Request → Bool
-request_plain (requests.UseVariant name) = is_plain name
-request_plain (requests.OpenSwitch id) = is_plain id
-request_plain (requests.CloseSwitch id) = is_plain id
-request_plain (requests.Connect id side) = is_plain id
-request_plain (requests.Disconnect id side) = is_plain id
-request_plain (requests.BusView level) = is_plain level
-request_plain (requests.CloneVariant from to overwrite) = is_plain from && is_plain to
-request_plain (requests.RemoveVariant name) = is_plain name
-request_plain other = false
+request_plain request = is_configured request && list_all is_plain (request_ids request)
 
 abbrev pub IsConfiguredRequest : Request → Type 0
 IsConfiguredRequest request = IsTrue (request_plain request)

@@ -1,5 +1,5 @@
 -- Commands: the verb is read first, and it says which members there are.
-use Rattle.std.specs.Prelude.{ℕ, ℤ, pos, List, [], ◌∷◌, ◌++◌, map, false, Result, Ok, Err, codes, ⊤}
+use Rattle.std.specs.Prelude.{ℕ, ℤ, pos, List, [], ◌∷◌, ◌++◌, map, false, nat_le, if◌then◌else◌, Result, Ok, Err, codes, ⊤}
 use Rattle.serde_json.specs.Data.{Data}
 use Rattle.grid_structure.specs.declared.End.{End}
 use Rattle.grid_structure.specs.declared.Branch.{Branch}
@@ -11,7 +11,6 @@ use Rattle.grid_requests.specs.declared.request.Request.TheVariants as requests
 use Rattle.grid_json.specs.declared.fault.Fault.{Fault}
 use Rattle.grid_json.specs.declared.fault.Reason.TheVariants.{Unknown}
 use Rattle.grid_json.specs.declared.format.Format.{Format}
-use Rattle.grid_json.specs.declared.format.Format.TheVariants as formats
 use Rattle.grid_json.specs.declared.kinds.BranchKind.{BranchKind}
 use Rattle.grid_json.specs.declared.kinds.BranchKind.TheVariants as branches
 use Rattle.grid_json.specs.declared.ends.Two.{Two}
@@ -21,6 +20,7 @@ use Rattle.grid_json.specs.declared.command.EditVerb.TheVariants as edit_verbs
 use Rattle.grid_json.specs.declared.command.Verb.{Verb}
 use Rattle.grid_json.specs.declared.command.Verb.TheVariants as verbs
 use Rattle.grid_json.specs.Reading.{◌>>=◌, here, whole_at, flag_at, id_at, member_at, member_or, optional_at, only_at, object_at, word_at}
+use Rattle.grid_json.specs.Formats.{number_of}
 use Rattle.grid_json.specs.Kinds.{switch_kind_at, injection_kind_at, branch_kind_at}
 use Rattle.grid_json.specs.Network.{two_at, three_at, end_at, item_names, item_at}
 
@@ -44,17 +44,48 @@ edit_words =
 abbrev pub verb_words : List (List ℕ × Verb)
 verb_words = plain_words ++ map (λ w. (w.0, verbs.Change w.1)) edit_words
 
--- the word `retain` came with the second format, `set_power` and `totals` with the third
+-- the number of the format that the word of a verb came with
+abbrev pub verb_format : Verb → ℕ
+verb_format verbs.Retain = 2
+verb_format verbs.SetPower = 3
+verb_format verbs.Totals = 3
+verb_format other = 1
+
 abbrev pub known_verb : Format → Verb → Result Verb Fault
-known_verb formats.One verbs.Retain = Err (here Unknown)
-known_verb formats.One verbs.SetPower = Err (here Unknown)
-known_verb formats.One verbs.Totals = Err (here Unknown)
-known_verb formats.Two verbs.SetPower = Err (here Unknown)
-known_verb formats.Two verbs.Totals = Err (here Unknown)
-known_verb format verb = Ok verb
+known_verb format verb = if nat_le (verb_format verb) (number_of format) then Ok verb else Err (here Unknown)
 
 abbrev pub verb_at : Format → Data → Result Verb Fault
 verb_at format d = word_at verb_words d >>= known_verb format
+
+-- ---- the verbs of requests
+
+abbrev pub edit_verb_of : Edit → EditVerb
+edit_verb_of (edits.AddSubstation id) = edit_verbs.AddSubstation
+edit_verb_of (edits.AddLevel id substation nominal_v low_v high_v) = edit_verbs.AddLevel
+edit_verb_of (edits.AddBusbar id level node) = edit_verbs.AddBusbar
+edit_verb_of (edits.AddSwitch id level kind node1 node2 opened retained fictitious) = edit_verbs.AddSwitch
+edit_verb_of (edits.RemoveSwitch id) = edit_verbs.RemoveSwitch
+edit_verb_of (edits.AddInternal level node1 node2) = edit_verbs.AddInternal
+edit_verb_of (edits.RemoveInternal level node1 node2) = edit_verbs.RemoveInternal
+edit_verb_of (edits.AddInjection id level node item) = edit_verbs.AddInjection
+edit_verb_of (edits.AddBranch id shape) = edit_verbs.AddBranch
+edit_verb_of (edits.RemoveEquipment id) = edit_verbs.RemoveEquipment
+
+abbrev pub verb_of : Request → Verb
+verb_of (requests.UseVariant name) = verbs.Use
+verb_of (requests.OpenSwitch id) = verbs.Open
+verb_of (requests.CloseSwitch id) = verbs.Close
+verb_of (requests.RetainSwitch id retained) = verbs.Retain
+verb_of (requests.SetPower id watts) = verbs.SetPower
+verb_of requests.Totals = verbs.Totals
+verb_of (requests.Connect id side) = verbs.Connect
+verb_of (requests.Disconnect id side) = verbs.Disconnect
+verb_of (requests.BusBreakerView level) = verbs.BusBreakerView
+verb_of (requests.BusView level) = verbs.BusView
+verb_of (requests.Components level) = verbs.Components
+verb_of (requests.CloneVariant from to overwrite) = verbs.Clone
+verb_of (requests.RemoveVariant name) = verbs.Remove
+verb_of (requests.Change edit) = verbs.Change (edit_verb_of edit)
 
 -- ---- the members of a command
 

@@ -1,4 +1,5 @@
 pub mod Seen
+pub mod Formats
 pub mod Reading
 pub mod Kinds
 pub mod Network

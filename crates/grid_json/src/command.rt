@@ -1,8 +1,9 @@
 // The commands of a script.
-ghost use Rattle.std.specs.Prelude.{◌≡◌, codes};
+ghost use Rattle.std.specs.Prelude.{◌≡◌, codes, map};
 ghost use Rattle.grid_value.specs.View.{view};
 ghost use Rattle.grid_json.specs.Reading.{Gives, texts, or_fault, word_among, word_at};
-ghost use Rattle.grid_json.specs.Command.{known_verb, command_names, plain_names, branch_names, add_level_at, add_busbar_at, add_switch_at, add_internal_at, remove_internal_at, add_injection_at, shape_at, add_branch_at, clone_at, retain_at, set_power_at, edit_at, request_at, plain_words, edit_words, verb_words, line_of, two_windings_of, three_windings_of, named_at, sided_at};
+ghost use Rattle.grid_json.specs.Words.{AreWords};
+ghost use Rattle.grid_json.specs.Command.{known_verb, verb_at, command_names, plain_names, branch_names, add_level_at, add_busbar_at, add_switch_at, add_internal_at, remove_internal_at, add_injection_at, shape_at, add_branch_at, clone_at, retain_at, set_power_at, edit_at, request_at, plain_words, edit_words, verb_words, line_of, two_windings_of, three_windings_of, named_at, sided_at};
 
 use crate::ends::{Three, Two};
 use crate::format::Format;
@@ -48,6 +49,67 @@ pub enum Verb {
     Components,
     Clone,
     Change(EditVerb),
+}
+
+impl EditVerb {
+    ghost use Rattle.std.specs.Prelude.{◌≡◌};
+    ghost use Rattle.grid_json.specs.Command.{edit_verb_of};
+
+    /// What an edit is asked for by.
+    fn of(edit: &Edit) -> EditVerb
+        ensures { result ≡ edit_verb_of edit.now }
+    {
+        match edit {
+            Edit::AddSubstation { .. } => EditVerb::AddSubstation,
+            Edit::AddLevel { .. } => EditVerb::AddLevel,
+            Edit::AddBusbar { .. } => EditVerb::AddBusbar,
+            Edit::AddSwitch { .. } => EditVerb::AddSwitch,
+            Edit::RemoveSwitch { .. } => EditVerb::RemoveSwitch,
+            Edit::AddInternal { .. } => EditVerb::AddInternal,
+            Edit::RemoveInternal { .. } => EditVerb::RemoveInternal,
+            Edit::AddInjection { .. } => EditVerb::AddInjection,
+            Edit::AddBranch { .. } => EditVerb::AddBranch,
+            Edit::RemoveEquipment { .. } => EditVerb::RemoveEquipment,
+        }
+    }
+}
+
+impl Verb {
+    ghost use Rattle.std.specs.Prelude.{◌≡◌};
+    ghost use Rattle.grid_json.specs.Command as command;
+
+    /// What a request is asked for by.
+    pub fn of(request: &Request) -> Verb
+        ensures { result ≡ command.verb_of request.now }
+    {
+        match request {
+            Request::UseVariant { .. } => Verb::Use,
+            Request::OpenSwitch { .. } => Verb::Open,
+            Request::CloseSwitch { .. } => Verb::Close,
+            Request::RetainSwitch { .. } => Verb::Retain,
+            Request::SetPower { .. } => Verb::SetPower,
+            Request::Totals => Verb::Totals,
+            Request::Connect { .. } => Verb::Connect,
+            Request::Disconnect { .. } => Verb::Disconnect,
+            Request::BusBreakerView { .. } => Verb::BusBreakerView,
+            Request::BusView { .. } => Verb::BusView,
+            Request::Components { .. } => Verb::Components,
+            Request::CloneVariant { .. } => Verb::Clone,
+            Request::RemoveVariant { .. } => Verb::Remove,
+            Request::Change { edit } => Verb::Change(EditVerb::of(edit)),
+        }
+    }
+
+    /// The number of the format that its word came with.
+    pub fn since(self) -> u32
+        ensures { result ≡ command.verb_format self }
+    {
+        match self {
+            Verb::Retain => 2,
+            Verb::SetPower | Verb::Totals => 3,
+            _ => 1,
+        }
+    }
 }
 
 /// The verb of a word that asks for no edit.
@@ -101,6 +163,37 @@ pub fn verb_named(word: &str) -> Option<Verb>
     Some(Verb::Change(edit_verb(word)?))
 }
 
+/// The words of `do`, each with the number of the format that it came with, in the order in which they are told.
+pub fn command_words() -> &'static [(&'static str, i64)]
+    ensures { AreWords verb_at (map (λ w. w.0) verb_words) result.now }
+{
+    &[
+        ("add_branch", 1),
+        ("add_busbar", 1),
+        ("add_injection", 1),
+        ("add_internal", 1),
+        ("add_level", 1),
+        ("add_substation", 1),
+        ("add_switch", 1),
+        ("bus_breaker_view", 1),
+        ("bus_view", 1),
+        ("clone", 1),
+        ("close", 1),
+        ("components", 1),
+        ("connect", 1),
+        ("disconnect", 1),
+        ("open", 1),
+        ("remove", 1),
+        ("remove_equipment", 1),
+        ("remove_internal", 1),
+        ("remove_switch", 1),
+        ("use", 1),
+        ("retain", 2),
+        ("set_power", 3),
+        ("totals", 3),
+    ]
+}
+
 /// The verb of a value.
 fn verb_of(alloc: Global, value: &Value) -> Result<Verb, ReadError>
     ensures { Gives result (word_at verb_words (view value.now)) }
@@ -118,12 +211,10 @@ fn verb_of(alloc: Global, value: &Value) -> Result<Verb, ReadError>
 fn known(alloc: Global, format: Format, verb: Verb) -> Result<Verb, ReadError>
     ensures { Gives result (known_verb format verb) }
 {
-    match (format, verb) {
-        (Format::One, Verb::Retain | Verb::SetPower | Verb::Totals)
-        | (Format::Two, Verb::SetPower | Verb::Totals) => {
-            Err(ReadError::here(alloc, Reason::Unknown))
-        }
-        (_, verb) => Ok(verb),
+    if verb.since() <= format.number() {
+        Ok(verb)
+    } else {
+        Err(ReadError::here(alloc, Reason::Unknown))
     }
 }
 

@@ -3,14 +3,14 @@ use crate::{FromJson, ReadError, Reason};
 use grid_value::Value;
 use std::alloc::Global;
 
-/// The format of a job. Each has the words of the formats before it.
+/// The format of a job. Each has the words of the formats before it; `Verb::since` tells which commands came with it.
 #[derive(Clone, Copy, Debug, PartialEq, Eq)]
 pub enum Format {
     /// The first.
     One,
-    /// Has also the command `retain`.
+    /// The second.
     Two,
-    /// Has also the commands `set_power` and `totals`.
+    /// The third.
     Three,
     /// Has also the injection kind `CONVERTER_STATION`.
     Four,
@@ -20,7 +20,21 @@ pub enum Format {
 
 impl Format {
     ghost use Rattle.std.specs.Prelude.{◌≡◌};
+    ghost use Rattle.grid_json.specs.Formats as formats;
     ghost use Rattle.grid_json.specs.Network as network;
+
+    /// The number by which a job names it.
+    pub fn number(self) -> u32
+        ensures { result ≡ formats.number_of self }
+    {
+        match self {
+            Format::One => 1,
+            Format::Two => 2,
+            Format::Three => 3,
+            Format::Four => 4,
+            Format::Five => 5,
+        }
+    }
 
     /// Whether it has levels with configured buses.
     pub fn has_buses(self) -> bool

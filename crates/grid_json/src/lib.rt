@@ -33,7 +33,8 @@ pub use buses::{
     BusInjection, BusSwitch, names_of_bus_injection,
 };
 pub use command::{
-    ADDED_INJECTION_MEMBERS, EditVerb, Verb, names_of_branch, names_of_command, verb_named,
+    ADDED_INJECTION_MEMBERS, EditVerb, Verb, command_words, names_of_branch, names_of_command,
+    verb_named,
 };
 pub use ends::{END_MEMBERS, Two};
 pub use fault::{Fault, ReadError, Reason};
@@ -54,6 +55,5 @@ pub use read::{FromJson, member, member_otherwise, object, only, only_of_kind, o
 pub use seen::SeenIds;
 pub use whole::{Job, JobFault, job_member, read_job, read_value};
 pub use words::{
-    branch_words, command_words, event_words, injection_words, switch_words, topology_words,
-    transformer_words,
+    branch_words, event_words, injection_words, switch_words, topology_words, transformer_words,
 };

@@ -1,40 +1,8 @@
 // The words that a job may use, for those who tell what may stand in it: each with the number of the format that it
-// came with, in the order in which they are told.
+// came with, in the order in which they are told. The words of commands stand with their verbs.
 ghost use Rattle.std.specs.Prelude.{map};
-ghost use Rattle.grid_json.specs.Command.{verb_at, verb_words};
 ghost use Rattle.grid_json.specs.Kinds as kinds;
 ghost use Rattle.grid_json.specs.Words.{AreWords, told_topology_at};
-
-/// The words of `do`.
-pub fn command_words() -> &'static [(&'static str, i64)]
-    ensures { AreWords verb_at (map (λ w. w.0) verb_words) result.now }
-{
-    &[
-        ("add_branch", 1),
-        ("add_busbar", 1),
-        ("add_injection", 1),
-        ("add_internal", 1),
-        ("add_level", 1),
-        ("add_substation", 1),
-        ("add_switch", 1),
-        ("bus_breaker_view", 1),
-        ("bus_view", 1),
-        ("clone", 1),
-        ("close", 1),
-        ("components", 1),
-        ("connect", 1),
-        ("disconnect", 1),
-        ("open", 1),
-        ("remove", 1),
-        ("remove_equipment", 1),
-        ("remove_internal", 1),
-        ("remove_switch", 1),
-        ("use", 1),
-        ("retain", 2),
-        ("set_power", 3),
-        ("totals", 3),
-    ]
-}
 
 /// The kinds of switches.
 pub fn switch_words() -> &'static [(&'static str, i64)]

@@ -19,13 +19,14 @@ use Rattle.grid_level.specs.declared.Internal.{Internal}
 use Rattle.grid_structure.specs.declared.End.{End}
 use Rattle.grid_json.specs.declared.format.Format.{Format}
 use Rattle.grid_json.specs.Reading.{items_at, whole_at}
+use Rattle.grid_json.specs.Formats.{number_of}
 use Rattle.grid_json.specs.Network.{busbar_at, switch_at, internal_at, injection_at, item_at, has_buses, level_members_at, level_at, level_by, either_level_at, any_level_at, end_at, either_end_at, end_draft_at, two_of, both, three_of, all_three, windings_at, transformer_at, line_at, substation_at, network_at}
 use Rattle.grid_print.specs.Objects.{members_from, whole}
 use Rattle.grid_print.specs.Network.{switch_value, internal_value, end_value, busbar_of, injection_of, busbars_value, injections_value, level_value, branch_value, named_branch_value, substation_value, network_value}
 use Rattle.grid_print.specs.Readable.{IsId, IsWhole, IsReadableSwitch, IsReadableInternal, IsReadableBusbar, IsReadableInjection, IsReadableLevel, IsReadableEnd, IsReadableShape, IsReadableBranch, IsTransformer, IsLine, IsReadableSubstation}
 use Rattle.grid_print.specs.Laws.{BusbarsAreRead, switch_draft, internal_draft, InjectionsAreRead, EndsAreRead, EndDraftsAreRead, busbar_draft_of, injection_draft_of, level_draft, LevelsAreRead, transformer_draft_of, line_draft_of, substation_draft, draft_alone, NetworksAreRead, NetworkJobsAreRead}
 use Rattle.grid_print.proofs.Each.{each_of}
-use Rattle.grid_print.specs.Formats.{number_of, item_format, stand_format, level_needs, network_needs, least_format}
+use Rattle.grid_print.specs.Formats.{item_format, stand_format, level_needs, network_needs, least_format}
 use Rattle.grid_print.specs.Job.{job_value}
 use Rattle.grid_structure.specs.Sites.{levels}
 use Rattle.grid_structure.proofs.Found.{any-flat_map}

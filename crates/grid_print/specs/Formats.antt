@@ -13,14 +13,9 @@ use Rattle.grid_structure.specs.Sites.{levels}
 use Rattle.grid_requests.specs.declared.request.Request.{Request}
 use Rattle.grid_requests.specs.declared.request.Request.TheVariants as requests
 use Rattle.grid_json.specs.declared.format.Format.{Format}
-use Rattle.grid_json.specs.declared.format.Format.TheVariants.{One, Two, Three, Four, Five}
-
-abbrev pub number_of : Format → ℕ
-number_of One = 1
-number_of Two = 2
-number_of Three = 3
-number_of Four = 4
-number_of Five = 5
+use Rattle.grid_json.specs.declared.command.Verb.TheVariants.{Change}
+use Rattle.grid_json.specs.Formats.{number_of}
+use Rattle.grid_json.specs.Command.{verb_format, edit_verb_of, verb_of}
 
 -- the format that a kind of injections came with
 unfoldable pub item_format : Injection → ℕ
@@ -43,17 +38,14 @@ level_needs format level = list_any (λ p. nat_le format (stand_format p.stand))
 unfoldable pub network_needs : ℕ → Network → Bool
 network_needs format net = list_any (level_needs format) (levels net)
 
+-- the format that a command's words came with: its verb, and the kind of an injection that it adds
 unfoldable pub edit_format : Edit → ℕ
 edit_format (edits.AddInjection id level node item) = item_format item
-edit_format other = 1
+edit_format other = verb_format (Change (edit_verb_of other))
 
--- the format that a command's words came with
 unfoldable pub first_format : Request → ℕ
-first_format (requests.RetainSwitch id retained) = 2
-first_format (requests.SetPower id watts) = 3
-first_format requests.Totals = 3
 first_format (requests.Change edit) = edit_format edit
-first_format other = 1
+first_format other = verb_format (verb_of other)
 
 -- some word of the script came with this format or a later one
 unfoldable pub needs : ℕ → List Request → Bool

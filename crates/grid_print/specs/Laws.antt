@@ -28,11 +28,12 @@ use Rattle.grid_json.specs.declared.network.SwitchDraft.{SwitchDraft}
 use Rattle.grid_json.specs.declared.network.InternalDraft.{InternalDraft}
 use Rattle.grid_json.specs.declared.job.JobDraft.{JobDraft}
 use Rattle.grid_json.specs.Reading.{array_at}
+use Rattle.grid_json.specs.Formats.{number_of}
 use Rattle.grid_json.specs.Network.{busbar_at, switch_at, internal_at, injection_at, any_level_at, end_at, end_draft_at, network_at}
 use Rattle.grid_json.specs.Job.{draft_at}
 use Rattle.grid_print.specs.Objects.{array_of}
 use Rattle.grid_print.specs.Network.{busbar_value, switch_value, internal_value, injection_value, level_value, end_value, network_value}
-use Rattle.grid_print.specs.Formats.{number_of, item_format, HasWordsOf, IsWrittenIn}
+use Rattle.grid_print.specs.Formats.{item_format, HasWordsOf, IsWrittenIn}
 use Rattle.grid_print.specs.Job.{job_value}
 use Rattle.grid_print.specs.Readable.{IsId, AreWhole, IsReadableSwitch, IsReadableInternal, IsReadableLevel, IsReadableEnd, IsReadable}
 

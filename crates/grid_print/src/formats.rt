@@ -4,6 +4,7 @@ ghost use Rattle.std.specs.List.{list_any};
 ghost use Rattle.grid_print.specs.Formats as formats;
 ghost use Rattle.grid_print.specs.Formats.{least_format, needs};
 
+use grid_json::Verb;
 use grid_kinds::Injection;
 use grid_level::{Level, Placed, Stand};
 use grid_requests::{Request, Script};
@@ -58,7 +59,7 @@ fn network_needs(network: &Structure, format: u32) -> bool
     false
 }
 
-/// The format that the words of a command came with.
+/// The format that the words of a command came with: its verb, and the kind of an injection that it adds.
 #[tactic(auto, unfolding(crate::specs::Formats::first_format, crate::specs::Formats::edit_format))]
 fn first_format(request: &Request) -> u32
     ensures { result ≡ formats.first_format request.now }
@@ -67,9 +68,7 @@ fn first_format(request: &Request) -> u32
         Request::Change {
             edit: Edit::AddInjection { item, .. },
         } => item_format(item),
-        Request::SetPower { .. } | Request::Totals => 3,
-        Request::RetainSwitch { .. } => 2,
-        _ => 1,
+        other => Verb::of(other).since(),
     }
 }
 

@@ -7,6 +7,7 @@ use Rattle.grid_structure.specs.declared.Edit.{Edit}
 use Rattle.grid_structure.specs.declared.Edit.TheVariants as edits
 use Rattle.grid_requests.specs.declared.request.Request.{Request}
 use Rattle.grid_requests.specs.declared.request.Request.TheVariants as requests
+use Rattle.grid_requests.specs.RequestParts.{given_number, shape_ids, shape_numbers}
 use Rattle.grid_json.specs.declared.fault.Fault.{Fault}
 use Rattle.grid_json.specs.declared.format.Format.{Format}
 use Rattle.grid_json.specs.declared.kinds.BranchKind.{BranchKind}
@@ -20,7 +21,6 @@ use Rattle.grid_json.specs.Kinds.{switch_kind_at, injection_kind_at, branch_kind
 use Rattle.grid_json.specs.Network.{two_at, three_at, end_at, item_names, item_at}
 use Rattle.grid_json.specs.Command.{verb_at, add_level_at, add_busbar_at, add_switch_at, add_internal_at, remove_internal_at, add_injection_at, line_of, two_windings_of, three_windings_of, branch_names, shape_at, add_branch_at, changed, clone_at, retain_at, set_power_at, sided_at, named_at, edit_at, request_at, plain_names, command_at}
 use Rattle.grid_json.proofs.Results.{bound}
-use Rattle.grid_reading_back.specs.Requests.{given_number, shape_ids, shape_numbers}
 use Rattle.grid_reading_back.proofs.Networks.{EndKeeps, EditKeeps, RequestKeeps}
 use Rattle.grid_reading_back.proofs.Legible.{Reads, member_reads, either_reads, optional_reads}
 use Rattle.grid_reading_back.proofs.Options.{same_read}

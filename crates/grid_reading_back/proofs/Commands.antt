@@ -12,21 +12,23 @@ use Rattle.grid_structure.specs.declared.Edit.{Edit}
 use Rattle.grid_structure.specs.declared.Edit.TheVariants as edits
 use Rattle.grid_requests.specs.declared.request.Request.{Request}
 use Rattle.grid_requests.specs.declared.request.Request.TheVariants as requests
+use Rattle.grid_requests.specs.RequestParts.{shape_ids, edit_ids, request_ids, given_number, item_numbers, shape_numbers, edit_numbers, request_numbers}
 use Rattle.grid_json.specs.declared.format.Format.{Format}
 use Rattle.grid_json.specs.declared.format.Format.TheVariants.{One, Two, Three, Four, Five}
 use Rattle.grid_json.specs.declared.command.EditVerb.{EditVerb}
 use Rattle.grid_json.specs.declared.command.EditVerb.TheVariants as edit_verbs
 use Rattle.grid_json.specs.declared.command.Verb.{Verb}
 use Rattle.grid_json.specs.declared.command.Verb.TheVariants as verbs
+use Rattle.grid_json.specs.Formats.{number_of}
 use Rattle.grid_json.specs.Network.{item_at, two_of, both, three_of, all_three}
 use Rattle.grid_json.specs.Command.{known_verb, add_level_at, add_busbar_at, add_switch_at, add_internal_at, remove_internal_at, add_injection_at, shape_at, add_branch_at, clone_at, retain_at, set_power_at, sided_at, named_at, edit_at, request_at, command_at}
 use Rattle.grid_print.specs.Objects.{members_from}
 use Rattle.grid_print.specs.Command.{add_branch_value, edit_value, request_value}
 use Rattle.grid_print.specs.Readable.{IsId, IsWhole}
-use Rattle.grid_print.specs.Formats.{number_of, item_format, edit_format, first_format}
+use Rattle.grid_print.specs.Formats.{item_format, edit_format, first_format}
 use Rattle.grid_print.proofs.Each.{each_of}
 use Rattle.grid_print.proofs.RoundTrips.{ends_are_read}
-use Rattle.grid_reading_back.specs.Requests.{shape_ids, edit_ids, request_ids, given_number, item_numbers, shape_numbers, edit_numbers, request_numbers, IsReadableRequest, IsKnownIn}
+use Rattle.grid_reading_back.specs.Requests.{IsReadableRequest, IsKnownIn}
 use Rattle.grid_reading_back.proofs.Values.{whole_back, each_format}
 use Rattle.grid_reading_back.proofs.Formats.{known_in_fourth}
 

@@ -7,6 +7,7 @@ use Rattle.serde_json.specs.Find.{get}
 use Rattle.grid_kinds.specs.declared.Injection.{Injection}
 use Rattle.grid_kinds.specs.declared.Injection.TheVariants as items
 use Rattle.grid_structure.specs.declared.End.{End}
+use Rattle.grid_requests.specs.RequestParts.{item_numbers}
 use Rattle.grid_json.specs.declared.fault.Fault.{Fault}
 use Rattle.grid_json.specs.declared.format.Format.{Format}
 use Rattle.grid_json.specs.declared.ends.Two.{Two}
@@ -38,7 +39,6 @@ use Rattle.grid_json.specs.Kinds.{switch_kind_at, injection_kind_at, topology_at
 use Rattle.grid_json.specs.Network.{both, two_of, two_at, all_three, three_of, three_at, end_at, has_buses, bus_end_at, either_end_at, end_draft_at, busbar_at, switch_names, switch_at, internal_at, item_at, injection_names, injection_at, level_names, level_members_at, level_at}
 use Rattle.grid_json.specs.Network.{bus_switch_at, bus_injection_names, bus_injection_at, bus_level_names, bus_level_at, level_by, either_level_at, any_level_at, windings_at, transformer_at, line_at, substation_at, network_at}
 use Rattle.grid_json.proofs.Results.{bound, inside}
-use Rattle.grid_reading_back.specs.Requests.{item_numbers}
 use Rattle.grid_reading_back.proofs.Networks.{EndKeeps}
 use Rattle.grid_reading_back.proofs.Options.{same_read}
 use Rattle.grid_reading_back.proofs.Legible.{IsLegible, ItemsAreLegible, Reads, member_reads, either_reads, array_reads, items_of_array, optional_reads}

@@ -28,7 +28,7 @@ use Rattle.grid_structure.specs.Network.{Network, Substation}
 use Rattle.grid_structure.specs.Sites.{levels, switches, level_named, substation_named, taken, branch_ends, home_of}
 use Rattle.grid_structure.specs.Editing.{edit_fault, max_levels, max_switches, substation_with_levels, with_levels, with_level, with_substation, in_home, place_end, place_ends, refuse_home, with_branch, apply}
 use Rattle.grid_structure.proofs.OneLevel.{found}
-use Rattle.grid_reading_back.specs.Requests.{item_numbers, shape_ids, shape_numbers}
+use Rattle.grid_requests.specs.RequestParts.{item_numbers, shape_ids, shape_numbers}
 use Rattle.grid_reading_back.proofs.Networks.{SwitchKeeps, InternalKeeps, StandKeeps, PlacedKeeps, LevelKeeps, BranchKeeps, SubstationKeeps, NetworkKeeps, rated_numbers}
 
 -- ---- lists

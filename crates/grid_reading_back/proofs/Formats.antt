@@ -17,7 +17,8 @@ use Rattle.grid_requests.specs.declared.request.Request.{Request}
 use Rattle.grid_requests.specs.declared.request.Request.TheVariants as requests
 use Rattle.grid_json.specs.declared.format.Format.{Format}
 use Rattle.grid_json.specs.declared.format.Format.TheVariants.{One, Two, Three, Four}
-use Rattle.grid_print.specs.Formats.{number_of, item_format, stand_format, level_needs, network_needs, edit_format, first_format, needs, least_format, IsWrittenIn}
+use Rattle.grid_json.specs.Formats.{number_of}
+use Rattle.grid_print.specs.Formats.{item_format, stand_format, level_needs, network_needs, edit_format, first_format, needs, least_format, IsWrittenIn}
 use Rattle.grid_reading_back.specs.Requests.{IsKnownIn}
 
 -- ---- no command and no injection came with the fifth format

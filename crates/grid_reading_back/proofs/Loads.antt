@@ -14,6 +14,7 @@ use Rattle.grid_structure.specs.Soundness.{IsSound}
 use Rattle.grid_structure.specs.Editing.{apply}
 use Rattle.grid_structure.proofs.Sound.{empty_sound}
 use Rattle.grid_structure.proofs.Soundly.{apply_sound}
+use Rattle.grid_requests.specs.RequestParts.{item_numbers, shape_ids}
 use Rattle.grid_placed.specs.Translation.{breaker_id}
 use Rattle.grid_json.specs.declared.fault.Fault.{Fault}
 use Rattle.grid_json.specs.declared.buses.BusSwitch.{BusSwitch}
@@ -41,7 +42,6 @@ use Rattle.grid_json.specs.Command.{line_of, two_windings_of, three_windings_of}
 use Rattle.grid_json.specs.Loading.{load_items, load_member, refused, edited, busbar_load, switch_load, internal_load, injection_load, level_load, buses_load, bus_at, next_node, differing, bus_switch_load, short_id, breaker_told, breaker_load, bus_injection_load, bus_level_load}
 use Rattle.grid_json.specs.Loading.{Loaded, nothing_of, with_network, with_bus_level, any_level_load, level_of, end_check, is_by_bus, short_where, two_check, three_check, placed_end, two_placed, three_placed, two_nodes, three_nodes, end_breaker, two_breakers, three_breakers, two_load, three_load, transformer_load, line_load, substation_load, parts_load, network_load}
 use Rattle.grid_json.proofs.Results.{bound, inside}
-use Rattle.grid_reading_back.specs.Requests.{item_numbers, shape_ids}
 use Rattle.grid_reading_back.proofs.Networks.{NetworkKeeps, rated_numbers}
 use Rattle.grid_reading_back.proofs.Options.{same_read}
 use Rattle.grid_reading_back.proofs.EditRules.{substation_added, level_added, busbar_added, switch_added, internal_added, injection_added, branch_added}

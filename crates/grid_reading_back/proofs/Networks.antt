@@ -15,7 +15,7 @@ use Rattle.grid_structure.specs.declared.End.{End}
 use Rattle.grid_structure.specs.declared.NamedBranch.{NamedBranch}
 use Rattle.grid_structure.specs.declared.Edit.{Edit}
 use Rattle.grid_requests.specs.declared.request.Request.{Request}
-use Rattle.grid_reading_back.specs.Requests.{edit_ids, edit_numbers, item_numbers, shape_ids, shape_numbers, request_ids, request_numbers}
+use Rattle.grid_requests.specs.RequestParts.{edit_ids, edit_numbers, item_numbers, shape_ids, shape_numbers, request_ids, request_numbers}
 
 -- the rated voltages of a branch
 abbrev pub rated_numbers : Branch → List ℤ

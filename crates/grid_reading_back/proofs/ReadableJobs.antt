@@ -11,6 +11,7 @@ use Rattle.grid_ids.specs.Fault.{id_fault}
 use Rattle.grid_events.specs.declared.filter.Filter.{Filter}
 use Rattle.grid_level.specs.LevelEdits.{max_node}
 use Rattle.grid_requests.specs.declared.request.Request.{Request}
+use Rattle.grid_requests.specs.RequestParts.{request_ids, request_numbers}
 use Rattle.grid_structure.specs.Soundness.{IsSound}
 use Rattle.grid_value.specs.Bytes.{reading}
 use Rattle.grid_value.specs.View.{items_len}
@@ -32,7 +33,7 @@ use Rattle.grid_json.specs.Whole.{loaded, or_bad_job, draft_in, draft_of, job_in
 use Rattle.grid_json.proofs.Results.{bound, all_counted}
 use Rattle.grid_print.specs.Readable.{IsId, IsWhole}
 use Rattle.grid_print.proofs.Each.{of_each}
-use Rattle.grid_reading_back.specs.Requests.{request_ids, request_numbers, IsReadableRequest}
+use Rattle.grid_reading_back.specs.Requests.{IsReadableRequest}
 use Rattle.grid_reading_back.specs.Jobs.{IsReadableFilter, IsReadableScript, IsScheduleOf, IsReadableJob}
 use Rattle.grid_reading_back.proofs.Networks.{NetworkKeeps, RequestKeeps}
 use Rattle.grid_reading_back.proofs.Legible.{IsSigned, IsLegible, Reads, member_reads, either_reads, array_reads, optional_reads, number_reads}

@@ -16,10 +16,10 @@ use Rattle.grid_structure.specs.declared.Branch.TheVariants.{Line, TwoWindings, 
 use Rattle.grid_structure.specs.Network.{Network, Substation}
 use Rattle.grid_structure.specs.Sites.{levels, branches}
 use Rattle.grid_structure.specs.Soundness.{IsSound}
+use Rattle.grid_requests.specs.RequestParts.{item_numbers, shape_ids, shape_numbers}
 use Rattle.grid_print.specs.Readable.{IsId, IsWhole, AreWhole, IsReadableSwitch, IsReadableInternal, IsReadableBusbar, IsReadableInjection, IsReadableLevel, IsReadableShape, IsReadableBranch, IsReadable}
 use Rattle.grid_print.proofs.Each.{of_each}
 use Rattle.grid_print.proofs.ReadableNetworks.{network_readable}
-use Rattle.grid_reading_back.specs.Requests.{item_numbers, shape_ids, shape_numbers}
 use Rattle.grid_reading_back.proofs.Networks.{SwitchKeeps, InternalKeeps, PlacedKeeps, LevelKeeps, BranchKeeps, SubstationKeeps, NetworkKeeps}
 use Rattle.grid_reading_back.proofs.Legible.{IsSigned}
 use Rattle.grid_reading_back.proofs.EditRules.{join, levels_keep}

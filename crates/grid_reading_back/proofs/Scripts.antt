@@ -8,11 +8,12 @@ use Rattle.grid_requests.specs.declared.request.Request.{Request}
 use Rattle.grid_json.specs.declared.fault.Reason.TheVariants.{TooManyWorkers}
 use Rattle.grid_json.specs.declared.format.Format.{Format}
 use Rattle.grid_json.specs.Reading.{array_at}
+use Rattle.grid_json.specs.Formats.{number_of}
 use Rattle.grid_json.specs.Command.{command_at}
 use Rattle.grid_json.specs.Job.{max_workers, max_commands, command_total, workers_at}
 use Rattle.grid_print.specs.Objects.{array_of}
 use Rattle.grid_print.specs.Command.{request_value}
-use Rattle.grid_print.specs.Formats.{number_of, first_format, needs}
+use Rattle.grid_print.specs.Formats.{first_format, needs}
 use Rattle.grid_print.specs.Job.{script_value}
 use Rattle.grid_print.proofs.Each.{each_of, of_each}
 use Rattle.grid_reading_back.specs.Requests.{IsReadableRequest, IsKnownIn}

@@ -7,12 +7,12 @@ use Rattle.grid_structure.specs.Network.{Network}
 use Rattle.grid_value.specs.Bytes.{reading}
 use Rattle.grid_json.specs.declared.fault.Reason.TheVariants.{TooManyListeners}
 use Rattle.grid_json.specs.declared.format.Format.{Format}
-use Rattle.grid_json.specs.declared.format.Format.TheVariants.{One, Two, Three, Four, Five}
+use Rattle.grid_json.specs.declared.format.Format.TheVariants.{One}
 use Rattle.grid_json.specs.declared.whole.Job.{Job}
+use Rattle.grid_json.specs.Formats.{number_of}
 use Rattle.grid_json.specs.Job.{max_listeners, format_at, listener_at, draft_at}
 use Rattle.grid_json.specs.Whole.{loaded, draft_of, job_of, whole_job_at}
 use Rattle.grid_print.specs.Objects.{members_from, natural}
-use Rattle.grid_print.specs.Formats.{number_of}
 use Rattle.grid_print.specs.Job.{job_value, listener_value}
 use Rattle.grid_print.specs.Readable.{IsReadable}
 use Rattle.grid_print.proofs.RoundTrips.{networks_are_read}

@@ -26,17 +26,18 @@ use Rattle.grid_structure.specs.declared.Edit.TheVariants as edits
 use Rattle.grid_structure.specs.Network.{Network, Substation}
 use Rattle.grid_requests.specs.declared.request.Request.{Request}
 use Rattle.grid_requests.specs.declared.request.Request.TheVariants as requests
+use Rattle.grid_requests.specs.RequestParts.{shape_ids, shape_numbers, item_numbers, given_number}
 use Rattle.grid_events.specs.declared.filter.Filter.{Filter}
 use Rattle.grid_json.specs.declared.format.Format.{Format}
-use Rattle.grid_json.specs.declared.format.Format.TheVariants.{One, Two, Three, Four, Five}
+use Rattle.grid_json.specs.declared.format.Format.TheVariants.{One}
 use Rattle.grid_json.specs.declared.whole.Job.{Job}
+use Rattle.grid_json.specs.Formats.{number_of}
 use Rattle.grid_json.specs.Job.{max_workers, is_worker, is_order, counts_from}
 use Rattle.grid_print.specs.Objects.{members_from, object_of, array_of, whole, natural, given, word_if}
 use Rattle.grid_print.specs.Network.{switch_word, injection_word, injection_fields, busbar_of, injection_of, busbars_value, injections_value, switch_value, internal_value, level_value, end_value, branch_value, named_branch_value, substation_value, network_value}
 use Rattle.grid_print.specs.Command.{add_branch_value, edit_value, request_value}
-use Rattle.grid_print.specs.Formats.{number_of, least_format}
+use Rattle.grid_print.specs.Formats.{least_format}
 use Rattle.grid_print.specs.Job.{kinds_value, listener_value, script_value, job_value}
-use Rattle.grid_reading_back.specs.Requests.{shape_ids, shape_numbers, item_numbers, given_number}
 use Rattle.grid_reading_back.specs.Jobs.{IsScheduleOf}
 use Rattle.grid_reading_back.specs.Spelling.{IsSpelled, ItemsAreSpelled, MembersAreSpelled}
 use Rattle.grid_reading_back.proofs.ValueTexts.{put_spelled}

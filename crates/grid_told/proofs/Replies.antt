@@ -75,7 +75,7 @@ none_readable = record { wholes = tt; texts = tt; names = tt; within = omega ari
 components_readable : (r : Request) (buses : List BusComponent) → IsRequest r → All IsComponent buses → IsReadable 4 (components_value r buses)
 unfolding components_value
 components_readable (requests.Components level) buses known h =
-    deeper 2 4 (array_of (component_value level) buses) (omega arith) (array_readable IsComponent 1 (component_value level) (component_readable level known) buses (each_of IsComponent buses h))
+    deeper 2 4 (array_of (component_value level) buses) (omega arith) (array_readable IsComponent 1 (component_value level) (component_readable level (each_of IsUtf8 (level ∷ []) known.0).0) buses (each_of IsComponent buses h))
 components_readable other buses known h = none_readable
 
 pub reply_readable : (r : Request) (reply : Reply) → IsRequest r → IsReply reply → IsReadable 5 (reply_value r reply)

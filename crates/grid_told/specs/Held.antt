@@ -1,7 +1,5 @@
 -- What the types of parts hold: ids are UTF-8, numbers have 64 bits, and sums 128.
 use Rattle.std.specs.Prelude.{ℕ, ℤ, pos, negsuc, ◌^◌, ◌<◌, IsUtf8, All}
-use Rattle.grid_kinds.specs.declared.Injection.{Injection}
-use Rattle.grid_kinds.specs.declared.Injection.TheVariants as injections
 use Rattle.grid_kinds.specs.declared.CheckFault.{CheckFault}
 use Rattle.grid_kinds.specs.declared.CheckFault.TheVariants as checks
 use Rattle.grid_level.specs.declared.Terminal.{Terminal}
@@ -70,14 +68,6 @@ IsEvent (events.VariantOverwritten from to) = IsUtf8 from × IsUtf8 to
 IsEvent (events.VariantRemoved name) = IsUtf8 name
 
 -- ---- values of edits
-
-abbrev pub IsInjection : Injection → Type 0
-IsInjection (injections.Load p0 q0) = IsSigned p0 × IsSigned q0
-IsInjection (injections.Generator target_p target_v min_p max_p) = IsSigned target_p × (IsSigned target_v × (IsSigned min_p × IsSigned max_p))
-IsInjection (injections.Battery target_p target_q min_p max_p) = IsSigned target_p × (IsSigned target_q × (IsSigned min_p × IsSigned max_p))
-IsInjection (injections.ShuntCompensator section_count max_sections) = IsSigned section_count × IsSigned max_sections
-IsInjection (injections.StaticVarCompensator target_q) = IsSigned target_q
-IsInjection (injections.ConverterStation target_q) = IsSigned target_q
 
 -- a value that may not stand, and the bound that it breaks
 abbrev pub IsCheckFault : CheckFault → Type 0

@@ -2,6 +2,7 @@
 use Rattle.std.proofs.Common.{◌≡◌, ℕ, List, [], map, refl, ap, ◌∙◌, arith}
 use Rattle.std.specs.Prelude.{IsUtf8, codes, if◌then◌else◌}
 use Rattle.std.specs.Str.{bytes_eq}
+use Rattle.std.proofs.lemmas.List.Elements.{All-nil}
 use Rattle.serde_json.specs.Data.{Data, string}
 use Rattle.grid_requests.specs.declared.request.Request.{Request}
 use Rattle.grid_requests.specs.declared.request.Request.TheVariants as requests
@@ -18,7 +19,7 @@ use Rattle.grid_configured.specs.declared.view.ConfiguredView.{ConfiguredView}
 use Rattle.grid_configured.specs.declared.reply.ConfiguredReply.{ConfiguredReply}
 use Rattle.grid_configured.specs.declared.reply.ConfiguredReply.TheVariants as replies
 use Rattle.grid_configured.specs.Lines.{bus_value, buses_value, reply_value}
-use Rattle.grid_told.specs.Held.{IsTerminal}
+use Rattle.grid_told.specs.Held.{IsSigned, IsTerminal}
 use Rattle.grid_told.specs.Outcomes as outcomes
 use Rattle.grid_told.specs.Shapes.{IsReadable}
 use Rattle.grid_told.proofs.Fields.{text_of, list_of, at, items_back}
@@ -45,7 +46,7 @@ buses_readable v h = array_readable IsBus 3 (bus_value v.level) (bus_readable v.
 
 refused_readable : (refusal : Refusal) → outcomes.IsRefusal refusal → IsReadable 5 (refused_value refusal)
 unfolding journal_value
-refused_readable refusal h = journal_readable requests.Totals (answers.Refused refusal) tt h
+refused_readable refusal h = journal_readable requests.Totals (answers.Refused refusal) (All-nil IsUtf8, All-nil IsSigned) h
 
 pub reply_readable : (reply : ConfiguredReply) → IsReply reply → IsReadable 5 (reply_value reply)
 unfolding reply_value
