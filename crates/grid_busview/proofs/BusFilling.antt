@@ -1,6 +1,6 @@
 -- Buses that nodes and terminals are put into, by the places of the buses.
 use Rattle.std.proofs.Common.{◌≡◌, ◌≢◌, refl, sym, ap, ◌∙◌, subst, ℕ, zero, suc, ℤ, pos, ◌+ℤ◌, ◌+◌, ◌*◌, ◌^◌, ◌<◌, ◌≤◌, Bool, cond, List, [], ◌∷◌, ◌++◌, length, get_or, set, inl, inr, arith, Option, Some, None, get_or-set_same, get_or-set_other, length-set}
-use Rattle.std.specs.Prelude.{eqb, map, filter, slice_get}
+use Rattle.std.specs.Prelude.{eqb, map, filter, slice_get, zip}
 use Rattle.std.proofs.lemmas.Bool.{cases_eq}
 use Rattle.std.proofs.lemmas.Int.{ints}
 use Rattle.std.proofs.lemmas.List.{map-append, get_or-map, length-map}
@@ -18,10 +18,10 @@ use Rattle.grid_groups.proofs.Steps.{read_item}
 use Rattle.grid_busview.specs.declared.ViewBus.{ViewBus}
 use Rattle.grid_busview.specs.declared.leading.Led.{Led}
 use Rattle.grid_busview.specs.declared.counts.Count.{Count}
-use Rattle.grid_busview.specs.Views.{is_load, is_generation, watts_over}
+use Rattle.grid_busview.specs.Views.{Fed, is_load, is_generation, watts_over}
 use Rattle.grid_busview.specs.Labelled.{fed_at, bus_by, bus_leaders, led_place, empty_bus, no_bus, with_node, with_fed, bus_nodes, AreLed, SumsWithin}
 use Rattle.grid_busview.proofs.LeadingLabels.{led_at, led_apart, unled_apart, of_index, label_below}
-use Rattle.grid_busview.proofs.WattSums.{watts_more, still_within}
+use Rattle.grid_busview.proofs.WattSums.{read_fed, watts_more, still_within}
 
 map_same : {X : Type 0} (f g : ℕ → X) (ks : List ℕ) → ((j : ℕ) → j < length ks → f (get_or ks j 0) ≡ g (get_or ks j 0)) → map f ks ≡ map g ks
 map_same f g [] h = refl
@@ -93,10 +93,10 @@ fed_all level watts labels keys i leaders e keyed =
     ap (λ n. map (λ l. bus_by level watts (group_of level l (places_with labels l) (filter (λ k. eqb (get_or keys k 0) l) (places n)))) leaders) e
     ∙ ap (λ z. map (λ l. bus_by level watts (group_of level l (places_with labels l) (places_with z l))) leaders) keyed
 
-pub fed_next : (level : VoltageLevel) (watts : List ℤ) (labels keys : List ℕ) (i key : ℕ) (p : Placed) (w : ℤ) → length watts ≡ length level.placed → i < length level.placed → get_or keys i 0 ≡ key → p ≡ get_or level.placed i p
-    → w ≡ get_or watts i (pos 0) → with_fed (fed_to level watts labels keys i key) (p, w) ≡ fed_to level watts labels keys (i + 1) key
+pub fed_next : (level : VoltageLevel) (watts : List ℤ) (labels keys : List ℕ) (i key : ℕ) (x : Fed) → get_or keys i 0 ≡ key → slice_get level.placed i ≡ Some x.0 → slice_get (zip level.placed watts) i ≡ Some x
+    → with_fed (fed_to level watts labels keys i key) x ≡ fed_to level watts labels keys (i + 1) key
 unfolding fed_to bus_by group_of with_fed
-fed_next level watts labels keys i key p w long lt e at own =
+fed_next level watts labels keys i key x e at fed =
     let ks = with_key keys i key in
     let made : List Terminal → ℤ → ℤ → ViewBus = λ ts x y. record {
       least = get_or (nodes level) key 0;
@@ -109,10 +109,10 @@ fed_next level watts labels keys i key p w long lt e at own =
     let ts : List Terminal = map part (items_at level.placed (ks ++ i ∷ [])) in
     let load : ℤ = watts_over is_load (fed_at level watts (ks ++ i ∷ [])) in
     let now : List ℕ → ViewBus = λ z. made (map part (items_at level.placed z)) (watts_over is_load (fed_at level watts z)) (watts_over is_generation (fed_at level watts z)) in
-    let sum : (Stand → Bool) → ℤ = λ test. cond (test p.stand) (watts_over test (fed_at level watts ks) +ℤ w) (watts_over test (fed_at level watts ks)) in
-    ap (λ z. made z (sum is_load) (sum is_generation)) (sym (ap (map part) (items_push level.placed ks i p (read_item level.placed level.placed i p refl lt at)) ∙ map-append part (items_at level.placed ks) (p ∷ [])))
-    ∙ ap (λ z. made ts z (sum is_generation)) (sym (watts_more is_load level watts ks i p w long lt at own))
-    ∙ ap (made ts load) (sym (watts_more is_generation level watts ks i p w long lt at own))
+    let sum : (Stand → Bool) → ℤ = λ test. cond (test x.0.stand) (watts_over test (fed_at level watts ks) +ℤ x.1) (watts_over test (fed_at level watts ks)) in
+    ap (λ z. made z (sum is_load) (sum is_generation)) (sym (ap (map part) (items_push level.placed ks i x.0 at) ∙ map-append part (items_at level.placed ks) (x.0 ∷ [])))
+    ∙ ap (λ z. made ts z (sum is_generation)) (sym (watts_more is_load level watts ks i x fed))
+    ∙ ap (made ts load) (sym (watts_more is_generation level watts ks i x fed))
     ∙ ap now (sym (key_next keys i key e))
 
 pub fed_past : (level : VoltageLevel) (watts : List ℤ) (labels keys : List ℕ) (i key l : ℕ) → get_or keys i 0 ≡ key → key ≢ l → fed_to level watts labels keys (i + 1) l ≡ fed_to level watts labels keys i l
@@ -135,7 +135,7 @@ module _ (level : VoltageLevel) (watts : List ℤ) (labels : List ℕ) (led : Le
         → set buses n (with_fed (get_or buses n no_bus) (p, w)) ≡ map (fed_to level watts labels (labels_placed level labels) (i + 1)) (bus_leaders labels led.counts)
     fed_put n p w leads long lt at read =
         put_at labels led.counts (fed_to level watts labels (labels_placed level labels) i) (fed_to level watts labels (labels_placed level labels) (i + 1)) buses key key_below (λ l. fed_past level watts labels (labels_placed level labels) i key l is) so_far (λ z. with_fed z (p, w)) n leads
-        (fed_next level watts labels (labels_placed level labels) i key p w long lt is at read)
+        (fed_next level watts labels (labels_placed level labels) i key (p, w) is (read_item level.placed level.placed i p refl lt at) (read_fed level.placed watts i p w long lt at read))
 
     pub fed_kept : led_place labels led.counts key ≡ None → buses ≡ map (fed_to level watts labels (labels_placed level labels) (i + 1)) (bus_leaders labels led.counts)
     fed_kept leads = kept_at labels led.counts (fed_to level watts labels (labels_placed level labels) i) (fed_to level watts labels (labels_placed level labels) (i + 1)) buses key key_below (λ l. fed_past level watts labels (labels_placed level labels) i key l is) so_far leads

@@ -1,14 +1,14 @@
 -- What a network in which no fault is found keeps: its ids differ, and what names a bus names one that is there.
-use Rattle.std.proofs.Common.{◌≡◌, refl, sym, ap, ◌∙◌, subst, ℕ, zero, suc, ◌+◌, ◌<◌, ◌≤◌, Bool, true, false, cond, not, ◌&&◌, List, [], ◌∷◌, ◌++◌, length, get_or, Result, Ok, Err, append_assoc, arith}
-use Rattle.std.specs.Prelude.{Option, Some, None, map, find, flat_map, position, unwrap_or, slice_get, decimal, codes, ⊤, All}
-use Rattle.std.proofs.lemmas.Bool.{true≢false, and_parts, not-false}
+use Rattle.std.proofs.Common.{◌≡◌, refl, sym, ap, ◌∙◌, subst, ℕ, zero, suc, ◌+◌, ◌<◌, ◌≤◌, Bool, true, false, cond, List, [], ◌∷◌, ◌++◌, length, get_or, Result, Ok, append_assoc, arith}
+use Rattle.std.specs.Prelude.{Option, Some, None, map, find, flat_map, position, unwrap_or, slice_get, codes, ⊤, All}
+use Rattle.std.proofs.lemmas.Bool.{true≢false}
 use Rattle.std.proofs.lemmas.List.{append-nil, map-append, map-id}
 use Rattle.std.proofs.lemmas.List.Concat.{flat_map-append}
 use Rattle.std.proofs.lemmas.List.Elements.{All-append, All-map, All-nil, All-cons, All-head, All-tail}
 use Rattle.std.proofs.lemmas.Option.{slice_get-get_or}
 use Rattle.std.proofs.lemmas.Slice.Eq.{bytes_eq-Decides}
 use Rattle.grid_ids.specs.Name.{same_id, has_id}
-use Rattle.grid_ids.specs.Refusing.{refuse_if, found_or}
+use Rattle.grid_ids.specs.Refusing.{refuse_if}
 use Rattle.grid_level.specs.declared.Stand.TheVariants.{BranchEnd}
 use Rattle.grid_level.specs.Passing.{is_busbar}
 use Rattle.grid_structure.proofs.Counts.{times, times-append, not_there, there}
@@ -16,7 +16,6 @@ use Rattle.grid_structure.proofs.Places.{position_none, position_found}
 use Rattle.grid_structure.proofs.LevelHomes.{none_there}
 use Rattle.grid_paths.proofs.Least.{some_same, some_none}
 use Rattle.grid_json.specs.declared.fault.Fault.{Fault}
-use Rattle.grid_json.specs.Reading.{under}
 use Rattle.grid_json.proofs.Results.{bound, inside}
 use Rattle.grid_json.specs.declared.buses.BusSwitch.{BusSwitch}
 use Rattle.grid_json.specs.declared.buses.BusInjection.{BusInjection}
@@ -29,22 +28,10 @@ use Rattle.grid_configured.specs.Checks.{each_check, list_check, level_ids, ids_
 use Rattle.grid_placed.specs.Places.{Joint, PlacesFit}
 use Rattle.grid_configured.specs.Levels.{bus_place, joint_of, item_outlet, end_outlets, line_outlets, outlets, placed_level, placed_levels}
 use Rattle.grid_configured.specs.Sites.{bus_ids, item_ids, line_ids, sides}
+use Rattle.grid_configured.specs.Partial.{LevelStands}
 use Rattle.grid_placed.proofs.Nodes.{StandsWell}
 use Rattle.grid_configured.proofs.Mirrors.{NetworkFits}
-
--- ---- steps that are right
-
-pub not_refused : (t : Bool) (f : Fault) (u : ⊤) → refuse_if t f ≡ Ok u → t ≡ false
-not_refused true f u h = absurd (let k : Err f ≡ Ok u = h in cc)
-not_refused false f u h = refl
-
--- each thing is right, behind some earlier ones
-pub each_right : {A : Type 0} (check : List A → A → Result ⊤ Fault) (P : A → Type 0) → ((earlier : List A) (x : A) → check earlier x ≡ Ok tt → P x) → (earlier : List A) (i : ℕ) (xs : List A) → each_check check earlier i xs ≡ Ok tt → All P xs
-unfolding each_check
-each_right check P f earlier i [] h = All-nil P
-each_right check P f earlier i (x ∷ xs) h =
-    let r = bound (under (decimal i) (check earlier x)) (λ _. each_check check (earlier ++ x ∷ []) (suc i) xs) tt h in
-    All-cons P x xs (f earlier x (inside (decimal i) (check earlier x) tt r.1)) (each_right check P f (earlier ++ x ∷ []) (suc i) xs r.2)
+use Rattle.grid_configured.proofs.RightParts.{not_refused, each_right, each_keeps, switch_right, item_right, EndStands, LineStands, line_stands}
 
 -- ---- ids that differ
 
@@ -74,14 +61,10 @@ once_moved xs ys same once = record { most = λ q. let e = same q in let m = onc
 -- of things with an id each
 each_once : {A : Type 0} (check : List A → A → Result ⊤ Fault) (key : A → List ℕ) (base : List (List ℕ)) → ((earlier : List A) (x : A) → check earlier x ≡ Ok tt → has_id (base ++ map key earlier) (key x) ≡ false)
     → (earlier : List A) (i : ℕ) (xs : List A) → each_check check earlier i xs ≡ Ok tt → Once (base ++ map key earlier) → Once (base ++ map key (earlier ++ xs))
-unfolding each_check
-each_once check key base fresh earlier i [] h once = let P : _ → Type 0 = λ z. Once (base ++ map key z) in subst P (sym (append-nil earlier)) once
-each_once {A} check key base fresh earlier i (x ∷ xs) h once =
-    let r = bound (under (decimal i) (check earlier x)) (λ _. each_check check (earlier ++ x ∷ []) (suc i) xs) tt h in
-    let more = once_more (base ++ map key earlier) (key x) once (fresh earlier x (inside (decimal i) (check earlier x) tt r.1)) in
-    let same : (base ++ map key earlier) ++ key x ∷ [] ≡ base ++ map key (earlier ++ x ∷ []) = append_assoc base (map key earlier) (key x ∷ []) ∙ ap (λ z. base ++ z) (sym (map-append key earlier (x ∷ []))) in
-    let P : List A → Type 0 = λ z. Once (base ++ map key z) in
-    subst P (append_assoc earlier (x ∷ []) xs) (each_once check key base fresh (earlier ++ x ∷ []) (suc i) xs r.2 (subst Once same more))
+each_once {A} check key base fresh earlier i xs h once = each_keeps check (λ z. Once (base ++ map key z)) step earlier i xs h once
+  where
+    step : (before : List A) (x : A) → check before x ≡ Ok tt → Once (base ++ map key before) → Once (base ++ map key (before ++ x ∷ []))
+    step before x e some = subst Once (append_assoc base (map key before) (key x ∷ []) ∙ ap (λ z. base ++ z) (sym (map-append key before (x ∷ [])))) (once_more (base ++ map key before) (key x) some (fresh before x e))
 
 -- ---- what each check says
 
@@ -161,15 +144,6 @@ level_once earlier l right once =
     let g = times-append q (map (λ s. s.id) l.switches) (map (λ t. t.id) l.items) in
     omega (arith, a, b, c, d, e, f, g)) parts)
 
-levels_once : (earlier : List ConfiguredLevel) (i : ℕ) (ls : List ConfiguredLevel) → each_check level_check earlier i ls ≡ Ok tt → Once (ids_of earlier) → Once (ids_of (earlier ++ ls))
-unfolding each_check
-levels_once earlier i [] h once = let P : List ConfiguredLevel → Type 0 = λ z. Once (ids_of z) in subst P (sym (append-nil earlier)) once
-levels_once earlier i (l ∷ ls) h once =
-    let r = bound (under (decimal i) (level_check earlier l)) (λ _. each_check level_check (earlier ++ l ∷ []) (suc i) ls) tt h in
-    let more = level_once earlier l (level_right earlier l (inside (decimal i) (level_check earlier l) tt r.1)) once in
-    let P : List ConfiguredLevel → Type 0 = λ z. Once (ids_of z) in
-    subst P (append_assoc earlier (l ∷ []) ls) (levels_once (earlier ++ l ∷ []) (suc i) ls r.2 more)
-
 -- both parts of the check
 pub record NetworkRight (n : ConfiguredNetwork) : Type 0 where
   pub levels : each_check level_check [] 0 n.levels ≡ Ok tt
@@ -191,7 +165,7 @@ none_once = record { most = λ q. omega arith }
 pub network_once : (n : ConfiguredNetwork) → NetworkRight n → Once (ids_of n.levels ++ map (λ l. l.id) n.lines)
 network_once n right =
     each_once (line_check n.levels) (λ l. l.id) (ids_of n.levels) (fresh_line n.levels) [] 0 n.lines right.lines
-    (subst Once (sym (append-nil (ids_of n.levels))) (levels_once [] 0 n.levels right.levels none_once))
+    (subst Once (sym (append-nil (ids_of n.levels))) (each_keeps level_check (λ z. Once (ids_of z)) (λ earlier l h once. level_once earlier l (level_right earlier l h) once) [] 0 n.levels right.levels none_once))
 
 -- ---- buses, injections and lines
 
@@ -230,73 +204,21 @@ bus_there buses id h = by (position (same_id id) buses) refl
     by (Some k) e = (position_found (same_id id) buses k e).0
 
 -- both buses of a switch are there
-SwitchStands : List (List ℕ) → BusSwitch → Type 0
+abbrev SwitchStands : List (List ℕ) → BusSwitch → Type 0
 SwitchStands buses s = (has_id buses s.bus1 ≡ true) × (has_id buses s.bus2 ≡ true)
 
-switch_stands : (ids buses : List (List ℕ)) (count : ℕ) (earlier : List BusSwitch) (s : BusSwitch) → switch_check ids buses count earlier s ≡ Ok tt → SwitchStands buses s
-unfolding switch_check switch_reasons buses_reasons SwitchStands
-switch_stands ids buses count earlier s h =
-    let one = bound (id_reasons _) _ tt h in
-    let two = bound (buses_reasons (has_id buses s.bus1 && has_id buses s.bus2) (same_id s.bus1 s.bus2)) _ tt one.2 in
-    let three = bound (refuse_if (not (has_id buses s.bus1 && has_id buses s.bus2)) _) _ tt two.1 in
-    and_parts (has_id buses s.bus1) (has_id buses s.bus2) (not-false (has_id buses s.bus1 && has_id buses s.bus2) (not_refused (not (has_id buses s.bus1 && has_id buses s.bus2)) _ _ three.1))
-
-ItemStands : List (List ℕ) → BusInjection → Type 0
+abbrev ItemStands : List (List ℕ) → BusInjection → Type 0
 ItemStands buses t = has_id buses t.bus ≡ true
 
-item_stands : (ids buses : List (List ℕ)) (nodes edges count : ℕ) (earlier : List BusInjection) (t : BusInjection) → item_check ids buses nodes edges count earlier t ≡ Ok tt → ItemStands buses t
-unfolding item_check item_reasons ItemStands
-item_stands ids buses nodes edges count earlier t h =
-    let one = bound (id_reasons _) _ tt h in
-    let two = bound (refuse_if (not (has_id buses t.bus)) _) _ tt one.2 in
-    not-false (has_id buses t.bus) (not_refused (not (has_id buses t.bus)) _ _ two.1)
-
--- an end's level is there, and has its bus
-record EndStands (levels : List ConfiguredLevel) (e : BusEnd) : Type 0 where
-  level : ConfiguredLevel
-  found : checks.level_of levels e.level ≡ Some level
-  there : has_id level.buses e.bus ≡ true
-
-pub found_right : {A : Type 0} (o : Option A) (f : Fault) (x : A) → found_or o f ≡ Ok x → o ≡ Some x
-found_right None f x h = absurd (let k : Err f ≡ Ok x = h in cc)
-found_right (Some y) f x h = let k : Ok y ≡ Ok x = h in cc
-
-end_stands : (levels : List ConfiguredLevel) (earlier : List BusEnd) (e : BusEnd) → end_check levels earlier e ≡ Ok tt → EndStands levels e
-unfolding end_check end_reasons
-end_stands levels earlier e h =
-    let one = bound (found_or (checks.level_of levels e.level) _) _ tt h in
-    let two = bound (refuse_if (not (has_id one.0.buses e.bus)) _) _ tt one.2 in
-    record {
-      level = one.0;
-      found = found_right (checks.level_of levels e.level) _ one.0 one.1;
-      there = not-false (has_id one.0.buses e.bus) (not_refused (not (has_id one.0.buses e.bus)) _ _ two.1);
-    }
-
-record LineStands (levels : List ConfiguredLevel) (line : ConfiguredLine) : Type 0 where
-  first : EndStands levels line.end1
-  second : EndStands levels line.end2
-
-line_stands : (levels : List ConfiguredLevel) (earlier : List ConfiguredLine) (line : ConfiguredLine) → line_check levels earlier line ≡ Ok tt → LineStands levels line
-unfolding line_check
-line_stands levels earlier line h =
-    let one = bound (id_reasons _) _ tt h in
-    let two = bound (end_check levels (checks.line_ends earlier) line.end1) _ tt one.2 in
-    record { first = end_stands levels (checks.line_ends earlier) line.end1 two.1; second = end_stands levels (checks.line_ends earlier ++ line.end1 ∷ []) line.end2 two.2 }
-
--- what a level's switches and injections name is there
-record LevelStands (l : ConfiguredLevel) : Type 0 where
-  switches : All (SwitchStands l.buses) l.switches
-  items : All (ItemStands l.buses) l.items
-
-level_stands : (earlier : List ConfiguredLevel) (l : ConfiguredLevel) → level_check earlier l ≡ Ok tt → LevelStands l
+pub level_stands : (earlier : List ConfiguredLevel) (l : ConfiguredLevel) → level_check earlier l ≡ Ok tt → LevelStands l
 level_stands earlier l h =
     let right = (level_right earlier l h).parts in
     let ids = ids_of earlier ++ l.id ∷ [] in
     let count = checks.switch_total earlier in
     record {
-      switches = each_right (switch_check (ids ++ l.buses) l.buses count) (SwitchStands l.buses) (switch_stands (ids ++ l.buses) l.buses count) [] 0 l.switches right.switches;
+      switches = each_right (switch_check (ids ++ l.buses) l.buses count) (SwitchStands l.buses) (λ before s e. let r = switch_right (ids ++ l.buses) l.buses count before s e in (r.one, r.two)) [] 0 l.switches right.switches;
       items = each_right (item_check (ids ++ (l.buses ++ map (λ s. s.id) l.switches)) l.buses (length l.buses) (length l.switches) (count + length l.switches)) (ItemStands l.buses)
-          (item_stands (ids ++ (l.buses ++ map (λ s. s.id) l.switches)) l.buses (length l.buses) (length l.switches) (count + length l.switches)) [] 0 l.items right.items;
+          (λ before t e. (item_right (ids ++ (l.buses ++ map (λ s. s.id) l.switches)) l.buses (length l.buses) (length l.switches) (count + length l.switches) before t e).there) [] 0 l.items right.items;
     }
 
 -- ---- one level of an id
@@ -334,19 +256,19 @@ found_at (x ∷ ls) (suc k) l m once e f =
 -- ---- all places fit
 
 joints_well : (l : ConfiguredLevel) (ss : List BusSwitch) → All (SwitchStands l.buses) ss → All (λ (s : Joint). (s.place1 < length l.buses) × (s.place2 < length l.buses)) (map (joint_of l) ss)
-unfolding joint_of SwitchStands
+unfolding joint_of
 joints_well l [] h = All-nil (λ (s : Joint). (s.place1 < length l.buses) × (s.place2 < length l.buses))
 joints_well l (s ∷ ss) h =
     let here = All-head (SwitchStands l.buses) s ss h in
     All-cons (λ (s : Joint). (s.place1 < length l.buses) × (s.place2 < length l.buses)) (joint_of l s) (map (joint_of l) ss) (bus_there l.buses s.bus1 here.0, bus_there l.buses s.bus2 here.1) (joints_well l ss (All-tail (SwitchStands l.buses) s ss h))
 
 items_well : (l : ConfiguredLevel) (ts : List BusInjection) → All (ItemStands l.buses) ts → All (StandsWell (length l.buses)) (map (item_outlet l) ts)
-unfolding item_outlet ItemStands is_busbar
+unfolding item_outlet is_busbar
 items_well l [] h = All-nil (StandsWell (length l.buses))
 items_well l (t ∷ ts) h = All-cons (StandsWell (length l.buses)) (item_outlet l t) (map (item_outlet l) ts) (bus_there l.buses t.bus (All-head (ItemStands l.buses) t ts h), refl) (items_well l ts (All-tail (ItemStands l.buses) t ts h))
 
 module _ (n : ConfiguredNetwork) (right : NetworkRight n) (k : ℕ) (l : ConfiguredLevel) (at : slice_get n.levels k ≡ Some l) where
-  one_level : (m : ConfiguredLevel) → checks.level_of n.levels l.id ≡ Some m → m ≡ l
+  pub one_level : (m : ConfiguredLevel) → checks.level_of n.levels l.id ≡ Some m → m ≡ l
   unfolding checks.level_of
   one_level m f =
       let most = (network_once n right).most l.id in

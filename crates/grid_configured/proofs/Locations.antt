@@ -169,7 +169,7 @@ singles_from : (network : ConfiguredNetwork) (ls : List ConfiguredLevel) → fla
 singles_from network [] = refl
 singles_from network (l ∷ ls) = ap (λ z. z ++ flat_map (λ (l : VoltageLevel). singles l.placed) (map translated_level (map (placed_level network) ls))) (level_singles network l) ∙ ap (λ z. own_ids l ++ z) (singles_from network ls)
 
-single_ids_are : (network : ConfiguredNetwork) → sites.single_ids (translated network) ≡ flat_map own_ids network.levels
+pub single_ids_are : (network : ConfiguredNetwork) → sites.single_ids (translated network) ≡ flat_map own_ids network.levels
 unfolding sites.single_ids placed_levels singles
 single_ids_are network =
     ap (flat_map (λ (l : VoltageLevel). singles l.placed)) (levels_are network) ∙ singles_from network network.levels
@@ -201,7 +201,7 @@ unfolding substation_of
 no_transformers network [] = refl
 no_transformers network (l ∷ ls) = no_transformers network ls
 
-branches_are : (network : ConfiguredNetwork) → sites.branches (translated network) ≡ map (translated_line network) network.lines
+pub branches_are : (network : ConfiguredNetwork) → sites.branches (translated network) ≡ map (translated_line network) network.lines
 unfolding sites.branches translated
 branches_are network = ap (λ z. z ++ map (translated_line network) network.lines) (no_transformers network network.levels)
 

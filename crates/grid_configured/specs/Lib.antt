@@ -16,4 +16,5 @@ pub mod Reports
 pub mod Outcomes
 pub mod Lines
 pub mod Blocks
+pub mod Numbers
 pub mod Partial

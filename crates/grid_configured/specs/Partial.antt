@@ -1,49 +1,70 @@
--- Networks with configured buses of which only a part is there yet.
-use Rattle.std.specs.Prelude.{ℕ, Some, None, [], ◌∷◌, ◌++◌, take, map, slice_get}
-use Rattle.grid_structure.specs.Network.{Network}
+-- A network in node/breaker form as lists, and what they are while its lines are put into them.
+use Rattle.std.specs.Prelude.{◌≡◌, ℕ, ◌+◌, ◌<◌, Bool, true, false, pos, not, None, List, [], ◌∷◌, ◌++◌, length, map, slice_get, All}
+use Rattle.std.specs.List.{enumerate_from}
+use Rattle.grid_ids.specs.Name.{has_id}
+use Rattle.grid_kinds.specs.declared.SwitchKind.TheVariants.{Breaker}
+use Rattle.grid_structure.specs.declared.End.{End}
+use Rattle.grid_json.specs.declared.buses.BusSwitch.{BusSwitch}
+use Rattle.grid_json.specs.declared.buses.BusInjection.{BusInjection}
+use Rattle.grid_placed.specs.Places.{Outlet}
+use Rattle.grid_placed.specs.Translation.{joint_breaker, outlet_breaker, translated_level}
+use Rattle.grid_structure.specs.declared.lists.BusbarAt.{BusbarAt}
+use Rattle.grid_structure.specs.declared.lists.SwitchBetween.{SwitchBetween}
+use Rattle.grid_structure.specs.declared.lists.InjectionAt.{InjectionAt}
+use Rattle.grid_structure.specs.declared.lists.LevelLists.{LevelLists}
+use Rattle.grid_structure.specs.declared.lists.SubstationLists.{SubstationLists}
+use Rattle.grid_structure.specs.Lists.{level_shown, switch_shown}
+use Rattle.grid_configured.specs.declared.line_lists.GrowingLevel.{GrowingLevel}
+use Rattle.grid_configured.specs.declared.network.ConfiguredLine.{ConfiguredLine}
 use Rattle.grid_configured.specs.declared.network.ConfiguredLevel.{ConfiguredLevel}
 use Rattle.grid_configured.specs.declared.network.ConfiguredNetwork.{ConfiguredNetwork}
-use Rattle.grid_configured.specs.Translation.{translated_line, translated}
+use Rattle.grid_configured.specs.Levels.{joint_of, item_outlet, outlets}
+use Rattle.grid_configured.specs.Translation.{substation_id}
 
--- the first levels
-abbrev pub first_levels : ConfiguredNetwork → ℕ → ConfiguredNetwork
-first_levels n k = record n { levels = take k n.levels; lines = [] }
+-- ---- parts of a level
 
--- the first levels, and one more
-abbrev pub with_level : ConfiguredNetwork → ℕ → ConfiguredLevel → ConfiguredNetwork
-with_level n k level = record n { levels = take k n.levels ++ level ∷ []; lines = [] }
+-- what its switches and injections name is there
+pub record LevelStands (l : ConfiguredLevel) : Type 0 where
+  pub switches : All (λ (s : BusSwitch). (has_id l.buses s.bus1 ≡ true) × (has_id l.buses s.bus2 ≡ true)) l.switches
+  pub items : All (λ (t : BusInjection). has_id l.buses t.bus ≡ true) l.items
 
--- all levels, and the first lines
-abbrev pub first_lines : ConfiguredNetwork → ℕ → ConfiguredNetwork
-first_lines n k = record n { lines = take k n.lines }
+-- a bus at its node
+abbrev pub bus_at : ℕ × List ℕ → BusbarAt
+bus_at e = record { id = e.1; node = pos e.0 }
 
--- the first buses of a level
-abbrev pub first_buses : ConfiguredLevel → ℕ → ConfiguredLevel
-first_buses level k = record level { buses = take k level.buses; switches = []; items = [] }
+-- a switch between two buses
+abbrev pub joint_at : ConfiguredLevel → BusSwitch → SwitchBetween
+joint_at l s = switch_shown (joint_breaker (joint_of l s))
 
--- the buses of a level, and its first switches
-abbrev pub first_switches : ConfiguredLevel → ℕ → ConfiguredLevel
-first_switches level k = record level { switches = take k level.switches; items = [] }
+-- an injection at a node, and its breaker
+abbrev pub item_at : ℕ × BusInjection → InjectionAt
+item_at e = record { id = e.1.id; node = pos e.0; item = e.1.item }
 
--- the buses and switches of a level, and its first injections
-abbrev pub first_items : ConfiguredLevel → ℕ → ConfiguredLevel
-first_items level k = record level { items = take k level.items }
+abbrev pub item_breaker : ConfiguredLevel → ℕ × BusInjection → SwitchBetween
+item_breaker l e = switch_shown (outlet_breaker (e.0, item_outlet l e.1))
 
--- ---- in node/breaker form
+-- the level with these terminals
+unfoldable pub level_with : ConfiguredLevel → List Outlet → LevelLists
+level_with l ts = level_shown (translated_level (record { id = l.id; nominal_v = l.nominal_v; low_v = None; high_v = None; buses = l.buses; joints = map (joint_of l) l.switches; outlets = ts }))
 
--- the first levels and a part of the next one, by what is taken of it
-unfoldable pub with_part : (ConfiguredLevel → ConfiguredLevel) → ConfiguredNetwork → ℕ → Network
-with_part part n k = elim (slice_get n.levels k) [ None ↦ translated (first_levels n k) | Some level ↦ translated (with_level n k (part level)) ]
+-- ---- levels that get ends of lines
 
-abbrev pub with_buses : ConfiguredNetwork → ℕ → ℕ → Network
-with_buses n k count = with_part (λ level. first_buses level count) n k
+-- a level with these terminals, and its next node
+unfoldable pub growing : ConfiguredLevel → List Outlet → GrowingLevel
+growing l ts = record { lists = level_with l ts; next = length l.buses + length ts }
 
-abbrev pub with_switches : ConfiguredNetwork → ℕ → ℕ → Network
-with_switches n k count = with_part (λ level. first_switches level count) n k
+-- all levels, where the terminals are those of their injections and of these lines
+unfoldable pub levels_with : ConfiguredNetwork → List ConfiguredLine → List GrowingLevel
+levels_with n lines = map (λ l. growing l (outlets (record n { lines = lines }) l)) n.levels
 
-abbrev pub with_items : ConfiguredNetwork → ℕ → ℕ → Network
-with_items n k count = with_part (λ level. first_items level count) n k
+-- the breaker of an end at the next node
+abbrev pub end_breaker : List ℕ → ℕ → ℕ → Bool → SwitchBetween
+end_breaker id bus node connected = record { id = id; kind = Breaker; node1 = pos bus; node2 = pos node; opened = not connected; retained = false; fictitious = false }
 
--- all levels and the first lines, each at its nodes of the whole network
-unfoldable pub with_lines : ConfiguredNetwork → ℕ → Network
-with_lines n k = record (translated (first_lines n k)) { lines = map (translated_line n) (take k n.lines) }
+-- a level with one more breaker, at its next node
+unfoldable pub grown : List ℕ → ℕ → Bool → GrowingLevel → GrowingLevel
+grown id bus connected g = record { lists = record g.lists { switches = g.lists.switches ++ end_breaker id bus g.next connected ∷ [] }; next = g.next + 1 }
+
+-- a level in a substation of its own
+abbrev pub housed : GrowingLevel → SubstationLists
+housed g = record { id = substation_id g.lists.id; levels = g.lists ∷ []; transformers = [] }

@@ -153,19 +153,19 @@ find_push test (y ∷ ys) x n h = find_push_by y (test y) (find test ys) (find t
 find_on : (test : Placed → Bool) (all : List Placed) (i : ℕ) (d : Placed) → i < length all → find test (take i all) ≡ None → test (get_or all i d) ≡ false → find test (take (i + 1) all) ≡ None
 find_on test all i d lt n h = ap (find test) (take_more all i d lt) ∙ find_push test (take i all) (get_or all i d) n h
 
-pub bar_found : (ns : List ℕ) (marks : List Bool) (all : List Placed) (i : ℕ) (p : Placed) (t : Bool) → i < length all → p ≡ get_or all i p → marked_busbar ns marks (take i all) ≡ None
-    → t ≡ (is_marked ns marks p.node && is_busbar p.stand) → t ≡ true → marked_busbar ns marks all ≡ Some p
+pub bar_found : (ns : List ℕ) (marks : List Bool) (all : List Placed) (i : ℕ) (p : Placed) → i < length all → p ≡ get_or all i p → marked_busbar ns marks (take i all) ≡ None → (is_marked ns marks p.node && is_busbar p.stand) ≡ true
+    → marked_busbar ns marks all ≡ Some p
 unfolding marked_busbar
-bar_found ns marks all i p t lt e n f h =
+bar_found ns marks all i p lt e n h =
     let P : Placed → Type 0 = λ z. (is_marked ns marks z.node && is_busbar z.stand) ≡ true in
-    find_at (λ p. is_marked ns marks p.node && is_busbar p.stand) all i p lt n (subst P e (sym f ∙ h)) ∙ ap Some (sym e)
+    find_at (λ p. is_marked ns marks p.node && is_busbar p.stand) all i p lt n (subst P e h) ∙ ap Some (sym e)
 
-pub bar_on : (ns : List ℕ) (marks : List Bool) (all : List Placed) (i : ℕ) (p : Placed) (t : Bool) → i < length all → p ≡ get_or all i p → marked_busbar ns marks (take i all) ≡ None
-    → t ≡ (is_marked ns marks p.node && is_busbar p.stand) → t ≡ false → marked_busbar ns marks (take (i + 1) all) ≡ None
+pub bar_on : (ns : List ℕ) (marks : List Bool) (all : List Placed) (i : ℕ) (p : Placed) → i < length all → p ≡ get_or all i p → marked_busbar ns marks (take i all) ≡ None → (is_marked ns marks p.node && is_busbar p.stand) ≡ false
+    → marked_busbar ns marks (take (i + 1) all) ≡ None
 unfolding marked_busbar
-bar_on ns marks all i p t lt e n f h =
+bar_on ns marks all i p lt e n h =
     let P : Placed → Type 0 = λ z. (is_marked ns marks z.node && is_busbar z.stand) ≡ false in
-    find_on (λ p. is_marked ns marks p.node && is_busbar p.stand) all i p lt n (subst P e (sym f ∙ h))
+    find_on (λ p. is_marked ns marks p.node && is_busbar p.stand) all i p lt n (subst P e h)
 
 pub bar_start : (ns : List ℕ) (marks : List Bool) (all : List Placed) → marked_busbar ns marks (take 0 all) ≡ None
 unfolding marked_busbar

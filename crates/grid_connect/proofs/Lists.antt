@@ -1,10 +1,10 @@
 -- The lists that the code makes.
-use Rattle.std.proofs.Common.{◌≡◌, refl, sym, ap, ◌∙◌, subst, ℕ, zero, suc, ◌+◌, ◌<◌, ◌≤◌, Bool, true, false, cond, ◌&&◌, ◌||◌, List, [], ◌∷◌, ◌++◌, length, inl, inr, arith, take, get_or, replicate}
+use Rattle.std.proofs.Common.{◌≡◌, refl, sym, ap, ◌∙◌, subst, ℕ, zero, suc, ◌+◌, ◌≤◌, Bool, true, false, cond, ◌&&◌, ◌||◌, List, [], ◌∷◌, ◌++◌, length, inl, inr, arith, take, replicate}
 use Rattle.std.proofs.Math.ListN.{get_or-replicate, length-replicate, get_or-eq_default}
 use Rattle.std.proofs.lemmas.Bool.{cases_eq, cases_lt, eq-eqb, ne_eqb, and_parts}
 use Rattle.std.specs.Prelude.{eqb, slice_get, map, filter}
 use Rattle.std.specs.List.{list_any, list_all, slice_index_or}
-use Rattle.std.proofs.lemmas.List.{take_more, map-append, take_all}
+use Rattle.std.proofs.lemmas.List.{map-append, take_all}
 use Rattle.std.proofs.lemmas.List.Folds.{list_any-append}
 use Rattle.grid_graph.proofs.Reach.{In}
 use Rattle.grid_level.specs.declared.Switch.{Switch}
@@ -97,21 +97,17 @@ BusbarsTo ns all marks = (n : ℕ) → among ns n ≡ true → is_goal marks (in
 pub bars_none : (ns : List ℕ) (marks : List Bool) (count : ℕ) (all : List Placed) → marks ≡ replicate count false → BusbarsTo ns (take 0 all) marks
 bars_none ns marks count all e n i = ap (λ z. is_goal z (index_in ns n)) e ∙ marks_none count (index_in ns n)
 
-pub bars_more : (ns : List ℕ) (all : List Placed) (i index : ℕ) (p : Placed) (old new : List Bool) (bar : Bool) → i < length all → p ≡ get_or all i p → In p.node ns → index ≡ index_in ns p.node → bar ≡ is_busbar p.stand
-    → ((k : ℕ) → is_goal new k ≡ is_goal old k || (eqb index k && bar)) → BusbarsTo ns (take i all) old → BusbarsTo ns (take (i + 1) all) new
+pub bars_more : (ns : List ℕ) (before : List Placed) (p : Placed) (old new : List Bool) → In p.node ns → ((k : ℕ) → is_goal new k ≡ is_goal old k || (eqb (index_in ns p.node) k && is_busbar p.stand)) → BusbarsTo ns before old
+    → BusbarsTo ns (before ++ p ∷ []) new
 unfolding stands_at
-bars_more ns all i index p old new bar lt at inside e b marks so_far n j =
+bars_more ns before p old new inside marks so_far n j =
     let test : Placed → Bool = λ q. eqb q.node n && is_busbar q.stand in
     let k = index_in ns n in
-    let same : eqb index k ≡ eqb p.node n = ap (λ z. eqb z k) e ∙ same_index ns p.node n inside (among_In n ns j) in
     marks k
-    ∙ ap (λ t. is_goal old k || (t && bar)) same
-    ∙ ap (λ t. is_goal old k || (eqb p.node n && t)) b
+    ∙ ap (λ t. is_goal old k || (t && is_busbar p.stand)) (same_index ns p.node n inside (among_In n ns j))
     ∙ ap (λ t. t || test p) (so_far n j)
-    ∙ ap (λ t. list_any test (take i all) || t) (or_false (test p))
-    ∙ sym (list_any-append test (take i all) (p ∷ []))
-    ∙ ap (λ (z : Placed). list_any test (take i all ++ z ∷ [])) at
-    ∙ ap (list_any test) (sym (take_more all i p lt))
+    ∙ ap (λ t. list_any test before || t) (or_false (test p))
+    ∙ sym (list_any-append test before (p ∷ []))
 
 pub bars_end : (level : VoltageLevel) (marks : List Bool) (all : List Placed) (i : ℕ) → all ≡ level.placed → length all ≤ i → BusbarsTo (nodes level) (take i all) marks → AreBusbars level marks
 unfolding carries_busbar

@@ -62,11 +62,12 @@ plan_closes level a [] h e = absurd (along_differs (is_open level) (least_path (
 plan_closes level a (p ∷ ps) h e = refl
 
 -- along the least route the plan closes something, and connects the node
-pub closes_along : (level : VoltageLevel) (flags : List Bool) (node : ℕ) (edges : List PathEdge) (goals : List Bool) (path opens : List ℕ) → edges ≡ path_edges_of (positioned level flags) → AreBusbars level goals
-    → IsTrue (among (nodes level) node) → IsLeastRoute edges goals (index_in (nodes level) node) path → length flags ≡ length level.switches → opens ≡ filter (λ p. slice_index_or flags p false) path
-    → is_connected (positioned level flags) node ≡ false → (connect_plan_of (positioned level flags) node ≡ Close opens) × Connects (positioned level flags) node (Close opens)
-closes_along level flags node edges goals path opens made bars here least same o apart =
-    let both = planned level flags node edges goals made bars here path opens least same o in
+pub closes_along : (level : VoltageLevel) (flags : List Bool) (node : ℕ) (goals : List Bool) (path : List ℕ) → AreBusbars level goals → IsTrue (among (nodes level) node)
+    → IsLeastRoute (path_edges_of (positioned level flags)) goals (index_in (nodes level) node) path → length flags ≡ length level.switches → is_connected (positioned level flags) node ≡ false
+    → (connect_plan_of (positioned level flags) node ≡ Close (filter (λ p. slice_index_or flags p false) path)) × Connects (positioned level flags) node (Close (filter (λ p. slice_index_or flags p false) path))
+closes_along level flags node goals path bars here least same apart =
+    let opens = filter (λ p. slice_index_or flags p false) path in
+    let both = planned level flags node (path_edges_of (positioned level flags)) goals refl bars here path opens least same refl in
     let closes = plan_closes (positioned level flags) node opens apart both.0 in
     let P : ConnectPlan → Type 0 = λ z. Connects (positioned level flags) node z in
     (both.0 ∙ closes, subst P closes both.1)

@@ -30,13 +30,13 @@ module _ {X Y : Type 0} (f : X → Y) (p : X → Bool) (xs : List X) (i : ℕ) (
 
 -- ---- items, each made into one, or into several
 
-pub mapped_more : {X Y : Type 0} (f : X → Y) (xs : List X) (i : ℕ) (x : X) (start old new : List Y) → slice_get xs i ≡ Some x → old ≡ start ++ map f (take i xs) → new ≡ old ++ f x ∷ [] → new ≡ start ++ map f (take (i + 1) xs)
-mapped_more f xs i x start old new at was is =
-    is ∙ ap (λ z. z ++ f x ∷ []) was ∙ append_assoc start (map f (take i xs)) (f x ∷ []) ∙ ap (λ z. start ++ z) (sym (ap (map f) (take_one xs i x at) ∙ map-append f (take i xs) (x ∷ [])))
+pub mapped_more : {X Y : Type 0} (f : X → Y) (xs : List X) (i : ℕ) (x : X) (start old : List Y) → slice_get xs i ≡ Some x → old ≡ start ++ map f (take i xs) → old ++ f x ∷ [] ≡ start ++ map f (take (i + 1) xs)
+mapped_more f xs i x start old at was =
+    ap (λ z. z ++ f x ∷ []) was ∙ append_assoc start (map f (take i xs)) (f x ∷ []) ∙ ap (λ z. start ++ z) (sym (ap (map f) (take_one xs i x at) ∙ map-append f (take i xs) (x ∷ [])))
 
-pub flat_more : {X Y : Type 0} (f : X → List Y) (xs : List X) (i : ℕ) (x : X) (old new : List Y) → slice_get xs i ≡ Some x → old ≡ flat_map f (take i xs) → new ≡ old ++ f x → new ≡ flat_map f (take (i + 1) xs)
-flat_more f xs i x old new at was is =
-    is ∙ ap (λ z. z ++ f x) was ∙ sym (ap (flat_map f) (take_one xs i x at) ∙ flat_map-append f (take i xs) (x ∷ []) ∙ ap (λ z. flat_map f (take i xs) ++ z) (append-nil (f x)))
+pub flat_more : {X Y : Type 0} (f : X → List Y) (xs : List X) (i : ℕ) (x : X) (old : List Y) → slice_get xs i ≡ Some x → old ≡ flat_map f (take i xs) → old ++ f x ≡ flat_map f (take (i + 1) xs)
+flat_more f xs i x old at was =
+    ap (λ z. z ++ f x) was ∙ sym (ap (flat_map f) (take_one xs i x at) ∙ flat_map-append f (take i xs) (x ∷ []) ∙ ap (λ z. flat_map f (take i xs) ++ z) (append-nil (f x)))
 
 -- ---- an item that is read
 

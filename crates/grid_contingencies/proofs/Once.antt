@@ -1,8 +1,8 @@
 -- Items that are listed once, and how many contingencies they make.
-use Rattle.std.proofs.Common.{◌≡◌, refl, sym, ap, ◌∙◌, subst, ℕ, zero, suc, ◌+◌, ◌<◌, ◌≤◌, Bool, true, false, cond, not, ◌||◌, ◌&&◌, List, [], ◌∷◌, ◌++◌, map, length, get_or, take, append_assoc, arith, Some}
+use Rattle.std.proofs.Common.{◌≡◌, refl, sym, ap, ◌∙◌, ℕ, zero, suc, ◌+◌, ◌<◌, ◌≤◌, Bool, true, false, not, ◌||◌, List, [], ◌∷◌, ◌++◌, map, length, take, arith, Some}
 use Rattle.std.specs.Prelude.{slice_get, filter}
 use Rattle.std.specs.List.{list_any, enumerate_from, flat_map}
-use Rattle.std.proofs.lemmas.Bool.{and_parts, true≢false, false≢true}
+use Rattle.std.proofs.lemmas.Bool.{and_parts}
 use Rattle.std.proofs.lemmas.List.{append-nil, length-append, take_all}
 use Rattle.std.proofs.lemmas.List.Folds.{list_any-append}
 use Rattle.std.proofs.lemmas.List.FromFn.{length-enumerate_from}
@@ -109,13 +109,13 @@ once_all items listed i most is = is ∙ ap (λ z. map (λ (at : ℕ × Each). a
 
 -- ---- how many they make
 
-pub counted_more : (net : Network) (items : List Each) (i : ℕ) (item : Each) (count many next : ℕ) → slice_get items i ≡ Some item → count ≡ length (flat_map (made_by net) (take i items)) → many ≡ length (pieces_of net item.kind)
-    → next ≡ count + many → next ≡ length (flat_map (made_by net) (take (i + 1) items))
+pub counted_more : (net : Network) (items : List Each) (i : ℕ) (item : Each) → slice_get items i ≡ Some item
+    → length (flat_map (made_by net) (take i items)) + length (pieces_of net item.kind) ≡ length (flat_map (made_by net) (take (i + 1) items))
 unfolding made_by
-counted_more net items i item count many next at was is more =
+counted_more net items i item at =
     let next_take : i + 1 ≡ suc i = omega arith in
     let all = ap (flat_map (made_by net)) (ap (λ z. take z items) next_take ∙ take_got items i item at) ∙ flat_map-append (made_by net) (take i items) (item ∷ [])
     ∙ ap (λ z. flat_map (made_by net) (take i items) ++ z) (append-nil (made_by net item)) in
     let long = ap length all ∙ length-append (flat_map (made_by net) (take i items)) (made_by net item) in
     let own = length_map (made_of item.role) (pieces_of net item.kind) in
-    omega (arith, was, is, more, long, own)
+    omega (arith, long, own)

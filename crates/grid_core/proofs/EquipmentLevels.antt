@@ -127,7 +127,7 @@ module _ (net : Network) (sound : IsSound net) (e : List ℕ) where
       let j = some_value (position (has_terminal e s) (levels net)) (some_position (has_terminal e s) (levels net) ∙ any_got (has_terminal e s) (levels net) k l h at) in
       let found = position_found (has_terminal e s) (levels net) j.0 j.1 in
       let there = got-level (levels net) j.0 found.0 in
-      let same : j.0 ≡ k = one_home net e s j.0 k there.0 l sound there.1 at (found.1 there.0 there.1) h in
+      let same : j.0 ≡ k = one_home net e s j.0 k sound (there.0, there.1, found.1 there.0 there.1) (l, at, h) in
       let node = some_value (terminal_test e s l) (sym (terminal_tested e s l) ∙ h) in
       (node.0, terminal_somewhere net e s k l (j.1 ∙ ap (λ z. Some z) same) at ∙ ap (option_map (λ y. (k, y))) node.1)
 

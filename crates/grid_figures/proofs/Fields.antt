@@ -1,18 +1,11 @@
 -- Figures by their fields.
-use Rattle.std.proofs.Common.{◌≡◌, ℕ, ℤ, List, length}
+use Rattle.std.proofs.Common.{◌≡◌, ℕ, List, length}
 use Rattle.std.specs.Prelude.{count_by}
 use Rattle.grid_graph.specs.Components.{places, component_numbers}
 use Rattle.grid_graph.specs.Joined.{groups}
 use Rattle.grid_unions.specs.declared.summed.Sums.{Sums}
 use Rattle.grid_figures.specs.declared.Figures.{Figures}
 use Rattle.grid_figures.specs.Figures.{figures_by, main_sum, total_sum, is_zero}
-
-unfoldable build : ℕ → ℕ → ℕ → ℤ → ℤ → ℤ → ℤ → Figures
-build b n m load generation total_load total_generation =
-    record { buses = b; components = n; main = m; load = load; generation = generation; total_load = total_load; total_generation = total_generation }
-
-same_build : {b n m c k l : ℕ} {u v w x p q r s : ℤ} → b ≡ c → n ≡ k → m ≡ l → u ≡ p → v ≡ q → w ≡ r → x ≡ s → build b n m u v w x ≡ build c k l p q r s
-same_build e1 e2 e3 e4 e5 e6 e7 = cc
 
 -- the fields are those of the figures of buses with these sums, which pairs join
 pub record AreFieldsOf (sums : List Sums) (pairs : List (ℕ × ℕ)) (f : Figures) : Type 0 where
@@ -26,5 +19,13 @@ pub record AreFieldsOf (sums : List Sums) (pairs : List (ℕ × ℕ)) (f : Figur
 
 -- so they are those figures
 pub figures_from : (sums : List Sums) (pairs : List (ℕ × ℕ)) (f : Figures) → AreFieldsOf sums pairs f → f ≡ figures_by sums pairs
-unfolding figures_by build
-figures_from sums pairs f s = same_build s.buses s.components s.main s.load s.generation s.total_load s.total_generation
+unfolding figures_by
+figures_from sums pairs f s = λ i. record {
+  buses = s.buses i;
+  components = s.components i;
+  main = s.main i;
+  load = s.load i;
+  generation = s.generation i;
+  total_load = s.total_load i;
+  total_generation = s.total_generation i;
+}

@@ -124,12 +124,16 @@ led_by nodes pairs b rise holds i =
     let least : is_least nodes pairs r.0 ≡ true = none_joined nodes pairs r.0 (λ c j k. r.3 c j (joined_trans nodes pairs holds b r.0 c i r.2 k)) in
     (r.0, In_filter (is_least nodes pairs) r.0 nodes r.1 least, joined_symm nodes pairs holds b r.0 r.1 r.2)
 
-pub leads_alone : (nodes : List ℕ) (pairs : List (ℕ × ℕ)) (a c b : ℕ) → Holds nodes pairs → In b nodes → In a (least_nodes nodes pairs) → In c (least_nodes nodes pairs) → joined nodes pairs a b ≡ true → joined nodes pairs c b ≡ true → a ≡ c
+-- a node is the least of its group, and joined to another one
+abbrev pub Leads : List ℕ → List (ℕ × ℕ) → ℕ → ℕ → Type 0
+Leads nodes pairs a b = In a (least_nodes nodes pairs) × (joined nodes pairs a b ≡ true)
+
+pub leads_alone : (nodes : List ℕ) (pairs : List (ℕ × ℕ)) (a c b : ℕ) → Holds nodes pairs → In b nodes → Leads nodes pairs a b → Leads nodes pairs c b → a ≡ c
 unfolding least_nodes
-leads_alone nodes pairs a c b holds there i j h k =
-    let r = filter_In (is_least nodes pairs) a nodes i in
-    let s = filter_In (is_least nodes pairs) c nodes j in
-    let forth : joined nodes pairs a c ≡ true = joined_trans nodes pairs holds a b c r.0 h (joined_symm nodes pairs holds c b there k) in
+leads_alone nodes pairs a c b holds there h k =
+    let r = filter_In (is_least nodes pairs) a nodes h.0 in
+    let s = filter_In (is_least nodes pairs) c nodes k.0 in
+    let forth : joined nodes pairs a c ≡ true = joined_trans nodes pairs holds a b c r.0 h.1 (joined_symm nodes pairs holds c b there k.1) in
     let back : joined nodes pairs c a ≡ true = joined_symm nodes pairs holds a c s.0 forth in
     elim (cases_lt a c) [
       | inl lt ↦ absurd (both_ways _ (least_apart_from nodes pairs c a s.1 r.0 lt) back)

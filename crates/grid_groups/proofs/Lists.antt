@@ -1,5 +1,5 @@
 -- Lists by their places.
-use Rattle.std.proofs.Common.{◌≡◌, refl, sym, ap, ◌∙◌, subst, ℕ, zero, suc, ◌+◌, ◌<◌, Bool, true, false, cond, List, [], ◌∷◌, length, get_or, inl, inr, arith, Some}
+use Rattle.std.proofs.Common.{◌≡◌, refl, sym, ap, ap₂, ◌∙◌, subst, ℕ, zero, suc, ◌+◌, ◌<◌, Bool, true, false, cond, List, [], ◌∷◌, length, get_or, inl, inr, arith, Some}
 use Rattle.std.specs.Prelude.{eqb, map, filter, slice_get}
 use Rattle.std.specs.List.{list_any, filter_map, range_with_len}
 use Rattle.std.proofs.lemmas.Bool.{or_cases, eqb-true, false≢true}
@@ -114,17 +114,17 @@ map_items ns (k ∷ ks) below = rw (slice_get-get_or ns k 0 (below 0 k (omega ar
 
 -- ---- two lists made of the same places
 
-both_by : {A B Y : Type 0} (f : A → Y) (g : B → Y) (a : A) (b : B) (firsts : List A) (seconds : List B) (t : Bool) → f a ≡ g b → map f firsts ≡ map g seconds → map f (cond t (a ∷ firsts) firsts) ≡ map g (cond t (b ∷ seconds) seconds)
-both_by f g a b firsts seconds true e h = ap (λ y. y ∷ map f firsts) e ∙ ap (λ z. g b ∷ z) h
-both_by f g a b firsts seconds false e h = h
-
 pub both_made : {A B Y : Type 0} (f : A → Y) (g : B → Y) (u : A → Bool) (v : B → Bool) (a : ℕ → A) (b : ℕ → B) (ks : List ℕ)
     → ((i : ℕ) (d : ℕ) → i < length ks → (u (a (get_or ks i d)) ≡ v (b (get_or ks i d))) × (f (a (get_or ks i d)) ≡ g (b (get_or ks i d))))
     → map f (filter u (map a ks)) ≡ map g (filter v (map b ks))
 both_made f g u v a b [] h = refl
 both_made f g u v a b (k ∷ ks) h =
     ap (λ t. map f (cond t (a k ∷ filter u (map a ks)) (filter u (map a ks)))) (h 0 k (omega arith)).0
-    ∙ both_by f g (a k) (b k) (filter u (map a ks)) (filter v (map b ks)) (v (b k)) (h 0 k (omega arith)).1 (both_made f g u v a b ks (λ i d lt. h (suc i) d (omega arith)))
+    ∙ by (v (b k)) (both_made f g u v a b ks (λ i d lt. h (suc i) d (omega arith)))
+  where
+    by : (t : Bool) → map f (filter u (map a ks)) ≡ map g (filter v (map b ks)) → map f (cond t (a k ∷ filter u (map a ks)) (filter u (map a ks))) ≡ map g (cond t (b k ∷ filter v (map b ks)) (filter v (map b ks)))
+    by true rest = ap₂ (λ y ys. y ∷ ys) (h 0 k (omega arith)).1 rest
+    by false rest = rest
 
 pub all_made : {A B Y : Type 0} (f : A → Y) (g : B → Y) (a : ℕ → A) (b : ℕ → B) (ks : List ℕ) → ((i : ℕ) (d : ℕ) → i < length ks → f (a (get_or ks i d)) ≡ g (b (get_or ks i d))) → map f (map a ks) ≡ map g (map b ks)
 all_made f g a b [] h = refl

@@ -1,5 +1,5 @@
 -- One step more of a loop.
-use Rattle.std.proofs.Common.{◌≡◌, refl, sym, ap, ◌∙◌, subst, ℕ, zero, suc, ◌+◌, ◌<◌, ◌≤◌, Bool, true, false, cond, ◌&&◌, List, [], ◌∷◌, ◌++◌, length, get_or, take, append_assoc, arith, Some}
+use Rattle.std.proofs.Common.{◌≡◌, refl, sym, ap, ◌∙◌, subst, ℕ, zero, suc, ◌+◌, ◌<◌, ◌≤◌, Bool, true, false, cond, ◌&&◌, List, [], ◌∷◌, ◌++◌, length, get_or, take, arith, Some}
 use Rattle.std.specs.Bool.{beq}
 use Rattle.std.specs.Prelude.{eqb, map, filter, slice_get}
 use Rattle.std.specs.List.{list_all, filter_map, range_with_len, zip}
@@ -8,6 +8,7 @@ use Rattle.std.proofs.lemmas.Bool.{and_parts, and_from}
 use Rattle.std.proofs.lemmas.Option.{slice_get_read}
 use Rattle.std.proofs.lemmas.List.{append-nil, map-append, take_more}
 use Rattle.std.proofs.lemmas.List.Elements.{filter_more, filter-append, filter_map-append}
+use Rattle.grid_lemmas.proofs.Lists.{take_next}
 use Rattle.grid_lemmas.proofs.Ranges.{range_more}
 use Rattle.grid_graph.specs.Components.{places}
 use Rattle.grid_level.specs.declared.Switch.{Switch}
@@ -19,41 +20,17 @@ use Rattle.grid_level.specs.Kept.{among, ends_among}
 use Rattle.grid_groups.specs.Labels.{items_at, places_with, passing_flag, passing_flags}
 use Rattle.grid_groups.proofs.Lists.{get_or_any, passed_below}
 
--- ---- items that pass, behind others
-
-pub passed_more : {A B C : Type 0} (h : B → C) (f : A → B) (p : A → Bool) (xs : List A) (i : ℕ) (x : A) (old now : List C) → i < length xs → x ≡ get_or xs i x → p x ≡ true
-    → now ≡ old ++ map h (map f (filter p (take i xs))) → now ++ h (f x) ∷ [] ≡ old ++ map h (map f (filter p (take (i + 1) xs)))
-passed_more {A} h f p xs i x old now lt at pass so_far =
-    ap (λ z. z ++ h (f x) ∷ []) so_far ∙ append_assoc old (map h (map f (filter p (take i xs)))) (h (f x) ∷ [])
-    ∙ ap (λ z. old ++ z) (sym (ap (λ z. map h (map f z)) step ∙ ap (map h) (map-append f (filter p (take i xs)) (x ∷ [])) ∙ map-append h (map f (filter p (take i xs))) (f x ∷ [])))
-  where
-    step : filter p (take (i + 1) xs) ≡ filter p (take i xs) ++ x ∷ []
-    step = filter_more p xs i x lt ∙ ap (λ (z : A). filter p (take i xs) ++ cond (p z) (z ∷ []) []) (sym at) ∙ ap (λ t. filter p (take i xs) ++ cond t (x ∷ []) []) pass
-
-pub skipped_more : {A B C : Type 0} (h : B → C) (f : A → B) (p : A → Bool) (xs : List A) (i : ℕ) (x : A) (old now : List C) → i < length xs → x ≡ get_or xs i x → p x ≡ false
-    → now ≡ old ++ map h (map f (filter p (take i xs))) → now ≡ old ++ map h (map f (filter p (take (i + 1) xs)))
-skipped_more {A} h f p xs i x old now lt at pass so_far = so_far ∙ ap (λ z. old ++ map h (map f z)) (sym step)
-  where
-    step : filter p (take (i + 1) xs) ≡ filter p (take i xs)
-    step = filter_more p xs i x lt ∙ ap (λ (z : A). filter p (take i xs) ++ cond (p z) (z ∷ []) []) (sym at) ∙ ap (λ t. filter p (take i xs) ++ cond t (x ∷ []) []) pass ∙ append-nil (filter p (take i xs))
-
-pub mapped_more : {A B C : Type 0} (h : B → C) (f : A → B) (xs : List A) (i : ℕ) (x : A) (old now : List C) → i < length xs → x ≡ get_or xs i x
-    → now ≡ old ++ map h (map f (take i xs)) → now ++ h (f x) ∷ [] ≡ old ++ map h (map f (take (i + 1) xs))
-mapped_more {A} h f xs i x old now lt at so_far =
-    ap (λ z. z ++ h (f x) ∷ []) so_far ∙ append_assoc old (map h (map f (take i xs))) (h (f x) ∷ [])
-    ∙ ap (λ z. old ++ z) (sym (ap (λ z. map h (map f z)) step ∙ ap (map h) (map-append f (take i xs) (x ∷ [])) ∙ map-append h (map f (take i xs)) (f x ∷ [])))
-  where
-    step : take (i + 1) xs ≡ take i xs ++ x ∷ []
-    step = take_more xs i x lt ∙ ap (λ (z : A). take i xs ++ z ∷ []) (sym at)
-
 -- ---- items at places
 
-pub items_more : {X : Type 0} (xs : List X) (ks : List ℕ) (i : ℕ) (x : X) → i < length ks → slice_get xs (get_or ks i 0) ≡ Some x → items_at xs (take (i + 1) ks) ≡ items_at xs (take i ks) ++ x ∷ []
+pub items_next : {X Y : Type 0} (f : X → Y) (xs : List X) (ks : List ℕ) (i : ℕ) (x : X) → i < length ks → slice_get xs (get_or ks i 0) ≡ Some x → map f (items_at xs (take i ks)) ++ f x ∷ [] ≡ map f (items_at xs (take (i + 1) ks))
 unfolding items_at
-items_more xs ks i x lt e =
-    ap (filter_map (slice_get xs)) (take_more ks i 0 lt)
-    ∙ filter_map-append (slice_get xs) (take i ks) (get_or ks i 0 ∷ [])
-    ∙ ap (λ z. filter_map (slice_get xs) (take i ks) ++ z) (rw e refl)
+items_next f xs ks i x lt e = sym (ap (map f) step ∙ map-append f (items_at xs (take i ks)) (x ∷ []))
+  where
+    step : items_at xs (take (i + 1) ks) ≡ items_at xs (take i ks) ++ x ∷ []
+    step =
+        ap (filter_map (slice_get xs)) (take_more ks i 0 lt)
+        ∙ filter_map-append (slice_get xs) (take i ks) (get_or ks i 0 ∷ [])
+        ∙ ap (λ z. filter_map (slice_get xs) (take i ks) ++ z) (rw e refl)
 
 -- ---- places that pass
 
@@ -90,10 +67,8 @@ all_at p [] i x h lt at = absurd (omega arith)
 all_at {X} p (y ∷ xs) zero x h lt at = let P : X → Type 0 = λ z. p z ≡ true in subst P (sym at) (and_parts (p y) (list_all p xs) h).0
 all_at p (y ∷ xs) (suc i) x h lt at = all_at p xs i x (and_parts (p y) (list_all p xs) h).1 (omega arith) at
 
-pub map_next : {A B : Type 0} (f : A → B) (xs : List A) (i : ℕ) (x : A) (now : List B) (y : B) → i < length xs → x ≡ get_or xs i x → now ≡ map f (take i xs) → y ≡ f x → now ++ y ∷ [] ≡ map f (take (i + 1) xs)
-map_next {A} f xs i x now y lt at so_far e =
-    ap (λ z. z ++ y ∷ []) so_far ∙ ap (λ z. map f (take i xs) ++ z ∷ []) e
-    ∙ sym (ap (map f) (take_more xs i x lt ∙ ap (λ (z : A). take i xs ++ z ∷ []) (sym at)) ∙ map-append f (take i xs) (x ∷ []))
+pub map_next : {A B : Type 0} (f : A → B) (xs : List A) (i : ℕ) (x : A) → i < length xs → x ≡ get_or xs i x → map f (take i xs) ++ f x ∷ [] ≡ map f (take (i + 1) xs)
+map_next f xs i x lt at = sym (ap (map f) (take_next xs i x lt at) ∙ map-append f (take i xs) (x ∷ []))
 
 pub switch_at : (level : VoltageLevel) (ss : List Switch) (i : ℕ) (s : Switch) → list_all (ends_among (nodes level)) (edges level) ≡ true → ss ≡ level.switches → i < length ss → s ≡ get_or ss i s
     → (among (nodes level) s.node1 ≡ true) × (among (nodes level) s.node2 ≡ true)
@@ -184,25 +159,14 @@ places_within keys row key count e long k lt =
 pub read_item : {X : Type 0} (xs all : List X) (k : ℕ) (x : X) → xs ≡ all → k < length all → x ≡ get_or xs k x → slice_get all k ≡ Some x
 read_item xs all k x same lt at = slice_get_read all (length all) k x refl lt (at ∙ ap (λ z. get_or z k x) same)
 
-pub items_next : {X Y : Type 0} (f : X → Y) (xs all : List X) (ks : List ℕ) (i : ℕ) (x : X) (now : List Y) (y : Y) → i < length ks → xs ≡ all → get_or ks i 0 < length all → x ≡ get_or xs (get_or ks i 0) x
-    → now ≡ map f (items_at all (take i ks)) → y ≡ f x → now ++ y ∷ [] ≡ map f (items_at all (take (i + 1) ks))
-items_next f xs all ks i x now y lt same inside at so_far e =
-    ap (λ z. z ++ y ∷ []) so_far ∙ ap (λ z. map f (items_at all (take i ks)) ++ z ∷ []) e
-    ∙ sym (ap (map f) (items_more all ks i x lt (read_item xs all (get_or ks i 0) x same inside at)) ∙ map-append f (items_at all (take i ks)) (x ∷ []))
-
 -- ---- what is made of the items that pass
 
-pub passed_next : {A B : Type 0} (f : A → B) (p : A → Bool) (xs : List A) (i : ℕ) (x : A) (now : List B) (y : B) → i < length xs → x ≡ get_or xs i x → p x ≡ true → now ≡ map f (filter p (take i xs)) → y ≡ f x
-    → now ++ y ∷ [] ≡ map f (filter p (take (i + 1) xs))
-passed_next {A} f p xs i x now y lt at pass so_far e =
-    ap (λ z. z ++ y ∷ []) so_far ∙ ap (λ z. map f (filter p (take i xs)) ++ z ∷ []) e ∙ sym (ap (map f) step ∙ map-append f (filter p (take i xs)) (x ∷ []))
-  where
-    step : filter p (take (i + 1) xs) ≡ filter p (take i xs) ++ x ∷ []
-    step = filter_more p xs i x lt ∙ ap (λ (z : A). filter p (take i xs) ++ cond (p z) (z ∷ []) []) (sym at) ∙ ap (λ t. filter p (take i xs) ++ cond t (x ∷ []) []) pass
+filter_next : {A : Type 0} (p : A → Bool) (xs : List A) (i : ℕ) (x : A) (t : Bool) → i < length xs → x ≡ get_or xs i x → p x ≡ t → filter p (take (i + 1) xs) ≡ filter p (take i xs) ++ cond t (x ∷ []) []
+filter_next {A} p xs i x t lt at e =
+    filter_more p xs i x lt ∙ ap (λ (z : A). filter p (take i xs) ++ cond (p z) (z ∷ []) []) (sym at) ∙ ap (λ u. filter p (take i xs) ++ cond u (x ∷ []) []) e
 
-pub skipped_next : {A B : Type 0} (f : A → B) (p : A → Bool) (xs : List A) (i : ℕ) (x : A) (now : List B) → i < length xs → x ≡ get_or xs i x → p x ≡ false → now ≡ map f (filter p (take i xs))
-    → now ≡ map f (filter p (take (i + 1) xs))
-skipped_next {A} f p xs i x now lt at pass so_far = so_far ∙ sym (ap (map f) step)
-  where
-    step : filter p (take (i + 1) xs) ≡ filter p (take i xs)
-    step = filter_more p xs i x lt ∙ ap (λ (z : A). filter p (take i xs) ++ cond (p z) (z ∷ []) []) (sym at) ∙ ap (λ t. filter p (take i xs) ++ cond t (x ∷ []) []) pass ∙ append-nil (filter p (take i xs))
+pub passed_next : {A B : Type 0} (f : A → B) (p : A → Bool) (xs : List A) (i : ℕ) (x : A) → i < length xs → x ≡ get_or xs i x → p x ≡ true → map f (filter p (take i xs)) ++ f x ∷ [] ≡ map f (filter p (take (i + 1) xs))
+passed_next f p xs i x lt at pass = sym (ap (map f) (filter_next p xs i x true lt at pass) ∙ map-append f (filter p (take i xs)) (x ∷ []))
+
+pub skipped_next : {A B : Type 0} (f : A → B) (p : A → Bool) (xs : List A) (i : ℕ) (x : A) → i < length xs → x ≡ get_or xs i x → p x ≡ false → map f (filter p (take i xs)) ≡ map f (filter p (take (i + 1) xs))
+skipped_next f p xs i x lt at fails = sym (ap (map f) (filter_next p xs i x false lt at fails ∙ append-nil (filter p (take i xs))))

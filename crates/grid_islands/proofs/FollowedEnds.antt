@@ -31,7 +31,7 @@ module _ (ends : List LevelEnd) (lasts : List (Option ℕ)) (level now : ℕ) (h
   pub marked_step : (m n : ℕ → Bool) (buses : List BranchBuses) → ((x : ℕ) → m x ≡ true → n x ≡ true) → ((own : BranchBuses) → slice_get buses here.branch ≡ Some own → AreMarked n own)
       → AreMarkedFrom ends level (count_to (Some now)) m buses → AreMarkedFrom ends level (count_to here.before) n buses
   marked_step m n buses kept own_marked before = record {
-    each = λ place end own found same le there. elim (one_behind ends lasts level now place here end linked at of_level found same le) [
+    each = λ place end own found same le there. elim (one_behind ends now place here end (linked.before now here at) found (same ∙ sym of_level) le) [
       | inl e ↦ own_marked own (ap (λ (z : LevelEnd). slice_get buses z.branch) (same_Some here end (sym at ∙ ap (slice_get ends) (sym e) ∙ found)) ∙ there)
       | inr past ↦ λ bus other i. kept bus (before.each place end own found same past there bus other i)
     ];
@@ -51,7 +51,7 @@ module _ (ends : List LevelEnd) (lasts : List (Option ℕ)) (level now : ℕ) (h
 
     pub made_step : AreMadeFrom f ends level (count_to (Some now)) branches buses → AreMadeFrom f ends level (count_to here.before) branches (slice_set buses here.branch (f own))
     made_step before = record {
-      each = λ place end spots found same le there. stays end.branch spots there (elim (one_behind ends lasts level now place here end linked at of_level found same le) [
+      each = λ place end spots found same le there. stays end.branch spots there (elim (one_behind ends now place here end (linked.before now here at) found (same ∙ sym of_level) le) [
         | inl e ↦ inl (ap (λ (z : LevelEnd). z.branch) (same_Some end here (sym found ∙ ap (slice_get ends) e ∙ at)))
         | inr past ↦ inr (before.each place end spots found same past there)
       ]);

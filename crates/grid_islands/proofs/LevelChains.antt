@@ -1,5 +1,5 @@
 -- The ends of a level, from the last one down.
-use Rattle.std.proofs.Common.{◌≡◌, refl, sym, ap, ◌∙◌, subst, ℕ, ◌+◌, ◌<◌, ◌≤◌, List, get_or, Option, Some, None, inl, inr, ◌⊎◌, arith}
+use Rattle.std.proofs.Common.{◌≡◌, refl, sym, ap, ◌∙◌, subst, ℕ, ◌+◌, ◌<◌, ◌≤◌, List, length, get_or, Option, Some, None, inl, inr, ◌⊎◌, arith}
 use Rattle.std.specs.Prelude.{slice_get}
 use Rattle.std.proofs.lemmas.Bool.{cases_eq, cases_lt}
 use Rattle.std.proofs.lemmas.Option.{get_or_from_slice_get, slice_get_within}
@@ -19,22 +19,21 @@ pub in_level : (ends : List LevelEnd) (bound level : ℕ) (at : Option ℕ) → 
 in_level ends bound level at is = record { there = λ place e. (is.there place e).1 }
 
 -- no end of the level is behind the last one
-pub none_behind : (ends : List LevelEnd) (lasts : List (Option ℕ)) (level : ℕ) (at : Option ℕ) (place : ℕ) (end : LevelEnd) → AreLinked ends lasts → slice_get lasts level ≡ Some at → slice_get ends place ≡ Some end → end.level ≡ level
-    → count_to at ≤ place → ⊥
+pub none_behind : (ends : List LevelEnd) (level : ℕ) (at : Option ℕ) (place : ℕ) (end : LevelEnd) → IsLastBefore ends (length ends) level at → slice_get ends place ≡ Some end → end.level ≡ level → count_to at ≤ place → ⊥
 unfolding count_to
-none_behind ends lasts level at place end is last found same le =
-    let r = (is.lasting level at last).others place end (slice_get_within ends place end found) found same in
+none_behind ends level at place end last found same le =
+    let r = last.others place end (slice_get_within ends place end found) found same in
     omega (arith, r.2, le, ap count_to r.1)
 
 -- what is behind the one before an end is that end, or behind it
-pub one_behind : (ends : List LevelEnd) (lasts : List (Option ℕ)) (level now place : ℕ) (here end : LevelEnd) → AreLinked ends lasts → slice_get ends now ≡ Some here → here.level ≡ level → slice_get ends place ≡ Some end → end.level ≡ level
-    → count_to here.before ≤ place → (place ≡ now) ⊎ (count_to (Some now) ≤ place)
+pub one_behind : (ends : List LevelEnd) (now place : ℕ) (here end : LevelEnd) → IsLastBefore ends now here.level here.before → slice_get ends place ≡ Some end → end.level ≡ here.level → count_to here.before ≤ place
+    → (place ≡ now) ⊎ (count_to (Some now) ≤ place)
 unfolding count_to
-one_behind ends lasts level now place here end is at of_level found same le = elim (cases_lt now place) [
+one_behind ends now place here end last found same le = elim (cases_lt now place) [
   | inl lt ↦ inr (omega (arith, lt))
   | inr not_past ↦ elim (cases_eq place now) [
     | inl e ↦ inl e
-    | inr ne ↦ (let r = (is.before now here at).others place end (omega (arith, not_past, ne)) found (same ∙ sym of_level) in absurd (omega (arith, r.2, le, ap count_to r.1)))
+    | inr ne ↦ (let r = last.others place end (omega (arith, not_past, ne)) found same in absurd (omega (arith, r.2, le, ap count_to r.1)))
   ]
 ]
 

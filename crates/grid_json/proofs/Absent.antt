@@ -70,11 +70,7 @@ injection_slots = codes "kind" ∷ codes "id" ∷ codes "node" ∷ figure_names
 
 figures_cover : (kind : InjectionKind) → covers injection_slots (injection_names kind) (other_names kind) ≡ true
 figures_cover injections.Load = refl
-figures_cover injections.Generator = refl
-figures_cover injections.Battery = refl
-figures_cover injections.ShuntCompensator = refl
-figures_cover injections.StaticVarCompensator = refl
-figures_cover injections.ConverterStation = refl
+figures_cover other = refl
 
 -- an injection with no figure of another kind has the members of its own
 pub injection_known : (kind : InjectionKind) (found : Members) → all_known injection_slots found ≡ true
@@ -92,11 +88,7 @@ added_injection_names kind = codes "do" ∷ codes "kind" ∷ codes "id" ∷ code
 
 added_figures_cover : (kind : InjectionKind) → covers added_injection_slots (added_injection_names kind) (other_names kind) ≡ true
 added_figures_cover injections.Load = refl
-added_figures_cover injections.Generator = refl
-added_figures_cover injections.Battery = refl
-added_figures_cover injections.ShuntCompensator = refl
-added_figures_cover injections.StaticVarCompensator = refl
-added_figures_cover injections.ConverterStation = refl
+added_figures_cover other = refl
 
 -- so it is with an added injection
 pub added_injection_known : (kind : InjectionKind) (found : Members) → all_known added_injection_slots found ≡ true

@@ -130,7 +130,7 @@ module _ (net : Network) (sound : IsSound net) (k : ℕ) (l : VoltageLevel) (at 
       by (Some j) e =
           let there = position_found (has_terminal bus 1) (levels net) j e in
           let got = some_got (levels net) j there.0 in
-          let same : j ≡ k = one_home net bus 1 j k got.0 l sound got.1 at (there.1 got.0 got.1) has in
+          let same : j ≡ k = one_home net bus 1 j k sound (got.0, got.1, there.1 got.0 got.1) (l, at, has) in
           terminal_somewhere net bus 1 k l (subst (λ (z : ℕ). level_of_terminal net bus 1 ≡ Some z) same e) at ∙ ap (option_map {U = ℕ × ℕ} (λ (y : ℕ). (k, y))) test
       by None e = absurd (nowhere (levels net) k (position_none (has_terminal bus 1) (levels net) e) at)
         where

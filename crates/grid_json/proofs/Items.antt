@@ -19,21 +19,21 @@ regroup front x (Err f) = refl
 longer : {A : Type 0} (front : List A) (x : A) → suc (length front) ≡ length (front ++ x ∷ [])
 longer front x = omega (arith, length-append front (x ∷ []))
 
-pub goes_on : {A : Type 0} (read : Data → Result A Fault) (front : List A) (ds rest : Items) (d : Data) (x : A) (total : Result (List A) Fault) → ds ≡ item d rest → read d ≡ Ok x
-    → with_front front (items_at read (length front) ds) ≡ total → with_front (front ++ x ∷ []) (items_at read (length (front ++ x ∷ [])) rest) ≡ total
+pub goes_on : {A : Type 0} (read : Data → Result A Fault) (front : List A) (d : Data) (rest : Items) (x : A) → read d ≡ Ok x
+    → with_front front (items_at read (length front) (item d rest)) ≡ with_front (front ++ x ∷ []) (items_at read (length (front ++ x ∷ [])) rest)
 unfolding items_at
-goes_on read front ds rest d x total cut h so_far =
-    let one : with_front front (items_at read (length front) ds) ≡ with_front (front ++ x ∷ []) (items_at read (suc (length front)) rest) = rw (cut, h) (regroup front x (items_at read (suc (length front)) rest)) in
-    ap (λ i. with_front (front ++ x ∷ []) (items_at read i rest)) (sym (longer front x)) ∙ sym one ∙ so_far
+goes_on read front d rest x h =
+    let one : with_front front (items_at read (length front) (item d rest)) ≡ with_front (front ++ x ∷ []) (items_at read (suc (length front)) rest) = rw h (regroup front x (items_at read (suc (length front)) rest)) in
+    one ∙ ap (λ i. with_front (front ++ x ∷ []) (items_at read i rest)) (longer front x)
 
-pub ends : {A : Type 0} (read : Data → Result A Fault) (front : List A) (ds rest : Items) (d : Data) (e r : ReadError) (total : Result (List A) Fault) → ds ≡ item d rest → Fails e (read d) → IsUnder (decimal (length front)) e r
-    → with_front front (items_at read (length front) ds) ≡ total → Fails r total
+pub ends : {A : Type 0} (read : Data → Result A Fault) (front : List A) (d : Data) (rest : Items) (e r : ReadError) → Fails e (read d) → IsUnder (decimal (length front)) e r
+    → Fails r (with_front front (items_at read (length front) (item d rest)))
 unfolding items_at
-ends read front ds rest d e errors.Memory total cut h u so_far = tt
-ends read front ds rest d errors.Memory (errors.Fault g) total cut h u so_far = absurd u
-ends read front ds rest d (errors.Fault f) (errors.Fault g) total cut h u so_far =
-    let one : with_front front (items_at read (length front) ds) ≡ Err (placed (decimal (length front)) f) = rw (cut, h) refl in
-    sym so_far ∙ one ∙ ap Err (sym u)
+ends read front d rest e errors.Memory h u = tt
+ends read front d rest errors.Memory (errors.Fault g) h u = absurd u
+ends read front d rest (errors.Fault f) (errors.Fault g) h u =
+    let one : with_front front (items_at read (length front) (item d rest)) ≡ Err (placed (decimal (length front)) f) = rw h refl in
+    one ∙ ap Err (sym u)
 
 pub is_done : {A : Type 0} (read : Data → Result A Fault) (front : List A) (ds : Items) (total : Result (List A) Fault) → ds ≡ no_items → with_front front (items_at read (length front) ds) ≡ total → total ≡ Ok front
 unfolding items_at

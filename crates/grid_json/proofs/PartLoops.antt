@@ -1,27 +1,15 @@
 -- Loading parts one after the other, as a loop does.
-use Rattle.std.proofs.Common.{◌≡◌, ℕ, suc, ◌+◌, List, [], ◌∷◌, length, Result, Ok, Err, refl, sym, ap, ◌∙◌, add-one, arith}
-use Rattle.std.specs.Prelude.{decimal}
+use Rattle.std.proofs.Common.{◌≡◌, ℕ, ◌+◌, List, [], ◌∷◌, length, Result, Ok, Err, refl, sym, ap, ◌∙◌, add-one, arith}
 use Rattle.grid_json.specs.declared.fault.Fault.{Fault}
 use Rattle.grid_json.specs.declared.fault.ReadError.{ReadError}
 use Rattle.grid_json.specs.declared.fault.ReadError.TheVariants as errors
-use Rattle.grid_json.specs.Reading.{◌>>=◌, Fails, IsUnder, placed, under}
+use Rattle.grid_json.specs.Reading.{◌>>=◌, Fails, IsUnder, under}
 use Rattle.grid_json.specs.Loading.{load_items}
 
-pub goes_on : {A S : Type 0} (load : A → List ℕ → S → Result S Fault) (i : ℕ) (rest more : List A) (x : A) (owner : List ℕ) (s after : S) (total : Result S Fault) → rest ≡ x ∷ more → load x owner s ≡ Ok after
-    → load_items load i rest owner s ≡ total → load_items load (i + 1) more owner after ≡ total
+pub goes_on : {A S : Type 0} (load : A → List ℕ → S → Result S Fault) (i : ℕ) (x : A) (more : List A) (owner : List ℕ) (s after : S) → load x owner s ≡ Ok after
+    → load_items load i (x ∷ more) owner s ≡ load_items load (i + 1) more owner after
 unfolding load_items
-goes_on load i rest more x owner s after total is h so_far =
-    let one : load_items load i rest owner s ≡ load_items load (suc i) more owner after = rw (is, h) refl in
-    rw add-one (sym one ∙ so_far)
-
-pub ends : {A S : Type 0} (load : A → List ℕ → S → Result S Fault) (i : ℕ) (rest more : List A) (x : A) (owner : List ℕ) (s : S) (e r : ReadError) (total : Result S Fault) → rest ≡ x ∷ more → Fails e (load x owner s) → IsUnder (decimal i) e r
-    → load_items load i rest owner s ≡ total → Fails r total
-unfolding load_items
-ends load i rest more x owner s e errors.Memory total is h u so_far = tt
-ends load i rest more x owner s errors.Memory (errors.Fault g) total is h u so_far = absurd u
-ends load i rest more x owner s (errors.Fault f) (errors.Fault g) total is h u so_far =
-    let one : load_items load i rest owner s ≡ Err (placed (decimal i) f) = rw (is, h) refl in
-    sym so_far ∙ one ∙ ap Err (sym u)
+goes_on load i x more owner s after h = rw (h, add-one) refl
 
 pub is_done : {A S : Type 0} (load : A → List ℕ → S → Result S Fault) (i : ℕ) (rest : List A) (owner : List ℕ) (s : S) (total : Result S Fault) → length rest ≡ 0 → load_items load i rest owner s ≡ total → total ≡ Ok s
 unfolding load_items

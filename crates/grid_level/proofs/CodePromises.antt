@@ -156,21 +156,20 @@ pub switch_memory : (level : VoltageLevel) (id : List ℕ) (kind : SwitchKind) (
 unfolding level_with_switch
 switch_memory level id kind node1 node2 opened retained fictitious pair h = memory_on (edge_fits level node1 node2) _ pair _ h refl
 
-pub switch_done : (level : VoltageLevel) (id : List ℕ) (kind : SwitchKind) (node1 node2 : ℤ) (opened retained fictitious : Bool) (a b : ℕ)
-    → Ok (a, b) ≡ map_fault level_fault_of (edge_fits level node1 node2)
-    → level_with_switch level id kind node1 node2 opened retained fictitious ≡ Ok (with_switch level (record { id = id; kind = kind; node1 = a; node2 = b; opened = opened; retained = retained; fictitious = fictitious }))
+pub switch_done : (level : VoltageLevel) (node1 node2 : ℤ) (s : Switch) → Ok (s.node1, s.node2) ≡ map_fault level_fault_of (edge_fits level node1 node2)
+    → level_with_switch level s.id s.kind node1 node2 s.opened s.retained s.fictitious ≡ Ok (with_switch level s)
 unfolding level_with_switch
-switch_done level id kind node1 node2 opened retained fictitious a b h = rw (map_ok (edge_fits level node1 node2) (a, b) h) refl
+switch_done level node1 node2 s h = rw (map_ok (edge_fits level node1 node2) (s.node1, s.node2) h) refl
 
 abbrev pub switch_of : List ℕ → SwitchKind → ℕ → ℕ → Bool → Bool → Bool → Switch
 switch_of id kind a b opened retained fictitious = record { id = id; kind = kind; node1 = a; node2 = b; opened = opened; retained = retained; fictitious = fictitious }
 
-pub switch_kept : (level : VoltageLevel) (uses : List Use) {pairs : List (ℕ × ℕ)} (id : List ℕ) (kind : SwitchKind) (node1 node2 : ℤ) (opened retained fictitious : Bool) (a b : ℕ) → IsKept level uses pairs
-    → Ok (a, b) ≡ map_fault level_fault_of (edge_fits level node1 node2)
-    → IsKept (with_switch level (switch_of id kind a b opened retained fictitious)) (with_use a (with_use b uses)) (pairs ++ (a, b) ∷ [])
-switch_kept level uses id kind node1 node2 opened retained fictitious a b k h =
+pub switch_kept : (level : VoltageLevel) (uses : List Use) {pairs : List (ℕ × ℕ)} (node1 node2 : ℤ) (s : Switch) → IsKept level uses pairs → Ok (s.node1, s.node2) ≡ map_fault level_fault_of (edge_fits level node1 node2)
+    → IsKept (with_switch level s) (with_use s.node1 (with_use s.node2 uses)) (pairs ++ (s.node1, s.node2) ∷ [])
+switch_kept level uses node1 node2 s k h =
+    let a = s.node1 in
+    let b = s.node2 in
     let f = fitting level node1 node2 (a, b) (map_ok (edge_fits level node1 node2) (a, b) h) in
-    let s = switch_of id kind a b opened retained fictitious in
     let rest = internal_nodes level.internals ++ placed_nodes level.placed in
     record {
       counted = ap (λ z. with_use a (with_use b z)) (k.counted ∙ ap tally (named_is level)) ∙ sym (grown (switch_nodes level.switches) a b rest) ∙ ap tally (sym (named_switch level s));

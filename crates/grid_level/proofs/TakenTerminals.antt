@@ -136,12 +136,12 @@ unfolding level_with_terminal
 terminal_done level node terminal stand n i ps f at is =
     rw f (ap (λ z. Ok (record level { placed = z })) (placed_insert (placed_of n terminal stand) level.placed ∙ ap (λ z. insert level.placed z (placed_of n terminal stand)) (sym at) ∙ sym is))
 
-pub terminal_kept : (level : VoltageLevel) (uses : List Use) {pairs : List (ℕ × ℕ)} (node : ℤ) (terminal : Terminal) (stand : Stand) (n i : ℕ) (ps : List Placed) → IsKept level uses pairs → terminal_fits level node ≡ Ok n
-    → i ≡ place_among (λ (p : Placed). p.node) n level.placed → ps ≡ insert level.placed i (placed_of n terminal stand) → IsKept (record level { placed = ps }) (with_use n uses) pairs
-terminal_kept level uses {pairs} node terminal stand n i ps k f at is =
-    let fits = fitting_terminal level node n f in
-    let same : with_placed (placed_of n terminal stand) level.placed ≡ ps = placed_insert (placed_of n terminal stand) level.placed ∙ ap (λ z. insert level.placed z (placed_of n terminal stand)) (sym at) ∙ sym is in
-    subst (λ (z : List Placed). IsKept (record level { placed = z }) (with_use n uses) pairs) same (kept_placed level uses (placed_of n terminal stand) k (node_of-le node n fits.at) fits.free fits.few)
+pub terminal_kept : (level : VoltageLevel) (uses : List Use) {pairs : List (ℕ × ℕ)} (node : ℤ) (p : Placed) (i : ℕ) → IsKept level uses pairs → terminal_fits level node ≡ Ok p.node → i ≡ place_among (λ (q : Placed). q.node) p.node level.placed
+    → IsKept (record level { placed = insert level.placed i p }) (with_use p.node uses) pairs
+terminal_kept level uses {pairs} node p i k f at =
+    let fits = fitting_terminal level node p.node f in
+    let same : with_placed p level.placed ≡ insert level.placed i p = placed_insert p level.placed ∙ ap (λ z. insert level.placed z p) (sym at) in
+    subst (λ (z : List Placed). IsKept (record level { placed = z }) (with_use p.node uses) pairs) same (kept_placed level uses p k (node_of-le node p.node fits.at) fits.free fits.few)
 
 pub taken_there : (n : ℕ) (level : VoltageLevel) (uses : List Use) {pairs : List (ℕ × ℕ)} → IsKept level uses pairs → IsSome (placed_at level n) → Taken n level.placed
 unfolding placed_at

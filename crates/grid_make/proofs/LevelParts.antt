@@ -26,10 +26,9 @@ use Rattle.grid_structure.proofs.Counts.{times, times-append}
 use Rattle.grid_structure.proofs.Frames.{ids_of, local, switch_total}
 use Rattle.grid_structure.proofs.OneLevel.{names_of}
 use Rattle.grid_structure.proofs.Singles.{busbar_is, injection_is, terminal_of}
-use Rattle.grid_print.specs.Loads.{growing}
-use Rattle.grid_print.proofs.LevelRoom.{around, switch_done, internal_done, terminal_done}
-use Rattle.grid_print.proofs.LastLevels.{ending, earlier, own_once, not_taken, named_last, put_last, switches_ending}
-use Rattle.grid_print.proofs.LevelParts.{none_is}
+use Rattle.grid_structure.proofs.LevelRoom.{around, switch_done, internal_done, terminal_done}
+use Rattle.grid_structure.proofs.LastLevels.{growing, ending, earlier, own_once, not_taken, named_last, put_last, switches_ending}
+use Rattle.grid_structure.proofs.LevelParts.{none_is}
 use Rattle.grid_make.specs.MadeNetwork.{level_name, part_name, unrefused}
 
 -- ---- the parts of a level, each with the tail of its id, where it has one

@@ -18,8 +18,7 @@ use Rattle.grid_structure.proofs.Counts.{times, times-append, differ-times, not_
 use Rattle.grid_structure.proofs.Frames.{ids_of, locals, sub_ids, ids_counted, switch_total, switch_total-append}
 use Rattle.grid_structure.proofs.LevelHomes.{none_there}
 use Rattle.grid_structure.proofs.Substations.{names, levels_in, levels_at, transformers_at}
-use Rattle.grid_print.specs.Loads.{growing}
-use Rattle.grid_print.proofs.LastLevels.{ending, earlier, levels_before, ids_ending, not_taken_before, none_earlier, substation_found, level_put}
+use Rattle.grid_structure.proofs.LastLevels.{growing, ending, earlier, levels_before, ids_ending, not_taken_before, none_earlier, substation_found, level_put}
 use Rattle.grid_make.specs.Draws.{later, in_turn}
 use Rattle.grid_make.specs.MadeNetwork.{substation_name, level_name, part_name, nominal, level_edits, unrefused}
 use Rattle.grid_make.proofs.Turns.{and_then}

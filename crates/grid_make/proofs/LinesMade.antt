@@ -19,7 +19,7 @@ use Rattle.grid_structure.proofs.Counts.{times, times-append}
 use Rattle.grid_structure.proofs.Frames.{ids_counted}
 use Rattle.grid_structure.proofs.Sides.{Side, has, has-append, sides_of, sides_in}
 use Rattle.grid_structure.proofs.Substations.{levels_in, transformers_in}
-use Rattle.grid_print.proofs.BranchLoad.{part_of, partly, ids_partly, Ready, branch_loaded}
+use Rattle.grid_structure.proofs.BranchLoad.{part_of, partly, ids_partly, Ready, branch_loaded}
 use Rattle.grid_make.specs.Draws.{later, same, in_turn}
 use Rattle.grid_make.specs.MadeNetwork.{level_name, line_name, line_end, line_edits, level_edits, made_edits, blank, made_network, unrefused, MadeEditsAreAccepted}
 use Rattle.grid_make.proofs.Turns.{and_then, unrefused_after}

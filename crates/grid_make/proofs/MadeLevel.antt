@@ -14,7 +14,7 @@ use Rattle.grid_level.specs.VoltageLevel.{VoltageLevel}
 use Rattle.grid_level.specs.Passing.{edges, ends, both, named, nodes, with_node, rising, is_rising, is_branch_end}
 use Rattle.grid_level.specs.Sound.{side_passes, stand_passes, ends_differ, level_passes}
 use Rattle.grid_structure.specs.declared.Edit.TheVariants as edits
-use Rattle.grid_print.proofs.EndsLoad.{kept}
+use Rattle.grid_structure.proofs.EndsLoad.{kept}
 use Rattle.grid_make.specs.Draws.{next, is_odd, in_turn}
 use Rattle.grid_make.specs.MadeNetwork.{substation_name, level_name, nominal, feeder_injection, busbar_edits, coupler_edit, switch_edit, internal_edit, injection_edit, feeder_edits, outlet_edits, level_edits}
 use Rattle.grid_make.proofs.IdNumbers.{is_tail}

@@ -263,10 +263,6 @@ module _ (listed : Listed) (old new next : Changes) (place : ℕ) (h : Halfway l
       put (Some d) (is ∙ set_over new place None (Some d)) (λ l. level ∙ ap (λ z. level_by z l) (sym some)) (λ row. opened ∙ ap (λ z. row_by z row) (sym some))
       (ap length opened ∙ fits_here c some ∙ ap (λ z. length z.switches) (sym level)) looked
 
--- what stands then, told of the same levels and rows by other words
-pub stands_as : (listed : Listed) (before : List VoltageLevel) (flags : List (List Bool)) (changes : Changes) (ls ms : List VoltageLevel) (rows others : List (List Bool)) → Stands listed before flags changes ls rows → ls ≡ ms → rows ≡ others → Stands listed before flags changes ms others
-stands_as listed before flags changes ls ms rows others s e f = subst (λ z. Stands listed before flags changes ms z) f (subst (λ z. Stands listed before flags changes z rows) e s)
-
 -- what is looked at up to a place is looked at up to a later one, where nothing has changed between
 pub passed_over : (listed : Listed) (old new : Changes) (from place : ℕ) → ((k : ℕ) → from ≤ k → k < place → change_at new k ≡ None) → Halfway listed old new from → Halfway listed old new place
 passed_over listed old new from place none h = record {

@@ -317,13 +317,12 @@ begin_other goals k found front g s = record {
 pub found_here : (found : List ℕ) (u r : ℕ) → u < length found → r ≡ get_or found u r → cost_at found u ≡ r
 found_here found u r lt e = sym (get_or_default_zero found u r lt) ∙ sym e
 
-pub takes_lowered : (weight : Option ℕ) (w to cost seen : ℕ) (found : List ℕ) (front : List (ℕ × ℕ)) (found' : List ℕ) (front' : List (ℕ × ℕ)) → weight ≡ Some w → to < length found → seen ≡ get_or found to seen → w + cost < seen
-    → found' ≡ slice_set found to (w + cost) → IsPermutation ((w + cost, to) ∷ front) front' → Takes weight to cost found front found' front'
-takes_lowered weight w to cost seen found front found' front' weighs lt at less e p =
-    let here = found_here found to seen lt at in
+pub takes_lowered : (w to cost : ℕ) (found : List ℕ) (front front' : List (ℕ × ℕ)) → to < length found → w + cost < cost_at found to → IsPermutation ((w + cost, to) ∷ front) front'
+    → Takes (Some w) to cost found front (slice_set found to (w + cost)) front'
+takes_lowered w to cost found front front' lt less p =
     let longer = length_permutation ((w + cost, to) ∷ front) front' p in
     let total : sum (set found to (w + cost)) + cost_at found to ≡ sum found + (w + cost) = sum_by-set (λ n. n) found to (w + cost) 0 lt in
-    record { cases = inr (w, weighs, omega (arith, here, less), e, p); falls = rw e (omega (arith, here, longer, total, less)) }
+    record { cases = inr (w, refl, less, refl, p); falls = omega (arith, longer, total, less) }
 
 pub takes_none : (weight : Option ℕ) (to cost seen : ℕ) (found : List ℕ) (front : List (ℕ × ℕ)) → to < length found → seen ≡ get_or found to seen → ((w : ℕ) → weight ≡ Some w → seen ≤ w + cost)
     → Takes weight to cost found front found front

@@ -6,12 +6,5 @@ pub mod NewlineTexts
 pub mod RoundTrips
 pub mod NetworkDrafts
 pub mod SubstationPlaces
-pub mod LevelRoom
-pub mod LastLevels
-pub mod LevelParts
-pub mod LevelLoad
-pub mod EndsLoad
-pub mod BranchLoad
-pub mod StageLoad
 pub mod NetworkLoad
 pub mod ReadableNetworks

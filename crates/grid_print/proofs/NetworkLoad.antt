@@ -1,230 +1,175 @@
--- A network is loaded from its draft: substation by substation its levels and then its transformers, and then the lines.
-use Rattle.std.proofs.Common.{◌≡◌, refl, sym, ap, ◌∙◌, subst, ℕ, suc, ◌+◌, ◌≤◌, true, false, cond, not, List, [], ◌∷◌, ◌++◌, length, arith, Some, append_assoc}
-use Rattle.std.specs.Prelude.{map, flat_map, Ok, is_none}
+-- A network's draft is loaded by the network's own edits, and so a sound network is loaded from its draft.
+use Rattle.std.proofs.Common.{◌≡◌, refl, ap, ◌∙◌, ℕ, suc, true, List, [], ◌∷◌, ◌++◌, Option, Some, None}
+use Rattle.std.specs.Prelude.{map, flat_map, Ok, Result, is_none}
 use Rattle.std.specs.List.{list_all}
 use Rattle.std.proofs.lemmas.Bool.{and_parts, and_from, false≢true}
-use Rattle.std.proofs.lemmas.List.{map-append, append-nil, length-append, length-map}
-use Rattle.grid_lemmas.proofs.Bools.{or_false}
-use Rattle.grid_ids.specs.Name.{ids_differ}
+use Rattle.grid_ids.specs.Name.{same_id}
+use Rattle.grid_ids.proofs.Alike.{same_is}
+use Rattle.grid_level.specs.declared.Stand.{Stand}
+use Rattle.grid_level.specs.declared.Stand.TheVariants.{Busbar, Feeder, BranchEnd}
+use Rattle.grid_level.specs.declared.Placed.{Placed}
+use Rattle.grid_level.specs.declared.Switch.{Switch}
+use Rattle.grid_level.specs.declared.Internal.{Internal}
 use Rattle.grid_level.specs.VoltageLevel.{VoltageLevel}
-use Rattle.grid_level.specs.Passing.{is_branch_end}
-use Rattle.grid_level.specs.Sound.{level_passes}
-use Rattle.grid_level.proofs.LevelEdits as on_level
-use Rattle.grid_structure.specs.Network.{Network, Substation}
-use Rattle.grid_structure.specs.Sites.{levels, branches, switches, all_ids, taken, home_of}
-use Rattle.grid_structure.specs.Editing.{apply, max_levels, max_switches}
-use Rattle.grid_structure.specs.Soundness.{IsSound, line_passes}
 use Rattle.grid_structure.specs.declared.NamedBranch.{NamedBranch}
 use Rattle.grid_structure.specs.declared.Branch.{Branch}
 use Rattle.grid_structure.specs.declared.Branch.TheVariants.{Line, TwoWindings, ThreeWindings}
+use Rattle.grid_structure.specs.declared.Edit.{Edit}
 use Rattle.grid_structure.specs.declared.Edit.TheVariants as edits
-use Rattle.grid_structure.proofs.Counts.{times, times-differ, differ-times}
-use Rattle.grid_structure.proofs.Frames.{is_same, ids_of, locals, locals-append, level_ids_once, switch_total, switch_total-append, switches_counted}
-use Rattle.grid_structure.proofs.LevelHomes.{none_there}
-use Rattle.grid_structure.proofs.SoundRemovals.{sides_by}
-use Rattle.grid_structure.proofs.Sides.{Side, has, side_of}
-use Rattle.grid_structure.proofs.Substations.{levels_in, transformers_in, levels_at}
-use Rattle.grid_json.specs.declared.network.TransformerDraft.{TransformerDraft}
-use Rattle.grid_json.specs.declared.network.LineDraft.{LineDraft}
+use Rattle.grid_structure.specs.Network.{Network, Substation, empty_of}
+use Rattle.grid_structure.specs.Sites.{home_of}
+use Rattle.grid_structure.specs.Soundness.{IsSound, stands_in, transformer_passes, line_passes}
+use Rattle.grid_structure.specs.Loading as loading
+use Rattle.grid_structure.specs.Loading.{apply_each, branch_edit, busbar_edits, switch_edit, internal_edit, injection_edits}
+use Rattle.grid_structure.proofs.EditLists.{first_of, parted}
+use Rattle.grid_structure.proofs.NetworkLoad as on_structure
+use Rattle.grid_json.specs.declared.fault.Fault.{Fault}
 use Rattle.grid_json.specs.declared.network.AnyLevelDraft.TheVariants as drafts
-use Rattle.grid_json.specs.Loading.{load_items, level_load}
+use Rattle.grid_json.specs.Loading.{load_items, edited, busbar_load, switch_load, internal_load, injection_load, level_load, network_load}
 use Rattle.grid_json.specs.OlderFormats.{is_of_nodes, transformer_at_nodes, line_at_nodes, substation_of_nodes, network_of_nodes, transformer_edit, line_edit, level_edits, substation_edits, parts_edits, network_edits}
 use Rattle.grid_json.proofs.OlderNetworks.{nodes_load}
-use Rattle.grid_print.specs.Laws.{level_draft, transformer_draft_of, line_draft_of, substation_draft, network_draft}
-use Rattle.grid_print.specs.Loads.{bare, growing, more, LevelsAreLoaded, NetworksAreLoaded}
-use Rattle.grid_print.proofs.LevelLoad.{level_is_loaded}
-use Rattle.grid_print.proofs.EndsLoad.{kept, stays}
-use Rattle.grid_print.proofs.BranchLoad.{part_of, partly, levels_partly, ids_partly, ids_same, locals_kept, filter_same, kept_same}
-use Rattle.grid_print.proofs.StageLoad.{stage, shown, weight, weights, weights-append, weighed, times_ids, line_step, transformer_step, home_is, branches_so_far, counted, levels_are, each_here, subs_pass, elsewhere, all_shown}
+use Rattle.grid_print.specs.Laws.{level_draft, switch_draft, internal_draft, busbar_draft_of, injection_draft_of, transformer_draft_of, line_draft_of, substation_draft, network_draft}
+use Rattle.grid_print.specs.Loads.{NetworksAreLoaded}
 
--- ---- one branch's draft
+-- ---- drafts of which each is loaded by one edit
 
-transformer_item : (id sub : List ℕ) (shape : Branch) (i : ℕ) (rest : List TransformerDraft) (net new : Network) → home_of shape ≡ Some sub → apply net (edits.AddBranch id shape) ≡ Ok new
-    → load_items transformer_edit i (transformer_draft_of id shape ++ rest) sub net ≡ load_items transformer_edit (suc i) rest sub new
-unfolding load_items transformer_edit home_of
-transformer_item id sub (Line end1 end2) i rest net new h done = cc
-transformer_item id sub (TwoWindings substation end1 end2 rated_u1 rated_u2) i rest net new h done = let same : sub ≡ substation = cc in rw (same, done) refl
-transformer_item id sub (ThreeWindings substation end1 end2 end3 rated_u1 rated_u2 rated_u3) i rest net new h done = let same : sub ≡ substation = cc in rw (same, done) refl
+-- the drafts are loaded by these edits, one by one
+abbrev Drawn : {D : Type 0} → (D → List ℕ → Network → Result Network Fault) → List ℕ → List D → List Edit → Type 0
+Drawn load owner [] [] = Unit {0}
+Drawn load owner [] (edit ∷ later) = ⊥
+Drawn load owner (d ∷ ds) [] = ⊥
+Drawn load owner (d ∷ ds) (edit ∷ later) = ((net : Network) → load d owner net ≡ edited edit net) × Drawn load owner ds later
 
-line_item : (id owner : List ℕ) (shape : Branch) (i : ℕ) (rest : List LineDraft) (net new : Network) → is_none (home_of shape) ≡ true → apply net (edits.AddBranch id shape) ≡ Ok new
-    → load_items line_edit i (line_draft_of id shape ++ rest) owner net ≡ load_items line_edit (suc i) rest owner new
-unfolding load_items line_edit home_of
-line_item id owner (Line end1 end2) i rest net new h done = rw done refl
-line_item id owner (TwoWindings substation end1 end2 rated_u1 rated_u2) i rest net new h done = absurd (false≢true h)
-line_item id owner (ThreeWindings substation end1 end2 end3 rated_u1 rated_u2 rated_u3) i rest net new h done = absurd (false≢true h)
+drawn_loaded : {D : Type 0} (load : D → List ℕ → Network → Result Network Fault) (owner : List ℕ) (ds : List D) (all : List Edit) (i : ℕ) (net end : Network) → Drawn load owner ds all → apply_each net all ≡ Ok end
+    → load_items load i ds owner net ≡ Ok end
+unfolding load_items apply_each
+drawn_loaded load owner [] [] i net end drawn made = let same : net ≡ end = cc in ap Ok same
+drawn_loaded load owner [] (edit ∷ later) i net end drawn made = absurd drawn
+drawn_loaded load owner (d ∷ ds) [] i net end drawn made = absurd drawn
+drawn_loaded load owner (d ∷ ds) (edit ∷ later) i net end drawn made =
+    let k = first_of net edit later end made in
+    rw (drawn.0 net, k.first) (drawn_loaded load owner ds later (suc i) k.new end drawn.1 k.second)
 
--- ---- levels without their branch ends
+-- ---- the parts of a level
 
-bare_is : (l : VoltageLevel) → bare l ≡ kept [] l
-bare_is l = ap (λ z. record l { placed = z }) (filter_same (λ p. not (is_branch_end p.stand)) (stays [] l) l.placed (λ p. sym (or_false (not (is_branch_end p.stand)))))
+busbars_drawn : (level : List ℕ) (placed : List Placed) → Drawn busbar_load level (flat_map (λ p. busbar_draft_of p.terminal.equipment p.node p.stand) placed) (flat_map (λ p. busbar_edits level p.terminal.equipment p.node p.stand) placed)
+unfolding busbar_load
+busbars_drawn level [] = tt
+busbars_drawn level (p ∷ placed) = by p.stand (busbars_drawn level placed)
+  where
+    by : (stand : Stand) → Drawn busbar_load level (flat_map (λ q. busbar_draft_of q.terminal.equipment q.node q.stand) placed) (flat_map (λ q. busbar_edits level q.terminal.equipment q.node q.stand) placed)
+        → Drawn busbar_load level (busbar_draft_of p.terminal.equipment p.node stand ++ flat_map (λ q. busbar_draft_of q.terminal.equipment q.node q.stand) placed)
+        (busbar_edits level p.terminal.equipment p.node stand ++ flat_map (λ q. busbar_edits level q.terminal.equipment q.node q.stand) placed)
+    by Busbar rest = (λ net. refl, rest)
+    by (Feeder item) rest = rest
+    by BranchEnd rest = rest
 
-bares_are : (ls : List VoltageLevel) → map bare ls ≡ map (kept []) ls
-bares_are [] = refl
-bares_are (l ∷ ls) = rw (bare_is l, bares_are ls) refl
+injections_drawn : (level : List ℕ) (placed : List Placed)
+    → Drawn injection_load level (flat_map (λ p. injection_draft_of p.terminal.equipment p.node p.stand) placed) (flat_map (λ p. injection_edits level p.terminal.equipment p.node p.stand) placed)
+unfolding injection_load
+injections_drawn level [] = tt
+injections_drawn level (p ∷ placed) = by p.stand (injections_drawn level placed)
+  where
+    by : (stand : Stand) → Drawn injection_load level (flat_map (λ q. injection_draft_of q.terminal.equipment q.node q.stand) placed) (flat_map (λ q. injection_edits level q.terminal.equipment q.node q.stand) placed)
+        → Drawn injection_load level (injection_draft_of p.terminal.equipment p.node stand ++ flat_map (λ q. injection_draft_of q.terminal.equipment q.node q.stand) placed)
+        (injection_edits level p.terminal.equipment p.node stand ++ flat_map (λ q. injection_edits level q.terminal.equipment q.node q.stand) placed)
+    by Busbar rest = rest
+    by (Feeder item) rest = (λ net. refl, rest)
+    by BranchEnd rest = rest
 
--- levels of which no end is loaded
-bares_kept : (loaded : List Side) (ls : List VoltageLevel) → ((x : Side) → 1 ≤ times x.2 (ids_of ls) → has loaded x ≡ false) → map bare ls ≡ map (kept loaded) ls
-bares_kept loaded [] h = refl
-bares_kept loaded (l ∷ ls) h =
-    let own : times l.id (ids_of (l ∷ ls)) ≡ 1 + times l.id (ids_of ls) = ap (λ t. cond t 1 0 + times l.id (ids_of ls)) (is_same l.id l.id refl) in
-    let first : bare l ≡ kept loaded l = bare_is l ∙ kept_same [] loaded l (λ p. sym (h (side_of l p) (omega (arith, own)))) in
-    rw (first, bares_kept loaded ls (λ x e. h x (omega (arith, e)))) refl
+switches_drawn : (level : List ℕ) (switches : List Switch) → Drawn switch_load level (map switch_draft switches) (map (switch_edit level) switches)
+unfolding switch_load
+switches_drawn level [] = tt
+switches_drawn level (s ∷ switches) = (λ net. refl, switches_drawn level switches)
 
-total_kept : (loaded : List Side) (ls : List VoltageLevel) → switch_total (map (kept loaded) ls) ≡ switch_total ls
-total_kept loaded [] = refl
-total_kept loaded (l ∷ ls) = ap (λ n. length l.switches + n) (total_kept loaded ls)
+internals_drawn : (level : List ℕ) (internals : List Internal) → Drawn internal_load level (map internal_draft internals) (map (internal_edit level) internals)
+unfolding internal_load
+internals_drawn level [] = tt
+internals_drawn level (i ∷ internals) = (λ net. refl, internals_drawn level internals)
 
-levels_part : (loaded : List Side) (subs : List Substation) → levels_in (map (part_of loaded) subs) ≡ map (kept loaded) (levels_in subs)
-unfolding levels
-levels_part loaded subs = levels_partly loaded (stage [] subs [])
+level_loaded : (substation : List ℕ) (l : VoltageLevel) (net end : Network) → apply_each net (loading.level_edits substation l) ≡ Ok end → level_load (level_draft l) substation net ≡ Ok end
+unfolding level_load loading.level_edits
+level_loaded substation l net end made =
+    let busbars = flat_map (λ (p : Placed). busbar_edits l.id p.terminal.equipment p.node p.stand) l.placed in
+    let switches = map (switch_edit l.id) l.switches in
+    let internals = map (internal_edit l.id) l.internals in
+    let injections = flat_map (λ (p : Placed). injection_edits l.id p.terminal.equipment p.node p.stand) l.placed in
+    let a = first_of net (edits.AddLevel l.id substation l.nominal_v l.low_v l.high_v) (busbars ++ (switches ++ (internals ++ injections))) end made in
+    let b = parted a.new busbars (switches ++ (internals ++ injections)) end a.second in
+    let c = parted b.mid switches (internals ++ injections) end b.second in
+    let d = parted c.mid internals injections end c.second in
+    rw (
+      a.first,
+      drawn_loaded busbar_load l.id (level_draft l).busbars busbars 0 a.new b.mid (busbars_drawn l.id l.placed) b.first,
+      drawn_loaded switch_load l.id (level_draft l).switches switches 0 b.mid c.mid (switches_drawn l.id l.switches) c.first,
+      drawn_loaded internal_load l.id (level_draft l).internals internals 0 c.mid d.mid (internals_drawn l.id l.internals) d.first,
+      drawn_loaded injection_load l.id (level_draft l).injections injections 0 d.mid end (injections_drawn l.id l.placed) d.second,
+    ) refl
 
-weights_part : (q : List ℕ) (loaded : List Side) (subs : List Substation) → weights q (map (part_of loaded) subs) ≡ weights q subs
-weights_part q loaded [] = refl
-weights_part q loaded (s ∷ subs) = omega (arith, weights_part q loaded subs, ap (times q) (ids_same loaded s.levels), locals_kept q loaded s.levels)
+levels_loaded : (substation : List ℕ) (ls : List VoltageLevel) (i : ℕ) (net end : Network) → apply_each net (flat_map (loading.level_edits substation) ls) ≡ Ok end
+    → load_items level_edits i (map (λ l. drafts.Nodes (level_draft l)) ls) substation net ≡ Ok end
+unfolding load_items level_edits apply_each
+levels_loaded substation [] i net end made = let same : net ≡ end = cc in ap Ok same
+levels_loaded substation (l ∷ ls) i net end made =
+    let k = parted net (loading.level_edits substation l) (flat_map (loading.level_edits substation) ls) end made in
+    rw (level_loaded substation l net k.mid k.first) (levels_loaded substation ls (suc i) k.mid end k.second)
 
--- ---- one substation
+-- ---- branches
 
--- the substation with some of its levels, none of their branch ends and no transformer
-abbrev filled : Substation → List VoltageLevel → Substation
-filled s ls = record { id = s.id; levels = map bare ls; transformers = [] }
+home_is : (id : List ℕ) (ids : List (List ℕ)) (shape : Branch) (home : Option (List ℕ)) → stands_in id ids shape home ≡ true → home ≡ Some id
+unfolding stands_in
+home_is id ids shape None passes = absurd (false≢true passes)
+home_is id ids shape (Some home) passes = ap Some (same_is home id (and_parts (same_id home id) _ passes).0)
 
-module _ (load : LevelsAreLoaded) (net : Network) (k : IsSound net) (front back : List Substation) (s : Substation) (split : net.substations ≡ front ++ s ∷ back) where
-  abbrev holding : List NamedBranch → Network
-  holding done = stage net.id (front ++ record s { transformers = done } ∷ []) []
+transformers_drawn : (s : Substation) (bs : List NamedBranch) → list_all (transformer_passes s) bs ≡ true → Drawn transformer_edit s.id (flat_map (λ b. transformer_draft_of b.id b.shape) bs) (map branch_edit bs)
+unfolding transformer_passes home_of transformer_edit
+transformers_drawn s [] passes = tt
+transformers_drawn s (b ∷ bs) passes =
+    let each = and_parts (transformer_passes s b) (list_all (transformer_passes s) bs) passes in
+    by b.shape (home_is s.id _ b.shape (home_of b.shape) each.0) (transformers_drawn s bs each.1)
+  where
+    by : (shape : Branch) → home_of shape ≡ Some s.id → Drawn transformer_edit s.id (flat_map (λ c. transformer_draft_of c.id c.shape) bs) (map branch_edit bs)
+        → Drawn transformer_edit s.id (transformer_draft_of b.id shape ++ flat_map (λ c. transformer_draft_of c.id c.shape) bs) (edits.AddBranch b.id shape ∷ map branch_edit bs)
+    by (Line end1 end2) home rest = cc
+    by (TwoWindings substation end1 end2 rated_u1 rated_u2) home rest = let same : s.id ≡ substation = cc in (λ net. rw same refl, rest)
+    by (ThreeWindings substation end1 end2 end3 rated_u1 rated_u2 rated_u3) home rest = let same : s.id ≡ substation = cc in (λ net. rw same refl, rest)
 
-  transformers_loaded : (rest done : List NamedBranch) (i : ℕ) → s.transformers ≡ done ++ rest
-      → load_items transformer_edit i (flat_map (λ b. transformer_draft_of b.id b.shape) rest) s.id (shown (holding done)) ≡ Ok (shown (stage net.id (front ++ s ∷ []) []))
-  unfolding load_items
-  transformers_loaded [] done i is = ap (λ (z : List NamedBranch). Ok (shown (holding z))) (sym (append-nil done) ∙ sym is)
-  transformers_loaded (b ∷ rest) done i is =
-      transformer_item b.id s.id b.shape i (flat_map (λ b. transformer_draft_of b.id b.shape) rest) (shown (holding done)) (shown (holding (done ++ b ∷ []))) (home_is net k front back s split done b rest is) (transformer_step net k front back s split done b rest is)
-      ∙ transformers_loaded rest (done ++ b ∷ []) (suc i) (is ∙ sym (append_assoc done (b ∷ []) rest))
+lines_drawn : (owner : List ℕ) (bs : List NamedBranch) → list_all line_passes bs ≡ true → Drawn line_edit owner (flat_map (λ b. line_draft_of b.id b.shape) bs) (map branch_edit bs)
+unfolding line_passes home_of line_edit
+lines_drawn owner [] passes = tt
+lines_drawn owner (b ∷ bs) passes =
+    let each = and_parts (line_passes b) (list_all line_passes bs) passes in
+    by b.shape each.0 (lines_drawn owner bs each.1)
+  where
+    by : (shape : Branch) → is_none (home_of shape) ≡ true → Drawn line_edit owner (flat_map (λ c. line_draft_of c.id c.shape) bs) (map branch_edit bs)
+        → Drawn line_edit owner (line_draft_of b.id shape ++ flat_map (λ c. line_draft_of c.id c.shape) bs) (edits.AddBranch b.id shape ∷ map branch_edit bs)
+    by (Line end1 end2) home rest = (λ net. refl, rest)
+    by (TwoWindings substation end1 end2 rated_u1 rated_u2) home rest = absurd (false≢true home)
+    by (ThreeWindings substation end1 end2 end3 rated_u1 rated_u2 rated_u3) home rest = absurd (false≢true home)
 
-  module _ (loaded : List Side) where
-    abbrev before : List Substation
-    before = map (part_of loaded) front
+-- ---- substations
 
-    grown : (done : List VoltageLevel) (l : VoltageLevel) → more (filled s done) (bare l) ≡ filled s (done ++ l ∷ [])
-    grown done l = ap (λ (z : List VoltageLevel). record { id = s.id; levels = z; transformers = [] }) (sym (map-append bare done (l ∷ [])))
+substation_loaded : (owner : List ℕ) (s : Substation) (net end : Network) → list_all (transformer_passes s) s.transformers ≡ true → apply_each net (loading.substation_edits s) ≡ Ok end → substation_edits (substation_draft s) owner net ≡ Ok end
+unfolding substation_edits loading.substation_edits
+substation_loaded owner s net end passes made =
+    let levels = flat_map (loading.level_edits s.id) s.levels in
+    let transformers = map branch_edit s.transformers in
+    let a = first_of net (edits.AddSubstation s.id) (levels ++ transformers) end made in
+    let b = parted a.new levels transformers end a.second in
+    rw (
+      a.first,
+      levels_loaded s.id s.levels 0 a.new b.mid b.first,
+      drawn_loaded transformer_edit s.id (substation_draft s).transformers transformers 0 b.mid end (transformers_drawn s s.transformers passes) b.second,
+    ) refl
 
-    ids_fit : (done rest : List VoltageLevel) → s.levels ≡ done ++ rest → ids_differ (all_ids (growing net.id before (filled s done))) ≡ true
-    ids_fit done rest is = times-differ (all_ids (growing net.id before (filled s done))) (λ q. once q)
-      where
-        once : (q : List ℕ) → times q (all_ids (growing net.id before (filled s done))) ≤ 1
-        once q =
-            let w : weights q (before ++ filled s done ∷ []) ≡ weights q before + (weight q (filled s done) + 0) = weights-append q before (filled s done ∷ []) in
-            let a : times q (ids_of (map bare done)) ≡ times q (ids_of done) = ap (λ z. times q (ids_of z)) (bares_are done) ∙ ap (times q) (ids_same [] done) in
-            let b : locals q (map bare done) ≡ locals q done = ap (locals q) (bares_are done) ∙ locals_kept q [] done in
-            let d : times q (ids_of s.levels) ≡ times q (ids_of done) + times q (ids_of rest) = ap (λ z. times q (ids_of z)) is ∙ times_ids q done rest in
-            let e : locals q s.levels ≡ locals q done + locals q rest = ap (locals q) is ∙ locals-append q done rest in
-            omega (arith, w, a, b, d, e, weights_part q loaded front, weighed q (growing net.id before (filled s done)), counted net k front back s split q)
-
-    levels_grow : (done : List VoltageLevel) (l : VoltageLevel) → levels (growing net.id before (more (filled s done) l)) ≡ map (kept loaded) (levels_in front) ++ ((map (kept []) done ++ l ∷ []) ++ [])
-    unfolding levels
-    levels_grow done l = levels_at before [] (more (filled s done) l) ∙ ap (λ z. z ++ ((map bare done ++ l ∷ []) ++ [])) (levels_part loaded front) ∙ ap (λ z. map (kept loaded) (levels_in front) ++ ((z ++ l ∷ []) ++ [])) (bares_are done)
-
-    few_levels : (done rest : List VoltageLevel) (l : VoltageLevel) → s.levels ≡ done ++ l ∷ rest → length (levels (growing net.id before (more (filled s done) l))) ≤ max_levels
-    few_levels done rest l is =
-        let first = map (kept loaded) (levels_in front) in
-        let mid = map (kept []) done in
-        let now = ap length (levels_grow done l) in
-        let all : length (levels net) ≡ length (levels_in front ++ (s.levels ++ levels_in back)) = ap length (levels_are net k front back s split) in
-        omega (
-          arith,
-          now,
-          all,
-          k.few_levels,
-          ap length is,
-          length-append first ((mid ++ l ∷ []) ++ []),
-          length-append (mid ++ l ∷ []) [],
-          length-append mid (l ∷ []),
-          length-map (levels_in front) (kept loaded),
-          length-map done (kept []),
-          length-append (levels_in front) (s.levels ++ levels_in back),
-          length-append s.levels (levels_in back),
-          length-append done (l ∷ rest),
-        )
-
-    few_switches : (done rest : List VoltageLevel) (l : VoltageLevel) → s.levels ≡ done ++ l ∷ rest → length (switches (growing net.id before (more (filled s done) l))) ≤ max_switches
-    few_switches done rest l is =
-        let first = map (kept loaded) (levels_in front) in
-        let mid = map (kept []) done in
-        let now = switches_counted (growing net.id before (more (filled s done) l)) ∙ ap switch_total (levels_grow done l) in
-        let all : length (switches net) ≡ switch_total (levels_in front ++ (s.levels ++ levels_in back)) = switches_counted net ∙ ap switch_total (levels_are net k front back s split) in
-        omega (
-          arith,
-          now,
-          all,
-          k.few_switches,
-          ap switch_total is,
-          switch_total-append first ((mid ++ l ∷ []) ++ []),
-          switch_total-append (mid ++ l ∷ []) [],
-          switch_total-append mid (l ∷ []),
-          total_kept loaded (levels_in front),
-          total_kept [] done,
-          switch_total-append (levels_in front) (s.levels ++ levels_in back),
-          switch_total-append s.levels (levels_in back),
-          switch_total-append done (l ∷ rest),
-        )
-
-    levels_loaded : (rest done : List VoltageLevel) (i : ℕ) → s.levels ≡ done ++ rest
-        → load_items level_edits i (map (λ l. drafts.Nodes (level_draft l)) rest) s.id (growing net.id before (filled s done)) ≡ Ok (growing net.id before (filled s s.levels))
-    unfolding load_items level_edits
-    levels_loaded [] done i is = ap (λ (z : List VoltageLevel). Ok (growing net.id before (filled s z))) (sym (append-nil done) ∙ sym is)
-    levels_loaded (l ∷ rest) done i is =
-        let next : s.levels ≡ (done ++ l ∷ []) ++ rest = is ∙ sym (append_assoc done (l ∷ []) rest) in
-        let passes = (and_parts (level_passes l) (list_all level_passes rest) (on_level.all_parts level_passes done (l ∷ rest) (subst (λ (z : List VoltageLevel). list_all level_passes z ≡ true) is (each_here net k front back s split).1)).1).0 in
-        let ids = subst (λ (z : Substation). ids_differ (all_ids (growing net.id before z)) ≡ true) (sym (grown done l)) (ids_fit (done ++ l ∷ []) rest next) in
-        let first : level_load (level_draft l) s.id (growing net.id before (filled s done)) ≡ Ok (growing net.id before (filled s (done ++ l ∷ []))) =
-        load net.id before (filled s done) l ids passes (few_levels done rest l is) (few_switches done rest l is) ∙ ap (λ (z : Substation). Ok (growing net.id before z)) (grown done l) in
-        rw first (levels_loaded rest (done ++ l ∷ []) (suc i) next)
-
-  -- no end of an earlier transformer stands in the levels of this substation
-  none_loaded : (x : Side) → 1 ≤ times x.2 (ids_of s.levels) → has (sides_by (transformers_in front ++ [])) x ≡ false
-  none_loaded x here =
-      let once : times x.2 (ids_of (levels_in front ++ (s.levels ++ levels_in back))) ≤ 1 = subst (λ (z : List VoltageLevel). times x.2 (ids_of z) ≤ 1) (levels_are net k front back s split) (level_ids_once net (differ-times (all_ids net) k.ids) x.2) in
-      ap (λ z. has (sides_by z) x) (append-nil (transformers_in front))
-      ∙ elsewhere front x (subs_pass net k front back s split).0 (omega (arith, once, here, times_ids x.2 (levels_in front) (s.levels ++ levels_in back), times_ids x.2 s.levels (levels_in back)))
-
-  begun : growing net.id (map (part_of (sides_by (transformers_in front ++ []))) front) (filled s s.levels) ≡ shown (holding [])
-  begun =
-      let loaded = sides_by (transformers_in front ++ []) in
-      let last : filled s s.levels ≡ part_of loaded (record s { transformers = [] }) = ap (λ (z : List VoltageLevel). record { id = s.id; levels = z; transformers = [] }) (bares_kept loaded s.levels none_loaded) in
-      ap (λ (z : Substation). growing net.id (map (part_of loaded) front) z) last
-      ∙ ap (λ (z : List Substation). stage net.id z []) (sym (map-append (part_of loaded) front (record s { transformers = [] } ∷ [])))
-      ∙ ap (λ (z : List NamedBranch). partly (sides_by z) (holding [])) (sym (branches_so_far net k front back s split []))
-
-  sub_free : taken (shown (stage net.id front [])) s.id ≡ false
-  unfolding taken
-  sub_free =
-      let start = stage net.id front [] in
-      let own : weight s.id s ≡ 1 + (times s.id (ids_of s.levels) + (locals s.id s.levels + times s.id (map (λ (b : NamedBranch). b.id) s.transformers))) =
-      ap (λ t. cond t 1 0 + (times s.id (ids_of s.levels) + (locals s.id s.levels + times s.id (map (λ (b : NamedBranch). b.id) s.transformers)))) (is_same s.id s.id refl) in
-      none_there s.id (all_ids (shown start)) (ids_partly s.id (sides_by (branches start)) start ∙ omega (arith, own, weighed s.id start, counted net k front back s split s.id))
-
-  sub_loaded : (owner : List ℕ) → substation_edits (substation_draft s) owner (shown (stage net.id front [])) ≡ Ok (shown (stage net.id (front ++ s ∷ []) []))
-  unfolding substation_edits apply branches
-  sub_loaded owner =
-      let loaded = sides_by (transformers_in front ++ []) in
-      rw (sub_free, levels_loaded loaded s.levels [] 0 refl, begun, transformers_loaded s.transformers [] 0 refl) refl
-
--- ---- the network
-
-subs_loaded : (load : LevelsAreLoaded) (net : Network) (k : IsSound net) (rest front : List Substation) (i : ℕ) (owner : List ℕ) → net.substations ≡ front ++ rest
-    → load_items substation_edits i (map substation_draft rest) owner (shown (stage net.id front [])) ≡ Ok (shown (stage net.id net.substations []))
-unfolding load_items
-subs_loaded load net k [] front i owner is = ap (λ (z : List Substation). Ok (shown (stage net.id z []))) (sym (append-nil front) ∙ sym is)
-subs_loaded load net k (s ∷ rest) front i owner is =
-    rw (sub_loaded load net k front rest s is owner) (subs_loaded load net k rest (front ++ s ∷ []) (suc i) owner (is ∙ sym (append_assoc front (s ∷ []) rest)))
-
-lines_loaded : (net : Network) (k : IsSound net) (rest done : List NamedBranch) (i : ℕ) (owner : List ℕ) → net.lines ≡ done ++ rest
-    → load_items line_edit i (flat_map (λ b. line_draft_of b.id b.shape) rest) owner (shown (stage net.id net.substations done)) ≡ Ok (shown net)
-unfolding load_items line_passes
-lines_loaded net k [] done i owner is = ap (λ (z : List NamedBranch). Ok (shown (stage net.id net.substations z))) (sym (append-nil done) ∙ sym is)
-lines_loaded net k (b ∷ rest) done i owner is =
-    let passes = (and_parts (line_passes b) (list_all line_passes rest) (on_level.all_parts line_passes done (b ∷ rest) (subst (λ (z : List NamedBranch). list_all line_passes z ≡ true) is k.lines)).1).0 in
-    line_item b.id owner b.shape i (flat_map (λ b. line_draft_of b.id b.shape) rest) (shown (stage net.id net.substations done)) (shown (stage net.id net.substations (done ++ b ∷ []))) passes (line_step net done rest b k is)
-    ∙ lines_loaded net k rest (done ++ b ∷ []) (suc i) owner (is ∙ sym (append_assoc done (b ∷ []) rest))
+substations_loaded : (owner : List ℕ) (subs : List Substation) (i : ℕ) (net end : Network) → list_all (λ (s : Substation). list_all (transformer_passes s) s.transformers) subs ≡ true
+    → apply_each net (flat_map loading.substation_edits subs) ≡ Ok end → load_items substation_edits i (map substation_draft subs) owner net ≡ Ok end
+unfolding load_items apply_each
+substations_loaded owner [] i net end passes made = let same : net ≡ end = cc in ap Ok same
+substations_loaded owner (s ∷ subs) i net end passes made =
+    let each = and_parts (list_all (transformer_passes s) s.transformers) (list_all (λ (t : Substation). list_all (transformer_passes t) t.transformers) subs) passes in
+    let k = parted net (loading.substation_edits s) (flat_map loading.substation_edits subs) end made in
+    rw (substation_loaded owner s net k.mid each.0 k.first) (substations_loaded owner subs (suc i) k.mid end each.1 k.second)
 
 -- ---- a network's draft is of nodes alone
 
@@ -261,10 +206,20 @@ substations_of_nodes (s ∷ ss) = and_from (substation_of_nodes (substation_draf
 drafts_of_nodes : (net : Network) → network_of_nodes (network_draft net) ≡ true
 drafts_of_nodes net = and_from (list_all substation_of_nodes (map substation_draft net.substations)) (list_all line_at_nodes (flat_map (λ b. line_draft_of b.id b.shape) net.lines)) (substations_of_nodes net.substations) (lines_at_nodes net.lines)
 
--- where levels are loaded, sound networks are
-pub network_is_loaded : LevelsAreLoaded → NetworksAreLoaded
-unfolding network_edits parts_edits
-network_is_loaded load net k = nodes_load (network_draft net) (drafts_of_nodes net) ∙ rw (subs_loaded load net k net.substations [] 0 net.id refl, lines_loaded net k net.lines [] 0 net.id refl, all_shown net k) refl
+-- ---- the network
+
+-- where a network's own edits load it, its draft is loaded as it
+draft_is_loaded : (net : Network) → IsSound net → loading.loaded net ≡ Ok net → network_load (network_draft net) ≡ Ok net
+unfolding loading.loaded loading.loading_edits network_edits parts_edits
+draft_is_loaded net sound made =
+    let substations = flat_map loading.substation_edits net.substations in
+    let lines = map branch_edit net.lines in
+    let k = parted (empty_of net.id) substations lines net made in
+    nodes_load (network_draft net) (drafts_of_nodes net)
+    ∙ rw (
+      substations_loaded net.id net.substations 0 (empty_of net.id) k.mid sound.transformers k.first,
+      drawn_loaded line_edit net.id (network_draft net).lines lines 0 k.mid net (lines_drawn net.id net.lines sound.lines) k.second,
+    ) refl
 
 pub networks_are_loaded : NetworksAreLoaded
-networks_are_loaded = network_is_loaded level_is_loaded
+networks_are_loaded net sound = draft_is_loaded net sound (on_structure.networks_are_loaded net sound)

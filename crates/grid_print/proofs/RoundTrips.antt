@@ -265,21 +265,13 @@ networks_are_read format net fits known =
 no_fifth : (item : Injection) → nat_le 5 (item_format item) ≡ false
 unfolding item_format
 no_fifth (injections.Load p0 q0) = refl
-no_fifth (injections.Generator target_p target_v min_p max_p) = refl
-no_fifth (injections.Battery target_p target_q min_p max_p) = refl
-no_fifth (injections.ShuntCompensator section_count max_sections) = refl
-no_fifth (injections.StaticVarCompensator target_q) = refl
-no_fifth (injections.ConverterStation target_q) = refl
+no_fifth other = refl
 
 -- nor with the second or the third
 no_second : (item : Injection) → nat_le 2 (item_format item) ≡ nat_le 4 (item_format item)
 unfolding item_format
 no_second (injections.Load p0 q0) = refl
-no_second (injections.Generator target_p target_v min_p max_p) = refl
-no_second (injections.Battery target_p target_q min_p max_p) = refl
-no_second (injections.ShuntCompensator section_count max_sections) = refl
-no_second (injections.StaticVarCompensator target_q) = refl
-no_second (injections.ConverterStation target_q) = refl
+no_second other = refl
 
 stand_fifth : (stand : Stand) → nat_le 5 (stand_format stand) ≡ false
 unfolding stand_format

@@ -8,7 +8,9 @@ use Rattle.grid_structure.specs.declared.NamedBranch.{NamedBranch}
 use Rattle.grid_structure.specs.declared.Branch.{Branch}
 use Rattle.grid_structure.specs.Network.{Network, Substation}
 use Rattle.std.specs.Option.{option_map}
+use Rattle.serde_json.specs.declared.value.Value.{Value}
 use Rattle.serde_json.specs.Data.{Data}
+use Rattle.serde_json.specs.View.{view}
 use Rattle.grid_structure.specs.Sites.{levels, branches}
 use Rattle.grid_print.specs.Objects.{array_of}
 use Rattle.grid_print.specs.Network.{level_value, branch_value, named_branch_value, substation_of, substation_value}
@@ -92,17 +94,15 @@ cut_out part rest (t ∷ subs) (suc k) s at =
 -- ---- turns of the loops
 
 -- one more value, and one more of what is written
-pub mapped_more : {A V D : Type 0} (written : A → D) (view : V → D) (front : List A) (old new : List V) (v : V) (x : A) → new ≡ old ++ v ∷ [] → map view old ≡ map written front → view v ≡ written x
-    → map view new ≡ map written (front ++ x ∷ [])
-mapped_more written view front old new v x grown so_far made =
-    rw grown (map-append view old (v ∷ []) ∙ ap₂ (λ ds d. ds ++ d ∷ []) so_far made ∙ sym (map-append written front (x ∷ [])))
+pub mapped_more : {A : Type 0} (written : A → Data) (front : List A) (old : List Value) (v : Value) (x : A) → map view old ≡ map written front → view v ≡ written x → map view (old ++ v ∷ []) ≡ map written (front ++ x ∷ [])
+mapped_more written front old v x so_far made = map-append view old (v ∷ []) ∙ ap₂ (λ ds d. ds ++ d ∷ []) so_far made ∙ sym (map-append written front (x ∷ []))
 
 -- one more element, with what is written of it
-pub flat_mapped : {A V D : Type 0} (written : A → List D) (view : V → D) (xs : List A) (n : ℕ) (x : A) → slice_get xs n ≡ Some x → (old new some : List V) → new ≡ old ++ some → map view old ≡ flat_map written (take n xs)
-    → map view some ≡ written x → map view new ≡ flat_map written (take (n + 1) xs)
-flat_mapped written view xs n x at old new some grown so_far made =
+pub flat_mapped : {A : Type 0} (written : A → List Data) (xs : List A) (n : ℕ) (x : A) (old some : List Value) → slice_get xs n ≡ Some x → map view old ≡ flat_map written (take n xs) → map view some ≡ written x
+    → map view (old ++ some) ≡ flat_map written (take (n + 1) xs)
+flat_mapped written xs n x old some at so_far made =
     let more : flat_map written (take n xs ++ x ∷ []) ≡ flat_map written (take n xs) ++ written x = flat_map-append written (take n xs) (x ∷ []) ∙ ap (λ ds. flat_map written (take n xs) ++ ds) (append-nil (written x)) in
-    rw (grown, one_more_at xs n x at) (map-append view old some ∙ ap₂ (λ ds es. ds ++ es) so_far made ∙ sym more)
+    rw (one_more_at xs n x at) (map-append view old some ∙ ap₂ (λ ds es. ds ++ es) so_far made ∙ sym more)
 
 pub levels_grow : (subs : List Substation) (k : ℕ) → levels_before k subs ≤ levels_before (k + 1) subs
 unfolding levels_before

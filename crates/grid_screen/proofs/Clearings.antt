@@ -113,13 +113,13 @@ pub terminals_more : (t : Touched) (ps : List Placed) (i : ℕ) (p : Placed) (st
 unfolding equipment_hit
 terminals_more t ps i p start old new lt at e was is =
     is ∙ ap (λ z. z ++ p.terminal.equipment ∷ []) was ∙ append_assoc start (map (λ (q : Placed). q.terminal.equipment) (filter (λ (q : Placed). hits_in t q.node) (take i ps))) (p.terminal.equipment ∷ [])
-    ∙ ap (λ z. start ++ z) (passed_next (λ (q : Placed). q.terminal.equipment) (λ (q : Placed). hits_in t q.node) ps i p (map (λ (q : Placed). q.terminal.equipment) (filter (λ (q : Placed). hits_in t q.node) (take i ps))) p.terminal.equipment lt at e refl refl)
+    ∙ ap (λ z. start ++ z) (passed_next (λ (q : Placed). q.terminal.equipment) (λ (q : Placed). hits_in t q.node) ps i p lt at e)
 
 pub terminals_skipped : (t : Touched) (ps : List Placed) (i : ℕ) (p : Placed) (start old : List (List ℕ)) → i < length ps → p ≡ get_or ps i p → hits_in t p.node ≡ false
     → old ≡ start ++ equipment_hit t (take i ps) → old ≡ start ++ equipment_hit t (take (i + 1) ps)
 unfolding equipment_hit
 terminals_skipped t ps i p start old lt at e was =
-    was ∙ ap (λ z. start ++ z) (skipped_next (λ (q : Placed). q.terminal.equipment) (λ (q : Placed). hits_in t q.node) ps i p (map (λ (q : Placed). q.terminal.equipment) (filter (λ (q : Placed). hits_in t q.node) (take i ps))) lt at e refl)
+    was ∙ ap (λ z. start ++ z) (skipped_next (λ (q : Placed). q.terminal.equipment) (λ (q : Placed). hits_in t q.node) ps i p lt at e)
 
 -- ---- level by level
 

@@ -37,7 +37,7 @@ module _ (l : VoltageLevel) (labels : List ℕ) (ps : List Placed) (i : ℕ) (p 
 
   skips : (label : ℕ) → is_end_in l labels label p ≡ false → get_or ends label [] ≡ ends_in l labels (take (i + 1) ps) label
   unfolding ends_in
-  skips label e = skipped_next (λ (q : Placed). q.terminal.equipment) (is_end_in l labels label) ps i p (get_or ends label []) lt at e (was.each label)
+  skips label e = was.each label ∙ skipped_next (λ (q : Placed). q.terminal.equipment) (is_end_in l labels label) ps i p lt at e
 
   -- a terminal of no branch
   pub ends_skipped : is_branch_end p.stand ≡ false → AreEnds l labels (take (i + 1) ps) ends
@@ -57,7 +57,8 @@ module _ (l : VoltageLevel) (labels : List ℕ) (ps : List Placed) (i : ℕ) (p 
       own label same =
           ap (λ z. get_or z label []) is ∙ ap (λ z. get_or (slice_set ends at_label (get_or ends at_label [] ++ p.terminal.equipment ∷ [])) z []) (sym same) ∙ get_or-set_same ends at_label (get_or ends at_label [] ++ p.terminal.equipment ∷ []) [] below
           ∙ ap (λ z. get_or ends z [] ++ p.terminal.equipment ∷ []) same
-          ∙ passed_next (λ (q : Placed). q.terminal.equipment) (is_end_in l labels label) ps i p (get_or ends label []) p.terminal.equipment lt at (and_from (is_branch_end p.stand) (label_by l labels p.node == label) e (eq-eqb (label_by l labels p.node) label same)) (was.each label) refl
+          ∙ ap (λ z. z ++ p.terminal.equipment ∷ []) (was.each label)
+          ∙ passed_next (λ (q : Placed). q.terminal.equipment) (is_end_in l labels label) ps i p lt at (and_from (is_branch_end p.stand) (label_by l labels p.node == label) e (eq-eqb (label_by l labels p.node) label same))
 
       by : (label : ℕ) (u : Bool) → (label_by l labels p.node == label) ≡ u → get_or new label [] ≡ ends_in l labels (take (i + 1) ps) label
       by label true q = own label (eqb-true (label_by l labels p.node) label q)

@@ -19,7 +19,6 @@ use Rattle.grid_outages.specs.Steps.{Stands, levels_after, rows_after}
 use Rattle.grid_screen.proofs.Buses.{all_sums}
 use Rattle.grid_screen.proofs.SumFigures.{figured, pairs_below}
 use Rattle.grid_screen.proofs.EquipmentOutages.{pairs_left}
-use Rattle.grid_outages.proofs.ShownLevels.{stands_as}
 use Rattle.grid_screen.proofs.OutageSteps.{Outcome, none_out, all_more, buses_of_state}
 
 -- the state after the outage, with what the levels and rows by list are
@@ -42,7 +41,7 @@ screens first ids changes firsts sums pairs sound s first_is sums_is pairs_is =
     let state = state_without first ids in
     let o = outcome first ids sound in
     let now : Stands first.powers (levels net) first.opened changes (levels state.structure) state.opened =
-    stands_as first.powers (levels net) first.opened changes (levels_after net ids (levels net)) (levels state.structure) (rows_after net ids first.opened) state.opened s o.levels_are o.rows_are in
+    rw (o.levels_are, o.rows_are) at s in
     let all = buses_over first.powers (levels state.structure) state.opened in
     let own = λ (b : NetworkBus). bus_sums b.1 in
     let listed : sums ≡ map own all = sums_is ∙ all_sums first.powers (levels net) first.opened changes (levels state.structure) state.opened now in

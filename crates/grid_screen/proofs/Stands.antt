@@ -140,7 +140,7 @@ sited net id k l s at h =
     let found = some_value (position (has_terminal id side) (levels net)) (some_position (has_terminal id side) (levels net) ∙ any_there (has_terminal id side) (levels net) k l at here) in
     let passes = position_found (has_terminal id side) (levels net) found.0 found.1 in
     let there = some_got (levels net) found.0 passes.0 in
-    let same : found.0 ≡ k = one_home net id side found.0 k there.0 l s there.1 at (passes.1 there.0 there.1) here in
+    let same : found.0 ≡ k = one_home net id side found.0 k s (there.0, there.1, passes.1 there.0 there.1) (l, at, here) in
     let first : level_of_terminal net id side ≡ Some k = found.1 ∙ ap (λ z. Some z) same in
     let node = some_value (terminal_test id side l) (sym (terminal_tested id side l) ∙ here) in
     record { side = side; least = range.0; most = range.1; node = node.0; is = terminal_somewhere net id side k l first at ∙ ap (option_map (λ y. (k, y))) node.1 }

@@ -138,7 +138,7 @@ module _ (level : VoltageLevel) (test : Stand → Bool) (w : Placed → ℤ) whe
           let other = any_found (λ j. group_has j p) ks e in
           let here = group_node level k p.node h in
           let there = group_node level other.0 p.node other.2 in
-          let same = leads_alone (nodes level) (passing bus level) k other.0 p.node (level_holds bus level) here.0 (led k (inl refl)) (led other.0 (inr other.1)) here.1 there.1 in
+          let same = leads_alone (nodes level) (passing bus level) k other.0 p.node (level_holds bus level) here.0 (led k (inl refl), here.1) (led other.0 (inr other.1), there.1) in
           let above : k < other.0 = ltb-true k other.0 (all_of (nat_lt k) ks other.0 parts.0 other.1) in
           absurd (omega (arith, same, above))
 

@@ -168,7 +168,7 @@ module _ {id : List ℕ} {heads : List Head} {ls : List VoltageLevel} {ts lines 
       let there = some_got ls found.0 (position_found (has_terminal e s.0) ls found.0 found.1).0 in
       let passes = (position_found (has_terminal e s.0) ls found.0 found.1).1 there.0 there.1 in
       let flat : levels net ≡ ls = kept_levels kept in
-      let same : found.0 ≡ k = one_home net e s.0 found.0 k there.0 l kept.sound (rw flat there.1) (rw flat at) passes here in
+      let same : found.0 ≡ k = one_home net e s.0 found.0 k kept.sound (there.0, rw flat there.1, passes) (l, rw flat at, here) in
       one_of_three places s.0 k (look e) (sym ((kept_flat kept).terminals e s.0) ∙ found.1 ∙ ap (λ z. Some z) same)
     where
       some_side : (ps : List Placed) → list_any (λ (p : Placed). same_id e p.terminal.equipment) ps ≡ true → (s : ℕ) × (list_any (λ (p : Placed). same_id e p.terminal.equipment && (p.terminal.side == s)) ps ≡ true)

@@ -8,7 +8,7 @@ use Rattle.grid_ids.specs.Refusing.{◌>>=◌, map_fault}
 use Rattle.grid_ids.proofs.Alike.{same_is}
 use Rattle.grid_level.specs.VoltageLevel.{VoltageLevel}
 use Rattle.grid_level.specs.declared.LevelFault.{LevelFault}
-use Rattle.grid_level.specs.LevelEdits.{Unfit, refusal_of, level_fault_of, node_range, node_taken, same_node, no_edge, too_many_nodes, too_many_edges}
+use Rattle.grid_level.specs.LevelEdits.{Unfit, refusal_of, level_fault_of, node_range}
 use Rattle.grid_structure.specs.declared.NamedBranch.{NamedBranch}
 use Rattle.grid_structure.specs.declared.structure.IdOwner.{IdOwner}
 use Rattle.grid_structure.specs.declared.structure.Head.{Head}
@@ -126,8 +126,4 @@ pub told_refusal : (r : Result VoltageLevel Unfit) (f : VoltageLevel → Result 
 unfolding refusal_of level_fault_of edit_fault
 told_refusal (Ok x) f fault e = rw e tt
 told_refusal (Err (node_range node)) f fault e = rw e refl
-told_refusal (Err (node_taken terminal)) f fault e = rw e refl
-told_refusal (Err (same_node node)) f fault e = rw e refl
-told_refusal (Err no_edge) f fault e = rw e refl
-told_refusal (Err too_many_nodes) f fault e = rw e refl
-told_refusal (Err too_many_edges) f fault e = rw e refl
+told_refusal (Err unfit) f fault e = rw e refl

@@ -128,22 +128,12 @@ below_with at n places l h = over places h
         step false less = lt-ltb (p + 1) (n + 1) (omega arith)
 
 level_moved : (at : ℕ) (places : List ℕ) (o : Option IdOwner) → is_within (length places) o ≡ true → level_at (places_with at places) o ≡ option_map (moved at) (level_at places o)
-level_moved at places None h = refl
-level_moved at places (Some (entries.Substation place)) h = refl
 level_moved at places (Some (entries.Level key)) h = got_moved at places (at ∷ []) key (ltb-true key (length places) h)
-level_moved at places (Some (entries.Switch key)) h = refl
-level_moved at places (Some (entries.Single key)) h = refl
-level_moved at places (Some (entries.TwoEnded key1 key2)) h = refl
-level_moved at places (Some (entries.ThreeEnded key1 key2 key3)) h = refl
+level_moved at places other h = refl
 
 switch_moved : (at : ℕ) (places : List ℕ) (o : Option IdOwner) → is_within (length places) o ≡ true → switch_at (places_with at places) o ≡ option_map (moved at) (switch_at places o)
-switch_moved at places None h = refl
-switch_moved at places (Some (entries.Substation place)) h = refl
-switch_moved at places (Some (entries.Level key)) h = refl
 switch_moved at places (Some (entries.Switch key)) h = got_moved at places (at ∷ []) key (ltb-true key (length places) h)
-switch_moved at places (Some (entries.Single key)) h = refl
-switch_moved at places (Some (entries.TwoEnded key1 key2)) h = refl
-switch_moved at places (Some (entries.ThreeEnded key1 key2 key3)) h = refl
+switch_moved at places other h = refl
 
 chosen : (f : ℕ → ℕ) (t : Bool) (a b : Option ℕ) → option_map f (cond t a b) ≡ cond t (option_map f a) (option_map f b)
 chosen f true a b = refl

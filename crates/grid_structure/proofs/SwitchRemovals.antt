@@ -124,13 +124,8 @@ others_left e old j same = record {
 
 -- only a switch's entry tells of a switch
 switch_entry : (places : List ℕ) (o : Option IdOwner) (k : ℕ) → switch_at places o ≡ Some k → (key : ℕ) × (o ≡ Some (entries.Switch key))
-switch_entry places None k h = cc
-switch_entry places (Some (entries.Substation place)) k h = cc
-switch_entry places (Some (entries.Level key)) k h = cc
 switch_entry places (Some (entries.Switch key)) k h = (key, refl)
-switch_entry places (Some (entries.Single key)) k h = cc
-switch_entry places (Some (entries.TwoEnded key1 key2)) k h = cc
-switch_entry places (Some (entries.ThreeEnded key1 key2 key3)) k h = cc
+switch_entry places other k h = cc
 
 -- a place as the reader gives it
 pub from_spot : (o : Option (ℕ × ℕ)) (at : SwitchAt) → Some at ≡ option_map switch_spot o → o ≡ Some (at.level, at.place)

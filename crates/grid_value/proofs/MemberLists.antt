@@ -41,9 +41,9 @@ pub patched : (old one new body : List Node) (n m : Node) (place : ℕ) → plac
 patched old one new body n m place here first all =
     ap₂ (λ ns i. slice_set ns i m) (all ∙ ap (λ ns. ns ++ body) first ∙ behind_one old n body) here ∙ set-append_seam old n body m
 
-pub counted : (old one new body : List Node) (n : Node) (place all_places : ℕ) → place ≡ length old → all_places ≡ length new → one ≡ old ++ n ∷ [] → new ≡ one ++ body → all_places - place - 1 ≡ length body
-counted old one new body n place all_places here count first all =
-    let long = ap length (all ∙ ap (λ ns. ns ++ body) first ∙ behind_one old n body) ∙ length-append old (n ∷ body) in
+pub counted : (old new body : List Node) (n : Node) (place all_places : ℕ) → place ≡ length old → all_places ≡ length new → new ≡ (old ++ n ∷ []) ++ body → all_places - place - 1 ≡ length body
+counted old new body n place all_places here count all =
+    let long = ap length (all ∙ behind_one old n body) ∙ length-append old (n ∷ body) in
     omega (arith, long, here, count)
 
 -- what grew from nothing is the value itself

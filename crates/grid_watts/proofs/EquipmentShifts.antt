@@ -29,10 +29,11 @@ use Rattle.grid_powers.specs.Listed.{Listed, value_in, with_value, without_value
 use Rattle.grid_powers.proofs.ListedValues.{value_without, value_with-other, value_with-own}
 use Rattle.grid_busview.specs.Views.{stand_watts}
 use Rattle.grid_watts.specs.Watts.{watts_at, watts_for, is_powered, powered, powered_by, terminals}
+use Rattle.grid_watts.specs.Moved.{leaves_rows}
 use Rattle.grid_watts.specs.Shares.{Part, own_part, set_part, edit_part, listed_after}
 use Rattle.grid_watts.proofs.TerminalSums.{summed, adds, all_placed, whole}
 use Rattle.grid_watts.proofs.EquipmentShares.{IsPart, others, split, others_alike, owned_found}
-use Rattle.grid_watts.proofs.EditShifts.{substations_alike, substation_stays, level_stays, busbar_stays, switch_stays, switch_less_stays, internal_stays, internal_less_stays, injection_brings, branch_stays}
+use Rattle.grid_watts.proofs.EditShifts.{substations_alike, level_stays, injection_brings, edit_stays}
 
 -- ---- each id stands under at most one single
 
@@ -135,14 +136,8 @@ set_moves part net id p watts listed only s h =
 
 pub edit_moves : (part : Part) (net new : Network) (edit : Edit) (listed : Listed) → IsPart part → IsSound net → apply net edit ≡ Ok new
     → whole part new (listed_after edit listed) ≡ whole part net listed +ℤ edit_part part net listed edit
-unfolding edit_part listed_after
-edit_moves part net new (edits.AddSubstation id) listed only s h = substation_stays part net new id listed h
+unfolding edit_part listed_after leaves_rows
 edit_moves part net new (edits.AddLevel id substation nominal_v low_v high_v) listed only s h = level_stays part net new id substation nominal_v low_v high_v listed h
-edit_moves part net new (edits.AddBusbar id level node) listed only s h = busbar_stays part net new id level node listed only s h
-edit_moves part net new (edits.AddSwitch id level kind node1 node2 opened retained fictitious) listed only s h = switch_stays part net new id level kind node1 node2 opened retained fictitious listed s h
-edit_moves part net new (edits.RemoveSwitch id) listed only s h = switch_less_stays part net new id listed h
-edit_moves part net new (edits.AddInternal level node1 node2) listed only s h = internal_stays part net new level node1 node2 listed s h
-edit_moves part net new (edits.RemoveInternal level node1 node2) listed only s h = internal_less_stays part net new level node1 node2 listed s h
 edit_moves part net new (edits.AddInjection id level node item) listed only s h = injection_brings part net new id level node item listed s h
-edit_moves part net new (edits.AddBranch id shape) listed only s h = branch_stays part net new id shape listed only s h
 edit_moves part net new (edits.RemoveEquipment id) listed only s h = removed_takes part net new id listed only s h
+edit_moves part net new other listed only s h = edit_stays part net new other listed only s h refl

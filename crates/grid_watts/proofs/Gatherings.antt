@@ -156,23 +156,21 @@ row_at listed [] k l at = cc
 row_at listed (x ∷ ls) zero l at = let same : x ≡ l = cc in ap (λ (z : VoltageLevel). pairs listed z.placed) same
 row_at listed (x ∷ ls) (suc k) l at = row_at listed ls k l at
 
-pub level_gathered : (net : Network) (listed found new : Listed) (rows : List (List NodeWatts)) (place : ℕ) (l : VoltageLevel) (row : List NodeWatts) → IsSound net → slice_get (levels net) place ≡ Some l
-    → rows ≡ listed_rows listed net → row ≡ pairs_at rows place → new ≡ with_pairs_of l row found → HasValuesOf listed (terminals_before net place) found → HasValuesOf listed (terminals_before net (place + 1)) new
+pub level_gathered : (net : Network) (listed found : Listed) (place : ℕ) (l : VoltageLevel) (row : List NodeWatts) → IsSound net → slice_get (levels net) place ≡ Some l → row ≡ pairs_at (listed_rows listed net) place
+    → HasValuesOf listed (terminals_before net place) found → HasValuesOf listed (terminals_before net (place + 1)) (with_pairs_of l row found)
 unfolding terminals_before pairs_at
-level_gathered net listed found new rows place l row s at are is put k =
+level_gathered net listed found place l row s at is k =
     let ls = levels net in
     let rises = (on_level.passes_of l (level_at ls place l s.each_level at)).within.rise in
-    let told : row ≡ pairs listed l.placed = is ∙ ap (λ z. slice_index_or z place []) (are ∙ rows_are listed net) ∙ row_at listed ls place l at in
+    let told : row ≡ pairs listed l.placed = is ∙ ap (λ z. slice_index_or z place []) (rows_are listed net) ∙ row_at listed ls place l at in
     let made : HasValuesOf listed (all_placed (take place ls) ++ l.placed) (with_pairs_of l (pairs listed l.placed) found) = row_gathered listed l (all_placed (take place ls)) found rises k in
-    let here : HasValuesOf listed (all_placed (take place ls) ++ l.placed) new = subst (λ (z : Listed). HasValuesOf listed (all_placed (take place ls) ++ l.placed) z) (sym (put ∙ ap (λ z. with_pairs_of l z found) told)) made in
-    subst (λ (ps : List Placed). HasValuesOf listed ps new) (sym (part_more ls place l at)) here
+    let here = subst (λ z. HasValuesOf listed (all_placed (take place ls) ++ l.placed) (with_pairs_of l z found)) (sym told) made in
+    subst (λ (ps : List Placed). HasValuesOf listed ps (with_pairs_of l row found)) (sym (part_more ls place l at)) here
 
-pub network_gathered : (net : Network) (listed : Listed) (place : ℕ) (powers : PowerList) (load generation : ℤ) → IsListing net listed → length (levels net) ≤ place → HasValuesOf listed (terminals_before net place) powers.listed
-    → powers.load ≡ load → powers.generation ≡ generation → powers ≡ record { listed = listed; load = load; generation = generation }
+pub network_gathered : (net : Network) (listed : Listed) (place : ℕ) (powers : PowerList) → IsListing net listed → length (levels net) ≤ place → HasValuesOf listed (terminals_before net place) powers.listed
+    → powers ≡ record powers { listed = listed }
 unfolding terminals_before
-network_gathered net listed place powers load generation k end values a b =
+network_gathered net listed place powers k end values =
     let whole : HasValuesOf listed (all_placed (levels net)) powers.listed = subst (λ (z : List VoltageLevel). HasValuesOf listed (all_placed z) powers.listed) (take_all place (levels net) end) values in
-    let listing : Listed → PowerList = λ z. record { listed = z; load = powers.load; generation = powers.generation } in
-    let loading : ℤ → PowerList = λ z. record { listed = listed; load = z; generation = powers.generation } in
-    let generating : ℤ → PowerList = λ z. record { listed = listed; load = load; generation = z } in
-    ap listing (all_gathered net listed powers.listed k whole) ∙ ap loading a ∙ ap generating b
+    let listing : Listed → PowerList = λ z. record powers { listed = z } in
+    ap listing (all_gathered net listed powers.listed k whole)

@@ -4,7 +4,6 @@ use Rattle.std.specs.Prelude.{find, insert, nat_lt, Ok}
 use Rattle.std.specs.List.Sorted.{IsStrictlySortedBy}
 use Rattle.grid_ids.specs.Name.{same_id}
 use Rattle.grid_ids.proofs.Alike.{same_is}
-use Rattle.grid_kinds.specs.declared.Injection.{Injection}
 use Rattle.grid_level.specs.declared.Placed.{Placed}
 use Rattle.grid_level.specs.declared.Stand.TheVariants.{Feeder}
 use Rattle.grid_level.specs.VoltageLevel.{VoltageLevel}
@@ -112,17 +111,6 @@ removal_there net new id q listed h k none = by (same_id q id) refl
     by true e = subst (λ (z : List ℕ). value_in (without_value id listed) z ≡ None) (sym (same_is q id e)) (value_gone id listed k.ordered)
     by false e = value_without id q listed e ∙ k.there q (sym (removal_finds net new id q h e) ∙ none)
 
--- ---- a new injection
-
-injection_there : (net new : Network) (id level : List ℕ) (node : ℤ) (item : Injection) (q : List ℕ) (listed : Listed) → IsSound net → apply net (edits.AddInjection id level node item) ≡ Ok new → IsListing net listed → powered new q ≡ None
-    → value_in listed q ≡ None
-injection_there net new id level node item q listed s h k none = by (same_id q id) refl
-  where
-    by : (t : Bool) → same_id q id ≡ t → value_in listed q ≡ None
-    by true e = k.there q (ap (powered net) (same_is q id e) ∙ injection_new net new id level node item h)
-    by false e = k.there q
-        (sym (by_readings net new q (injection_alike (find (powered_by q)) net new id level node item s h (λ n. found_ignores (powered_by q) _ (ap (λ t. t && is_powered (Feeder item)) e)))) ∙ none)
-
 -- ---- every edit
 
 edit_ordered : (edit : Edit) (listed : Listed) → IsByOrder listed → IsByOrder (listed_after edit listed)
@@ -133,7 +121,12 @@ edit_ordered other listed o = o
 edit_there : (net new : Network) (edit : Edit) (listed : Listed) → IsSound net → apply net edit ≡ Ok new → IsListing net listed → AllThere new (listed_after edit listed)
 unfolding listed_after leaves_rows
 edit_there net new (edits.AddLevel id substation nominal_v low_v high_v) listed s h k q none = k.there q (sym (level_finds net new id substation nominal_v low_v high_v q s h) ∙ none)
-edit_there net new (edits.AddInjection id level node item) listed s h k q none = injection_there net new id level node item q listed s h k none
+edit_there net new (edits.AddInjection id level node item) listed s h k q none = by (same_id q id) refl
+  where
+    by : (t : Bool) → same_id q id ≡ t → value_in listed q ≡ None
+    by true e = k.there q (ap (powered net) (same_is q id e) ∙ injection_new net new id level node item h)
+    by false e = k.there q
+        (sym (by_readings net new q (injection_alike (find (powered_by q)) net new id level node item s h (λ n. found_ignores (powered_by q) _ (ap (λ t. t && is_powered (Feeder item)) e)))) ∙ none)
 edit_there net new (edits.RemoveEquipment id) listed s h k q none = removal_there net new id q listed h k none
 edit_there net new other listed s h k q none = k.there q (sym (by_readings net new q (edit_alike (find (powered_by q)) (found_reads q) net new other s h refl)) ∙ none)
 

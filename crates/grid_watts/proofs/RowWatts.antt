@@ -1,5 +1,5 @@
 -- The watts of a level's terminals, read off its row in order; and those of one terminal.
-use Rattle.std.proofs.Common.{◌≡◌, refl, sym, ap, ◌∙◌, ℕ, ℤ, pos, zero, suc, ◌+◌, ◌<◌, ◌≤◌, true, false, List, [], ◌∷◌, ◌++◌, length, take, drop, get_or, arith, Option, Some, None}
+use Rattle.std.proofs.Common.{◌≡◌, refl, sym, ap, ap₂, ◌∙◌, ℕ, ℤ, pos, zero, suc, ◌+◌, ◌<◌, ◌≤◌, true, false, List, [], ◌∷◌, ◌++◌, length, take, drop, get_or, arith, Option, Some, None}
 use Rattle.std.specs.Prelude.{map, filter_map, nat_lt, unwrap_or}
 use Rattle.std.specs.List.{list_all, cons_option}
 use Rattle.std.proofs.lemmas.Bool.{and_parts}
@@ -47,12 +47,9 @@ pub row_ahead : (listed : Listed) (ps : List Placed) (i : ℕ) (p : Placed) (val
     → left ≡ filter_map (listed_pair listed) (p ∷ drop (i + 1) ps)
 row_ahead listed ps i p values left are lt is = are.left_is ∙ ap (filter_map (listed_pair listed)) (ahead ps i p lt is)
 
-pub read_more : (listed : Listed) (ps : List Placed) (i : ℕ) (p : Placed) (values after : List ℤ) (left rest : List NodeWatts) (watts : ℤ) → AreRead listed ps i values left → i < length ps → p ≡ get_or ps i p
-    → watts ≡ watts_at listed p → rest ≡ filter_map (listed_pair listed) (drop (i + 1) ps) → after ≡ values ++ watts ∷ [] → AreRead listed ps (i + 1) after rest
-read_more listed ps i p values after left rest watts are lt is own behind more = record {
-  values_are = more ∙ ap (λ w. values ++ w ∷ []) (own ∙ ap (watts_at listed) is) ∙ ap (λ vs. vs ++ watts_at listed (get_or ps i p) ∷ []) are.values_are ∙ sym (map_more (watts_at listed) ps i p lt);
-  left_is = behind;
-}
+pub values_more : (listed : Listed) (ps : List Placed) (i : ℕ) (p : Placed) (values : List ℤ) (left : List NodeWatts) → AreRead listed ps i values left → i < length ps → p ≡ get_or ps i p
+    → values ++ watts_at listed p ∷ [] ≡ map (watts_at listed) (take (i + 1) ps)
+values_more listed ps i p values left are lt is = ap₂ (λ vs w. vs ++ w ∷ []) are.values_are (ap (watts_at listed) is) ∙ sym (map_more (watts_at listed) ps i p lt)
 
 pub read_all : (listed : Listed) (level : VoltageLevel) (ps : List Placed) (i : ℕ) (values : List ℤ) (left : List NodeWatts) → ps ≡ level.placed → length ps ≤ i → AreRead listed ps i values left → values ≡ level_watts listed level
 unfolding level_watts

@@ -6,7 +6,7 @@ use Rattle.grid_level.specs.declared.Placed.{Placed}
 use Rattle.grid_level.specs.VoltageLevel.{VoltageLevel}
 use Rattle.grid_powers.specs.Listed.{Listed}
 use Rattle.grid_watts.specs.Watts.{watts_at, level_watts}
-use Rattle.grid_watts.proofs.RowWatts.{read_none, rises_ahead, row_ahead, read_more, read_all}
+use Rattle.grid_watts.proofs.RowWatts.{read_none, rises_ahead, row_ahead, values_more, read_all}
 use Rattle.grid_board.proofs.ListEquality.{never, always, differ}
 use Rattle.grid_board.proofs.comparing.same_watts.Goals as goal
 
@@ -45,8 +45,11 @@ loop-place-preserved c = λ listed is.
     (row_ahead listed ps place p (take place ws) c.loop-place.behind.now read c.loop-place-test.true c.index-placed-place.is) in
     let below : place < length ws = search rules in
     let equal : c.next_watts-found.result.0 ≡ get_or ws place (pos 0) = search rules in
-    read_more listed ps place p (take place ws) (take (place + 1) ws) c.loop-place.behind.now c.next_watts-found.result.1.now c.next_watts-found.result.0 read c.loop-place-test.true c.index-placed-place.is told.0 told.1
-    (take_more ws place (pos 0) below ∙ ap (λ w. take place ws ++ w ∷ []) (sym equal))
+    record {
+      values_are = take_more ws place (pos 0) below ∙ ap (λ w. take place ws ++ w ∷ []) (sym equal ∙ told.0)
+          ∙ values_more listed ps place p (take place ws) c.loop-place.behind.now read c.loop-place-test.true c.index-placed-place.is;
+      left_is = told.1;
+    }
 
 pub returns : goal.returns
 returns c = λ listed is.

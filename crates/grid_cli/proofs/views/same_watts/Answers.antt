@@ -7,7 +7,7 @@ use Rattle.grid_lemmas.proofs.Options.{some_is}
 use Rattle.grid_level.specs.declared.Placed.{Placed}
 use Rattle.grid_watts.specs.Watts.{watts_at, level_watts}
 use Rattle.grid_watts.proofs.Merges.{ended}
-use Rattle.grid_watts.proofs.RowWatts.{records_of_level, read_none, rises_ahead, row_ahead, read_more, read_all}
+use Rattle.grid_watts.proofs.RowWatts.{records_of_level, read_none, rises_ahead, row_ahead, values_more, read_all}
 use Rattle.grid_board.proofs.ListEquality.{always, never}
 use Rattle.grid_cli.proofs.views.same_watts.Goals as goal
 
@@ -41,8 +41,11 @@ loop-placed-preserved c = λ listed other_listed is other_is.
     let watts = c.next_watts-watts.result.0 in
     let same : watts ≡ c.next_watts-other_watts.result.0 = search rules in
     let more : after ≡ before ++ watts ∷ [] = map_more (watts_at listed) ps place p below ∙ ap (λ w. before ++ w ∷ []) (ap (watts_at listed) (sym here) ∙ sym told.0) in (
-      read_more listed ps place p before after c.loop-placed.behind.now c.next_watts-watts.result.1.now watts held.0 below here told.0 told.1 more,
-      read_more other_listed ps place p before after c.loop-placed.others_behind.now c.next_watts-other_watts.result.1.now watts held.1 below here (same ∙ other_told.0) other_told.1 more,
+      record { values_are = refl; left_is = told.1 },
+      record {
+        values_are = more ∙ ap (λ w. before ++ w ∷ []) (same ∙ other_told.0) ∙ values_more other_listed ps place p before c.loop-placed.others_behind.now held.1 below here;
+        left_is = other_told.1;
+      },
     )
 
 pub returns-then-watts-other_watts : goal.returns-then-watts-other_watts

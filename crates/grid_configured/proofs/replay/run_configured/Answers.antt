@@ -2,7 +2,7 @@ use Rattle.std.proofs.Common.{◌≤◌, sym, ap, ◌∙◌, subst, length}
 use Rattle.grid_structure.specs.Editing.{max_levels}
 use Rattle.grid_configured.specs.Histories.{ConfiguredHistory}
 use Rattle.grid_configured.specs.Reports.{replies_of, history_of}
-use Rattle.grid_configured.proofs.Fewness.{few_levels}
+use Rattle.grid_configured.proofs.Limits.{few_levels}
 use Rattle.grid_configured.proofs.replay.run_configured.Goals as goal
 
 pub outcome-requires-clause-few : goal.outcome-requires-clause-few

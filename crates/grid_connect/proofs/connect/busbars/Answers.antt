@@ -1,13 +1,16 @@
-use Rattle.std.proofs.Common.{◌≡◌, sym, ap, ◌∙◌, subst, List, length, replicate, true, false, arith}
+use Rattle.std.proofs.Common.{◌≡◌, sym, ap, ap₂, ◌∙◌, ◌&&◌, ◌||◌, subst, List, length, take, replicate, true, false, arith}
+use Rattle.std.specs.Prelude.{eqb}
 use Rattle.std.specs.List.{list_all}
 use Rattle.std.proofs.Math.ListN.{length-replicate}
 use Rattle.grid_graph.proofs.Reach.{In}
 use Rattle.grid_level.specs.declared.Placed.{Placed}
 use Rattle.grid_level.specs.Passing.{nodes}
 use Rattle.grid_level.specs.Kept.{among}
+use Rattle.grid_lemmas.proofs.Lists.{take_next}
+use Rattle.grid_paths.specs.Routes.{is_goal}
 use Rattle.grid_groups.proofs.Indices.{among_In, index_below}
 use Rattle.grid_groups.proofs.Steps.{all_at}
-use Rattle.grid_connect.proofs.Lists.{bars_none, bars_more, bars_end}
+use Rattle.grid_connect.proofs.Lists.{BusbarsTo, bars_none, bars_more, bars_end}
 use Rattle.grid_connect.proofs.connect.busbars.Goals as goal
 use Rattle.grid_connect.proofs.connect.busbars.Goals.{After-placed-item}
 
@@ -32,11 +35,19 @@ loop-placed-init c =
     }
 
 pub loop-placed-preserved : goal.loop-placed-preserved
-loop-placed-preserved c = record {
-  long = c.mark_if.ensures.long ∙ c.loop-placed.invariant.long;
-  busbars = bars_more (nodes c.args.level.now) c.placed-placed-items.result.now c.loop-placed.placed-index c.index_of.result c.placed-item.result c.loop-placed.marks.items c.mark_if.new.marks.items c.is_busbar.result
-      c.loop-placed-test.true c.placed-item.is (inside (goal.at.loop-placed-preserved c).After-placed-item) c.index_of.ensures c.is_busbar.ensures c.mark_if.ensures.marks c.loop-placed.invariant.busbars;
-}
+loop-placed-preserved c =
+    let all = c.placed-placed-items.result.now in
+    let i = c.loop-placed.placed-index in
+    let p = c.placed-item.result in
+    let old = c.loop-placed.marks.items in
+    let new = c.mark_if.new.marks.items in
+    let P : List Placed → Type 0 = λ z. BusbarsTo (nodes c.args.level.now) z new in
+    record {
+      long = c.mark_if.ensures.long ∙ c.loop-placed.invariant.long;
+      busbars = subst P (sym (take_next all i p c.loop-placed-test.true c.placed-item.is))
+          (bars_more (nodes c.args.level.now) (take i all) p old new (inside (goal.at.loop-placed-preserved c).After-placed-item)
+          (λ k. c.mark_if.ensures.marks k ∙ ap₂ (λ j t. is_goal old k || (eqb j k && t)) c.index_of.ensures c.is_busbar.ensures) c.loop-placed.invariant.busbars);
+    }
 
 pub returns-clause-busbars : goal.returns-clause-busbars
 returns-clause-busbars c =

@@ -3,9 +3,10 @@ use Rattle.std.specs.Prelude.{filter, IsTrue, not}
 use Rattle.std.specs.List.{slice_index_or}
 use Rattle.grid_level.specs.VoltageLevel.{VoltageLevel}
 use Rattle.grid_level.specs.Passing.{nodes, positioned}
+use Rattle.grid_groups.specs.Labels.{index_in}
 use Rattle.grid_groups.proofs.Indices.{among_In, index_below}
 use Rattle.grid_groups.proofs.PassingEdges.{nodes-positioned}
-use Rattle.grid_paths.specs.Routes.{IsLeastRoute, is_route}
+use Rattle.grid_paths.specs.Routes.{PathEdge, IsLeastRoute, is_route}
 use Rattle.grid_connect.specs.Plans.{connect_plan_of}
 use Rattle.grid_connect.specs.Indexed.{path_edges_of, AreBusbars}
 use Rattle.grid_connect.specs.Effects.{Connects}
@@ -36,12 +37,15 @@ along c =
     let edges = path_edges_of c.over-paths.result in
     let goals = c.as_slice.result.now in
     let least : IsLeastRoute edges goals c.index_of.result c.in-Some.path = rw c.in-Some.is at c.in_ok-path.ensures.least in
-    let P : ℕ → Type 0 = λ n. IsLeastRoute edges goals n c.in-Some.path in
+    let P : List PathEdge → ℕ → Type 0 = λ es n. IsLeastRoute es goals n c.in-Some.path in
     let Q : List Bool → Type 0 = λ z. AreBusbars c.args.level.now z in
     let opens : c.in_ok-opens-in-Some.opens ≡ filter (λ p. slice_index_or c.args.states.now p false) c.in-Some.path =
     c.in_ok-opens-in-Some.ensures ∙ ap (filter (λ p. slice_index_or c.args.states.now p false)) c.slice.ensures in
-    closes_along c.args.level.now c.args.states.now c.args.node edges goals c.in-Some.path c.in_ok-opens-in-Some.opens (ap path_edges_of c.over-paths.ensures) (subst Q (sym c.as_slice.ensures.value) c.in_ok-goals.ensures.busbars)
-    c.requires.node (subst P c.index_of.ensures least) c.requires.flags opens c.requires.apart
+    let R : List ℕ → Type 0 = λ z.
+    (connect_plan_of (positioned c.args.level.now c.args.states.now) c.args.node ≡ Close z) × Connects (positioned c.args.level.now c.args.states.now) c.args.node (Close z) in
+    subst R (sym opens)
+    (closes_along c.args.level.now c.args.states.now c.args.node goals c.in-Some.path (subst Q (sym c.as_slice.ensures.value) c.in_ok-goals.ensures.busbars) c.requires.node
+    (subst (λ es. P es (index_in (nodes c.args.level.now) c.args.node)) (ap path_edges_of c.over-paths.ensures) (subst (P edges) c.index_of.ensures least)) c.requires.flags c.requires.apart)
 
 pub returns-in-Some-clause-plan : goal.returns-in-Some-clause-plan
 returns-in-Some-clause-plan c = sym (along (goal.at.returns-in-Some-clause-plan c).After-drop-goals-in-Some).0

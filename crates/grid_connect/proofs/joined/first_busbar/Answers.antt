@@ -11,10 +11,10 @@ loop-placed-init c = bar_start (nodes c.args.indices.now) c.args.marks.now c.pla
 pub returns-then-is_marked_busbar : goal.returns-then-is_marked_busbar
 returns-then-is_marked_busbar c =
     sym (ap (marked_busbar (nodes c.args.indices.now) c.args.marks.now) (sym (c.placed-placed-items.ensures ∙ ap (λ (l : VoltageLevel). l.placed) c.level-level.ensures))
-    ∙ bar_found (nodes c.args.indices.now) c.args.marks.now c.placed-placed-items.result.now c.loop-placed.placed-index c.placed-item.result c.is_marked_busbar.result c.loop-placed-test.true c.placed-item.is
-    c.loop-placed.invariant c.is_marked_busbar.ensures c.if-is_marked_busbar.true)
+    ∙ bar_found (nodes c.args.indices.now) c.args.marks.now c.placed-placed-items.result.now c.loop-placed.placed-index c.placed-item.result c.loop-placed-test.true c.placed-item.is c.loop-placed.invariant
+    (sym c.is_marked_busbar.ensures ∙ c.if-is_marked_busbar.true))
 
 pub loop-placed-preserved : goal.loop-placed-preserved
 loop-placed-preserved c =
-    bar_on (nodes c.args.indices.now) c.args.marks.now c.placed-placed-items.result.now c.loop-placed.placed-index c.placed-item.result c.is_marked_busbar.result c.loop-placed-test.true c.placed-item.is
-    c.loop-placed.invariant c.is_marked_busbar.ensures c.if-is_marked_busbar.false
+    bar_on (nodes c.args.indices.now) c.args.marks.now c.placed-placed-items.result.now c.loop-placed.placed-index c.placed-item.result c.loop-placed-test.true c.placed-item.is c.loop-placed.invariant
+    (sym c.is_marked_busbar.ensures ∙ c.if-is_marked_busbar.false)

@@ -9,8 +9,8 @@ use Rattle.grid_contingencies.proofs.listing.list_breakers.Goals as goal
 
 pub loop-place-preserved : goal.loop-place-preserved
 loop-place-preserved c =
-    flat_more (λ (l : VoltageLevel). breakers_of l.switches) (levels c.args.structure.now) c.loop-place.place c.level.result.now c.loop-place.ids _ c.level.ensures c.loop-place.invariant
-    (c.in_ok-push_breakers.ensures ∙ ap (λ z. c.loop-place.ids ++ breakers_of z) c.switches.ensures)
+    c.in_ok-push_breakers.ensures ∙ ap (λ z. c.loop-place.ids ++ breakers_of z) c.switches.ensures
+    ∙ flat_more (λ (l : VoltageLevel). breakers_of l.switches) (levels c.args.structure.now) c.loop-place.place c.level.result.now c.loop-place.ids c.level.ensures c.loop-place.invariant
 
 pub returns : goal.returns
 returns c =

@@ -9,8 +9,8 @@ use Rattle.grid_contingencies.proofs.listing.list_standing.Goals as goal
 
 pub loop-place-preserved : goal.loop-place-preserved
 loop-place-preserved c =
-    flat_more (λ (l : VoltageLevel). placed_of c.args.kind l.placed) (levels c.args.structure.now) c.loop-place.place c.level.result.now c.loop-place.ids _ c.level.ensures c.loop-place.invariant
-    (c.in_ok-push_placed.ensures ∙ ap (λ z. c.loop-place.ids ++ placed_of c.args.kind z) c.placed.ensures)
+    c.in_ok-push_placed.ensures ∙ ap (λ z. c.loop-place.ids ++ placed_of c.args.kind z) c.placed.ensures
+    ∙ flat_more (λ (l : VoltageLevel). placed_of c.args.kind l.placed) (levels c.args.structure.now) c.loop-place.place c.level.result.now c.loop-place.ids c.level.ensures c.loop-place.invariant
 
 pub returns : goal.returns
 unfolding standing_of

@@ -1,7 +1,5 @@
 use Rattle.std.proofs.Common.{ap, ◌∙◌, ◌++◌, map, get_or}
-use Rattle.std.specs.Prelude.{flat_map}
-use Rattle.std.proofs.lemmas.List.{take_all}
-use Rattle.grid_contingencies.specs.Made.{made_of, made_by, made}
+use Rattle.grid_contingencies.specs.Made.{made_of, made_by}
 use Rattle.grid_contingencies.proofs.ItemLoops.{flat_more, got}
 use Rattle.grid_contingencies.proofs.Once.{none}
 use Rattle.grid_contingencies.proofs.making.made.Goals as goal
@@ -12,5 +10,5 @@ loop-item-preserved c =
     let items = c.slice-item-items.result.now in
     let i = c.loop-item.item-index in
     let item = get_or items i none in
-    flat_more (made_by c.args.structure.now) items i item c.loop-item.list _ (got items i none c.loop-item-test.true) c.loop-item.invariant
-    (c.in_ok-push_made.ensures ∙ ap (λ z. c.loop-item.list ++ map (made_of item.role) z) (c.slice-in-loop-item.ensures ∙ c.in_ok-ids.ensures))
+    c.in_ok-push_made.ensures ∙ ap (λ z. c.loop-item.list ++ map (made_of item.role) z) (c.slice-in-loop-item.ensures ∙ c.in_ok-ids.ensures)
+    ∙ flat_more (made_by c.args.structure.now) items i item c.loop-item.list (got items i none c.loop-item-test.true) c.loop-item.invariant

@@ -1,4 +1,4 @@
-use Rattle.std.proofs.Common.{◌≡◌, sym, ap, ◌∙◌, ◌<◌, ◌≤◌, ℕ, List, length, get_or, true, arith, subst}
+use Rattle.std.proofs.Common.{◌≡◌, sym, ap, ap₂, ◌∙◌, [], ◌∷◌, ◌++◌, ◌<◌, ◌≤◌, ℕ, List, length, get_or, true, arith, subst}
 use Rattle.std.specs.Prelude.{map}
 use Rattle.std.specs.List.{list_all}
 use Rattle.std.proofs.lemmas.List.{take_all}
@@ -27,8 +27,8 @@ loop-placed-preserved c =
     let label : Placed → _ = λ p. label_of (nodes c.args.level.now) c.args.labels.now p.node in
     record {
       labels = c.push_reserved.ensures.items
-          ∙ map_next label c.placed-placed-items.result.now c.loop-placed.placed-index c.placed-item.result c.loop-placed.keys.items (get_or c.args.labels.now c.index_of.result 0) c.loop-placed-test.true c.placed-item.is
-          c.loop-placed.invariant.labels (ap (λ k. get_or c.args.labels.now k 0) c.index_of.ensures);
+          ∙ ap₂ (λ zs z. zs ++ z ∷ []) c.loop-placed.invariant.labels (ap (λ k. get_or c.args.labels.now k 0) c.index_of.ensures)
+          ∙ map_next label c.placed-placed-items.result.now c.loop-placed.placed-index c.placed-item.result c.loop-placed-test.true c.placed-item.is;
       len = omega (arith, c.push_reserved.ensures.len, c.loop-placed.invariant.len);
       room = omega (arith, c.push_reserved.ensures.capacity, c.loop-placed.invariant.room);
     }

@@ -1,7 +1,7 @@
-use Rattle.std.proofs.Common.{◌≡◌, sym, ap, subst, ◌∙◌, ◌+◌, ◌<◌, ◌≤◌, [], ◌∷◌, ◌++◌, refl, true, ℕ, Bool, List, length, length-append, get_or, take, arith, rules}
+use Rattle.std.proofs.Common.{◌≡◌, sym, ap, subst, ◌∙◌, ◌+◌, ◌<◌, ◌≤◌, [], ◌∷◌, ◌++◌, append_assoc, refl, true, ℕ, Bool, List, length, length-append, get_or, take, arith, rules}
 use Rattle.std.specs.Prelude.{map, filter, IsTrue}
 use Rattle.std.specs.List.{zip, list_all}
-use Rattle.std.proofs.lemmas.List.{take_all, append-nil}
+use Rattle.std.proofs.lemmas.List.{take_all, append-nil, map-append}
 use Rattle.std.proofs.lemmas.Slice.Zip.{zip_turn, zip_end, length-zip, get_or-zip}
 use Rattle.grid_graph.specs.Graph.{graph}
 use Rattle.grid_queue.specs.Parents.{AreLabelsOf}
@@ -9,7 +9,7 @@ use Rattle.grid_level.specs.VoltageLevel.{VoltageLevel}
 use Rattle.grid_level.specs.Kept.{among, ends_among}
 use Rattle.grid_level.specs.Passing.{nodes, edges, switch_ends}
 use Rattle.grid_groups.specs.Labels.{pair_by_index, passing_flag}
-use Rattle.grid_groups.proofs.Steps.{passed_more, skipped_more, pair_at, passing_flag_is, passed_ends}
+use Rattle.grid_groups.proofs.Steps.{passed_next, skipped_next, pair_at, passing_flag_is, passed_ends}
 use Rattle.grid_groups.proofs.joining.join_switches.Goals as goal
 use Rattle.grid_groups.proofs.joining.join_switches.Goals.{In-Some}
 
@@ -68,13 +68,20 @@ loop-pair-preserved-then-flag-passing c =
     let flags = c.args.flags.now in
     let n : ℕ = length c.loop-pair.yielded in
     let t = next_turn (goal.at.loop-pair-preserved-then-flag-passing c).In-Some c.in-Some.flag.now refl in
+    let by_index : ℕ × ℕ → ℕ × ℕ = pair_by_index (nodes level) in
+    let all : List ((ℕ × ℕ) × Bool) = zip (map switch_ends level.switches) flags in
+    let its_ends : (ℕ × ℕ) × Bool → ℕ × ℕ = λ pair. pair.0 in
+    let its_flag : (ℕ × ℕ) × Bool → Bool = λ pair. passing_flag c.args.passing pair.1 in
+    let one : List (ℕ × ℕ) = c.in-Some.pair.now ∷ [] in
+    let more =
+    sym (map-append by_index (map its_ends (filter its_flag (take n all))) one)
+    ∙ ap (map by_index) (passed_next its_ends its_flag all n (c.in-Some.pair.now, c.in-Some.flag.now) t.1 t.2 (passing_flag_is c.args.passing c.in-Some.flag.now ∙ c.if-flag-passing.true))
+    ∙ ap (joined_to level c.args.passing flags) (sym t.0) in
     record {
       long = c.join_pair.ensures.long ∙ c.loop-pair.invariant.long;
       joined = λ pairs labels. (let P : List (ℕ × ℕ) → Type 0 = λ z. AreLabelsOf (graph (length (nodes level)) z) c.join_pair.new.joiner in
           subst P
-          (passed_more (pair_by_index (nodes level)) (λ (pair : (ℕ × ℕ) × Bool). pair.0) (λ (pair : (ℕ × ℕ) × Bool). passing_flag c.args.passing pair.1) (zip (map switch_ends level.switches) flags) n (c.in-Some.pair.now, c.in-Some.flag.now) pairs (pairs ++ joined_to level c.args.passing flags n) t.1
-          t.2 (passing_flag_is c.args.passing c.in-Some.flag.now ∙ c.if-flag-passing.true) refl
-          ∙ ap (λ k. pairs ++ joined_to level c.args.passing flags k) (sym t.0))
+          (append_assoc pairs (joined_to level c.args.passing flags n) (map by_index one) ∙ ap (λ z. pairs ++ z) more)
           (c.join_pair.ensures.joined (pairs ++ joined_to level c.args.passing flags n) (c.loop-pair.invariant.joined pairs labels)));
     }
 
@@ -88,8 +95,9 @@ loop-pair-preserved c =
       long = c.loop-pair.invariant.long;
       joined = λ pairs labels. (let P : List (ℕ × ℕ) → Type 0 = λ z. AreLabelsOf (graph (length (nodes level)) z) c.loop-pair.joiner in
           subst P
-          (skipped_more (pair_by_index (nodes level)) (λ (pair : (ℕ × ℕ) × Bool). pair.0) (λ (pair : (ℕ × ℕ) × Bool). passing_flag c.args.passing pair.1) (zip (map switch_ends level.switches) flags) n (c.in-Some.pair.now, c.in-Some.flag.now) pairs (pairs ++ joined_to level c.args.passing flags n) t.1
-          t.2 (passing_flag_is c.args.passing c.in-Some.flag.now ∙ c.if-flag-passing.false) refl
+          (ap (λ z. pairs ++ map (pair_by_index (nodes level)) z)
+          (skipped_next (λ (pair : (ℕ × ℕ) × Bool). pair.0) (λ (pair : (ℕ × ℕ) × Bool). passing_flag c.args.passing pair.1) (zip (map switch_ends level.switches) flags) n (c.in-Some.pair.now, c.in-Some.flag.now) t.1
+          t.2 (passing_flag_is c.args.passing c.in-Some.flag.now ∙ c.if-flag-passing.false))
           ∙ ap (λ k. pairs ++ joined_to level c.args.passing flags k) (sym t.0))
           (c.loop-pair.invariant.joined pairs labels));
     }

@@ -1,4 +1,4 @@
-use Rattle.std.proofs.Common.{refl, sym, ap, subst, ◌∙◌, Bool, false, get_or, length}
+use Rattle.std.proofs.Common.{refl, sym, ap, ap₂, subst, ◌∙◌, [], ◌∷◌, ◌++◌, Bool, false, get_or, length}
 use Rattle.std.specs.Prelude.{map, IsTrue}
 use Rattle.grid_level.specs.VoltageLevel.{VoltageLevel}
 use Rattle.grid_level.specs.Kept.{among}
@@ -35,8 +35,8 @@ loop-place-preserved c =
     let long = c.requires ∙ ap (λ z. length z) (sym (c.switches-switch-items.ensures ∙ ap (λ (l : VoltageLevel). l.switches) c.level-level.ensures)) in
     let edge : Switch × Bool → NetEdge = λ pair. switch_net_edge (nodes c.args.indices.now) pair.0 pair.1 in
     c.in_ok-push.ensures.items
-    ∙ map_next edge (zip ss flags) i (s, f) c.loop-place.edges.items c.switch_edge.result (zip_within ss flags i c.loop-place-test.true long)
-    (zip_at ss flags i s f c.loop-place-test.true long c.switch-item.is refl) c.loop-place.invariant c.switch_edge.ensures
+    ∙ ap₂ (λ zs z. zs ++ z ∷ []) c.loop-place.invariant c.switch_edge.ensures
+    ∙ map_next edge (zip ss flags) i (s, f) (zip_within ss flags i c.loop-place-test.true long) (zip_at ss flags i s f c.loop-place-test.true long c.switch-item.is refl)
 
 pub returns : goal.returns
 unfolding switch_net_edges

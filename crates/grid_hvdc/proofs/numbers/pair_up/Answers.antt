@@ -1,4 +1,4 @@
-use Rattle.std.proofs.Common.{◌≡◌, refl, ◌+◌, [], ◌∷◌, ◌++◌, length-append, take, sym, ap, ◌∙◌, length, get_or, map, arith, rules}
+use Rattle.std.proofs.Common.{◌≡◌, ◌+◌, [], ◌∷◌, ◌++◌, length-append, take, sym, ap, ◌∙◌, length, get_or, map, arith, rules}
 use Rattle.std.specs.Prelude.{zip}
 use Rattle.std.proofs.lemmas.List.{take_all}
 use Rattle.std.proofs.lemmas.Slice.Zip.{zip_turn, zip_end, length-zip, get_or-zip}
@@ -18,7 +18,8 @@ loop-over_all-preserved c =
     ap (λ z. (z, c.in-Some.over_branches.now)) (turn.2 c.in-Some.over_all.now) ∙ ap (λ z. (get_or c.args.connected.now n c.in-Some.over_all.now, z)) (turn.3 c.in-Some.over_branches.now)
     ∙ sym (get_or-zip c.args.connected.now c.args.synchronous.now n pair turn.0 turn.1) in
     c.in_ok-push.ensures.ok
-    ∙ map_next side_by_side pairs n pair c.loop-over_all.list _ (omega (arith, turn.0, turn.1, length-zip c.args.connected.now c.args.synchronous.now)) at c.loop-over_all.invariant refl
+    ∙ ap (λ z. z ++ side_by_side pair ∷ []) c.loop-over_all.invariant
+    ∙ map_next side_by_side pairs n pair (omega (arith, turn.0, turn.1, length-zip c.args.connected.now c.args.synchronous.now)) at
     ∙ ap (λ z. map side_by_side (take z pairs)) (sym longer)
 
 pub returns : goal.returns

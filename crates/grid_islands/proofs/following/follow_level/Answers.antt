@@ -14,7 +14,7 @@ loop-at-init c =
       in_level = in_level index.ends (length index.ends) c.args.level c.last-at.result (c.requires.index.linked.lasting c.args.level c.last-at.result c.last-at.ensures);
       long = c.requires.long;
       either = λ before same. subst (AreEither (f c.args.kept.now) (f before) c.args.spots.now.branches) (sym same) (either_map (f c.args.kept.now) (f before) c.args.spots.now.branches);
-      done = record { each = λ place end spots found same le there. absurd (none_behind index.ends index.lasts c.args.level c.last-at.result place end c.requires.index.linked c.last-at.ensures found same le) };
+      done = record { each = λ place end spots found same le there. absurd (none_behind index.ends c.args.level c.last-at.result place end (c.requires.index.linked.lasting c.args.level c.last-at.result c.last-at.ensures) found same le) };
     }
 
 pub index-end-requires : goal.index-end-requires

@@ -19,7 +19,7 @@ loop-at-init c =
       in_level = in_level index.ends (length index.ends) c.args.level c.last-at.result (c.requires.linked.lasting c.args.level c.last-at.result c.last-at.ensures);
       long = refl;
       kept = λ x h. h;
-      done = λ e f. record { each = λ place end own found same le there. absurd (none_behind index.ends index.lasts c.args.level c.last-at.result place end c.requires.linked c.last-at.ensures found same le) };
+      done = λ e f. record { each = λ place end own found same le there. absurd (none_behind index.ends c.args.level c.last-at.result place end (c.requires.linked.lasting c.args.level c.last-at.result c.last-at.ensures) found same le) };
     }
 
 pub index-end-requires : goal.index-end-requires

@@ -1,4 +1,4 @@
-use Rattle.std.proofs.Common.{◌≡◌, sym, ap, ◌∙◌, map, length, arith}
+use Rattle.std.proofs.Common.{◌≡◌, sym, ap, ap₂, ◌∙◌, [], ◌∷◌, ◌++◌, map, length, arith}
 use Rattle.std.specs.List.{enumerate_from}
 use Rattle.std.proofs.lemmas.List.{take_all}
 use Rattle.std.proofs.lemmas.List.FromFn.{length-enumerate_from}
@@ -25,10 +25,11 @@ loop-place-preserved c =
     let at = sym (level_at all k level (k, level) c.level.ensures) in
     let inside = level_within all k level c.level.ensures in
     record {
-      places = c.in_ok-push.ensures.ok ∙ map_next (λ at. (node_buses_of (positioned at.1 (row_at rows at.0))).places) (enumerate_from 0 all) k (k, level) c.loop-place.places _ inside at c.loop-place.invariant.places
-          (c.in_ok-seen.ensures.places ∙ ap (λ z. (node_buses_of (positioned level z)).places) c.opened_row.ensures);
-      sums = c.in_ok-push-2.ensures.ok ∙ map_next (λ at. sums_of listed at.1 (row_at rows at.0)) (enumerate_from 0 all) k (k, level) c.loop-place.sums _ inside at c.loop-place.invariant.sums
-          (c.in_ok-seen.ensures.sums ∙ ap (sums_of listed level) c.opened_row.ensures);
+      places = c.in_ok-push.ensures.ok
+          ∙ ap₂ (λ zs z. zs ++ z ∷ []) c.loop-place.invariant.places (c.in_ok-seen.ensures.places ∙ ap (λ z. (node_buses_of (positioned level z)).places) c.opened_row.ensures)
+          ∙ map_next (λ at. (node_buses_of (positioned at.1 (row_at rows at.0))).places) (enumerate_from 0 all) k (k, level) inside at;
+      sums = c.in_ok-push-2.ensures.ok ∙ ap₂ (λ zs z. zs ++ z ∷ []) c.loop-place.invariant.sums (c.in_ok-seen.ensures.sums ∙ ap (sums_of listed level) c.opened_row.ensures)
+          ∙ map_next (λ at. sums_of listed at.1 (row_at rows at.0)) (enumerate_from 0 all) k (k, level) inside at;
     }
 
 pub returns-clause-places : goal.returns-clause-places

@@ -1,8 +1,8 @@
-use Rattle.std.proofs.Common.{arith, sym, ◌∙◌}
+use Rattle.std.proofs.Common.{◌≡◌, Some, arith, sym, ◌∙◌}
 use Rattle.grid_paths.specs.Search.{step_weight}
 use Rattle.grid_paths.proofs.CallAnswers.{OnOk_then}
 use Rattle.grid_paths.proofs.Nexts.{step_positive}
-use Rattle.grid_paths.proofs.PathSearches.{takes_none, takes_lowered}
+use Rattle.grid_paths.proofs.PathSearches.{found_here, takes_none, takes_lowered}
 use Rattle.grid_paths.proofs.Search.take.Goals as goal
 
 pub returns-then-excess-le1 : goal.returns-then-excess-le1
@@ -16,7 +16,9 @@ pub returns-in-Some : goal.returns-in-Some
 returns-in-Some g c =
     let before = c.args.self.now in
     let after = c.lower.new.self in
+    let to = c.args.next.node in
+    let weighs : step_weight (g.N.PathNet.edges c.args.net.now) c.args.next.edge ≡ Some c.in-Some.weight = sym c.step_weight.ensures ∙ c.in-Some.is in
+    let here = found_here before.found.items to c.index.result.now c.requires.node c.index.ensures in
     OnOk_then c.lower.result _ _ c.lower.ensures.front
-    (takes_lowered (step_weight (g.N.PathNet.edges c.args.net.now) c.args.next.edge) c.in-Some.weight c.args.next.node c.args.cost c.index.result.now
-    before.found.items before.front after.found.items after.front (sym c.step_weight.ensures ∙ c.in-Some.is) c.requires.node c.index.ensures
-    (omega (arith, c.if-excess-weight.true, c.saturating_sub-excess.ensures)) c.lower.ensures.found)
+    (λ p. rw (weighs, c.lower.ensures.found) (takes_lowered c.in-Some.weight to c.args.cost before.found.items before.front after.front c.requires.node
+    (omega (arith, here, c.if-excess-weight.true, c.saturating_sub-excess.ensures)) p))

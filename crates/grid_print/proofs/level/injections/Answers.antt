@@ -1,4 +1,4 @@
-use Rattle.std.proofs.Common.{◌≡◌, ℕ, List, [], ◌∷◌, refl, sym, ap, ◌∙◌, length, arith, append-nil}
+use Rattle.std.proofs.Common.{◌≡◌, ℕ, List, [], ◌∷◌, refl, sym, ap, ◌∙◌, length, map, arith, append-nil}
 use Rattle.std.proofs.lemmas.Option.{slice_get_read}
 use Rattle.serde_json.specs.View.{view}
 use Rattle.grid_kinds.specs.declared.Injection.{Injection}
@@ -29,10 +29,10 @@ loop-at-preserved c =
     record {
       values = elim c.match-at.branch [
         | in-Feeder+in_ok-injection+in_ok-push w ↦ rw w.values-is
-            (flat_mapped value_of view placed n at there _ _ (w.in_ok-injection.field-0 ∷ []) w.in_ok-push.ensures.items here.values
+            (ap (map view) w.in_ok-push.ensures.items ∙ flat_mapped value_of placed n at c.loop-at.values.items (w.in_ok-injection.field-0 ∷ []) there here.values
             (ap (λ d. d ∷ []) w.in_ok-injection.ensures.value ∙ ap (injection_of at.terminal.equipment at.node) (sym w.in-Feeder.is)))
         | in_default w ↦ rw w.values-is
-            (flat_mapped value_of view placed n at there c.loop-at.values.items _ [] (sym (append-nil c.loop-at.values.items)) here.values (skipped at.terminal.equipment at.node at.stand w.in_default.not-Feeder).0)
+            (ap (map view) (sym (append-nil c.loop-at.values.items)) ∙ flat_mapped value_of placed n at c.loop-at.values.items [] there here.values (skipped at.terminal.equipment at.node at.stand w.in_default.not-Feeder).0)
       ];
       readable = within_more (λ p. IsReadableInjection p.terminal.equipment p.node p.stand) placed 0 n at there here.readable (elim c.match-at.branch [
         | in-Feeder+in_ok-injection+in_ok-push w ↦ rw w.in-Feeder.is w.in_ok-injection.ensures.readable

@@ -15,7 +15,7 @@ loop-place-preserved c =
     let made = c.in_ok-branch.ensures in
     record {
       order = omega (arith, here.order);
-      values = mapped_more named_branch_value view _ _ _ c.in_ok-branch.field-0 b.0 c.in_ok-push.ensures.items here.values (made.value ∙ b.2)
+      values = ap (map view) c.in_ok-push.ensures.items ∙ mapped_more named_branch_value _ _ c.in_ok-branch.field-0 b.0 here.values (made.value ∙ b.2)
           ∙ ap (map named_branch_value) (sym (between_more (branches net) c.args.from c.loop-place.place b.0 here.order b.1));
       readable = within_more IsReadableBranch (branches net) c.args.from c.loop-place.place b.0 b.1 here.readable
           (subst IsId (sym b.3) made.readable.0, subst IsReadableShape (sym b.4) made.readable.1);

@@ -13,7 +13,7 @@ loop-place-preserved c =
     let here = c.loop-place.invariant in
     record {
       order = omega (arith, here.order);
-      values = mapped_more level_value view _ _ _ c.in_ok-to_json.field-0 c.level.result.now c.in_ok-push.ensures.items here.values c.in_ok-to_json.ensures.value
+      values = ap (map view) c.in_ok-push.ensures.items ∙ mapped_more level_value _ _ c.in_ok-to_json.field-0 c.level.result.now here.values c.in_ok-to_json.ensures.value
           ∙ ap (map level_value) (sym (between_more (levels net) c.args.from c.loop-place.place c.level.result.now here.order c.level.ensures));
       readable = within_more IsReadableLevel (levels net) c.args.from c.loop-place.place c.level.result.now c.level.ensures here.readable c.in_ok-to_json.ensures.readable;
     }

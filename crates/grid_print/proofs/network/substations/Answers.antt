@@ -41,7 +41,7 @@ loop-place-preserved c =
     (c.in_ok-levels.ensures.value ∙ ap₂ (λ a b. array_of level_value (between a b (levels net))) c.loop-place.invariant.level c.levels_end-level_end.ensures)
     (c.in_ok-transformers.ensures.value ∙ ap₂ (λ a b. array_of named_branch_value (between a b (branches net))) c.loop-place.invariant.transformer c.transformers_end-transformer_end.ensures) in
     record {
-      values = mapped_more substation_value view _ _ _ c.in_ok-substation.field-0 made.0 c.in_ok-push.ensures.items c.loop-place.invariant.values (c.in_ok-substation.ensures.value ∙ made.2)
+      values = ap (map view) c.in_ok-push.ensures.items ∙ mapped_more substation_value _ _ c.in_ok-substation.field-0 made.0 c.loop-place.invariant.values (c.in_ok-substation.ensures.value ∙ made.2)
           ∙ ap (map substation_value) (sym (one_more_at net.substations c.loop-place.place made.0 made.1));
       level = c.levels_end-level_end.ensures;
       transformer = c.transformers_end-transformer_end.ensures;

@@ -1,4 +1,4 @@
-use Rattle.std.proofs.Common.{◌≡◌, sym, ap, ◌∙◌, ◌<◌, length, get_or, arith, map}
+use Rattle.std.proofs.Common.{◌≡◌, sym, ap, ap₂, ◌∙◌, [], ◌∷◌, ◌++◌, ◌<◌, length, get_or, arith, map}
 use Rattle.std.specs.Prelude.{zip}
 use Rattle.std.proofs.lemmas.List.{take_all}
 use Rattle.std.proofs.lemmas.Slice.Zip.{length-zip, get_or-zip}
@@ -24,8 +24,8 @@ loop-place-preserved c =
     let F : End × Figures → Finding = λ pair. finding_from before pair.1 pair.0 in
     let at : (end, fig) ≡ get_or (zip ends figures) i (end, fig) =
     ap (λ (z : End). (z, fig)) c.index-ends-place.is ∙ ap (λ (z : Figures). (get_or ends i end, z)) (get_or_any figures i before fig second) ∙ sym (get_or-zip ends figures i (end, fig) first second) in
-    c.in_ok-push.ensures.ok ∙ map_next F (zip ends figures) i (end, fig) c.loop-place.findings c.in_ok-finding_by.field-0 inside at c.loop-place.invariant
-    (c.in_ok-finding_by.ensures ∙ ap (λ z. finding_from before z end) (get_or_any figures i _ before second))
+    c.in_ok-push.ensures.ok ∙ ap₂ (λ zs z. zs ++ z ∷ []) c.loop-place.invariant (c.in_ok-finding_by.ensures ∙ ap (λ z. finding_from before z end) (get_or_any figures i _ before second))
+    ∙ map_next F (zip ends figures) i (end, fig) inside at
 
 pub returns : goal.returns
 returns c =

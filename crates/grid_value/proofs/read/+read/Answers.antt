@@ -88,7 +88,7 @@ read_array-returns-clause-ok t c =
       head = nodes.Array n;
       body = grown.body;
       same = patched old one new grown.body (nodes.Array 0) (nodes.Array n) place here pushed grown.same;
-      whole = counted old one new grown.body (nodes.Array 0) place c.len.result here count pushed grown.same;
+      whole = counted old new grown.body (nodes.Array 0) place c.len.result here count (grown.same ∙ ap (λ ns. ns ++ grown.body) pushed);
       is = opens_array c.args.depth (Token.begin_array ∷ c.args.reader.now) c.args.reader.now (omega arith) refl ∙ ap (parse_map array) grown.is;
     }
 
@@ -106,7 +106,7 @@ read_object-returns-clause-ok t c =
       head = nodes.Object n;
       body = grown.body;
       same = patched old one new grown.body (nodes.Object 0) (nodes.Object n) place here pushed grown.same;
-      whole = counted old one new grown.body (nodes.Object 0) place c.len.result here count pushed grown.same;
+      whole = counted old new grown.body (nodes.Object 0) place c.len.result here count (grown.same ∙ ap (λ ns. ns ++ grown.body) pushed);
       is = opens_object c.args.depth (Token.begin_object ∷ c.args.reader.now) c.args.reader.now (omega arith) refl ∙ ap (parse_map object) grown.is;
     }
 

@@ -2,7 +2,7 @@ use Rattle.std.proofs.Common.{ap, ◌∙◌, rules, drop, ◌+◌, ◌∷◌, []
 use Rattle.std.proofs.lemmas.Int.{to_z-of_z}
 use mir.Syntax.{w64}
 use mir.Val.{SFits}
-use Rattle.grid_watts.proofs.RowWatts.{read_none, rises_ahead, row_ahead, read_more, read_all}
+use Rattle.grid_watts.proofs.RowWatts.{read_none, rises_ahead, row_ahead, values_more, read_all}
 use Rattle.grid_watts.proofs.rows.merged.Goals as goal
 
 pub loop-placed-init : goal.loop-placed-init
@@ -21,8 +21,10 @@ loop-placed-preserved c = λ listed is.
     let lt = c.loop-placed-test.true in
     let rise = rises_ahead c.args.level.now ps i p c.keeps.ensures.placed_rise c.placed-placed-items.ensures lt c.placed-item.is in
     let told = c.next_watts-watts.ensures listed (drop (i + 1) ps) rise (row_ahead listed ps i p values left are lt c.placed-item.is) in
-    read_more listed ps i p values c.push.new.self left c.next_watts-watts.result.1.now watts are lt c.placed-item.is told.0 told.1
-    (c.in_ok-push.ensures.ok ∙ ap (λ w. values ++ w ∷ []) (to_z-of_z w64 watts wide))
+    record {
+      values_are = c.in_ok-push.ensures.ok ∙ ap (λ w. values ++ w ∷ []) (to_z-of_z w64 watts wide ∙ told.0) ∙ values_more listed ps i p values left are lt c.placed-item.is;
+      left_is = told.1;
+    }
 
 pub returns : goal.returns
 returns c = λ listed is.
